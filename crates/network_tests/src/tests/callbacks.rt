@@ -1,9 +1,9 @@
 //! A host that is called back at the address that the options name, where a lock that it waited for is its own, and
 //! what becomes of its answer (RFC 1813, appendix II: GRANTED).
 
-use crate::tests::clients::{ANY, Visit, connect, is_next, next, send, spelled};
+use crate::tests::clients::{ANY, Visit, add_words, connect, is_next, next, send, spelled};
 use crate::tests::is_served;
-use std::alloc::Global;
+use std::alloc::{AllocError, Global};
 use std::io;
 use std::io::{Read, Write};
 use std::net::{Net, SocketAddr, TcpListener, TcpStream};
@@ -103,15 +103,34 @@ const GRANTED: u32 = 0;
 
 const DENIED: u32 = 1;
 
+/// Where the cookie stands in the call, and how many bytes it and the whole call have.
+const COOKIE_AT: usize = 48;
+
 const COOKIE_SIZE: usize = 8;
 
+const CALL_SIZE: usize = 132;
+
 /// Words, bytes, and words.
-fn around(alloc: Global, front: &[u32], bytes: &[u8], back: &[u32]) -> io::Result<Vec<u8>> {
+fn around(alloc: Global, front: &[u32], bytes: &[u8], back: &[u32]) -> Result<Vec<u8>, AllocError> {
     let mut all = spelled(alloc, front)?;
-    let back = spelled(alloc, back)?;
     all.extend_from_slice(bytes)?;
-    all.extend_from_slice(&back)?;
+    add_words(&mut all, back)?;
     Ok(all)
+}
+
+/// Sends words, bytes, and words.
+fn send_around(
+    alloc: Global,
+    stream: &TcpStream,
+    front: &[u32],
+    bytes: &[u8],
+    back: &[u32],
+) -> io::Result<()> {
+    let mut stream = stream;
+    let all = around(alloc, front, bytes, back)?;
+    let sent = stream.write_all(&all);
+    drop(all);
+    sent
 }
 
 /// Whether a call of this file has its answer.
@@ -121,9 +140,7 @@ fn is_answered(
     file: &[u8],
     exchange: LockExchange,
 ) -> io::Result<bool> {
-    let mut sending = stream;
-    let call = around(alloc, exchange.0, file, exchange.1)?;
-    sending.write_all(&call)?;
+    send_around(alloc, stream, exchange.0, file, exchange.1)?;
     is_next(alloc, stream, exchange.2)
 }
 
@@ -152,18 +169,27 @@ fn is_given_on(
 /// Whether the server calls back, that it granted what c2 asked for of this file. It is answered with this status.
 fn is_called(alloc: Global, listener: &TcpListener, file: &[u8], status: u32) -> io::Result<bool> {
     let (stream, _) = listener.accept()?;
-    let mut stream = &stream;
-    let front = spelled(alloc, &CALL)?;
-    let back = around(alloc, &CALL_LOCK, file, WAIT.1.get(..7).unwrap_or(&[]))?;
-    let mut told = Vec::from_elem(alloc, 0u8, front.len() + COOKIE_SIZE + back.len())?;
-    stream.read_exact(told.as_mut_slice())?;
-    let cookie = told
-        .get(front.len()..front.len() + COOKIE_SIZE)
-        .unwrap_or(&[]);
-    let answer = around(alloc, &ANSWER, cookie, &[status])?;
-    stream.write_all(&answer)?;
-    let is_front = told.get(..front.len()) == Some(front.as_slice());
-    Ok(is_front && told.get(front.len() + COOKIE_SIZE..) == Some(back.as_slice()))
+    let is_heard = is_heard(alloc, &stream, file, status);
+    drop(stream);
+    is_heard
+}
+
+/// Whether that is what comes over this connection. It is answered with this status.
+fn is_heard(alloc: Global, stream: &TcpStream, file: &[u8], status: u32) -> io::Result<bool> {
+    let mut told = [0u8; CALL_SIZE];
+    let mut reading = stream;
+    reading.read_exact(&mut told)?;
+    let cookie = told.get(COOKIE_AT..COOKIE_AT + COOKIE_SIZE).unwrap_or(&[]);
+    send_around(alloc, stream, &ANSWER, cookie, &[status])?;
+    Ok(is_call(alloc, &told, cookie, file)?)
+}
+
+/// Whether this is the call that grants what c2 asked for, with this cookie.
+fn is_call(alloc: Global, told: &[u8], cookie: &[u8], file: &[u8]) -> Result<bool, AllocError> {
+    let mut call = around(alloc, &CALL, cookie, &CALL_LOCK)?;
+    call.extend_from_slice(file)?;
+    add_words(&mut call, WAIT.1.get(..7).unwrap_or(&[]))?;
+    Ok(told == call.as_slice())
 }
 
 /// Whether the next call of the server's own comes. What was answered to the one before is taken in then.
@@ -173,11 +199,10 @@ fn is_called_again(
     listener: &TcpListener,
     file: &[u8],
 ) -> io::Result<bool> {
-    if !is_answered(alloc, stream, file, TEST_MSG)? {
-        return Ok(false);
-    }
-    listener.accept()?;
-    Ok(true)
+    let is_void = is_answered(alloc, stream, file, TEST_MSG)?;
+    let (called, _) = listener.accept()?;
+    drop(called);
+    Ok(is_void)
 }
 
 /// Whether c2 has the lock, and gives it back, where it answered that it was granted; else whether nobody has it.
@@ -188,9 +213,43 @@ fn is_right(
     file: &[u8],
     status: u32,
 ) -> io::Result<bool> {
-    let is_held = status != GRANTED
-        || is_answered(alloc, first, file, HELD)? && is_answered(alloc, second, file, UNLOCK_NEXT)?;
-    Ok(is_held && is_answered(alloc, first, file, FREE)?)
+    if status == GRANTED
+        && !(is_answered(alloc, first, file, HELD)?
+            && is_answered(alloc, second, file, UNLOCK_NEXT)?)
+    {
+        return Ok(false);
+    }
+    is_answered(alloc, first, file, FREE)
+}
+
+/// Whether all goes so with a new file over these connections.
+fn is_told(
+    alloc: Global,
+    first: &TcpStream,
+    second: &TcpStream,
+    listener: &TcpListener,
+    status: u32,
+) -> io::Result<bool> {
+    let file = create(alloc, first)?;
+    let is_told = is_told_of(alloc, first, second, listener, &file, status);
+    drop(file);
+    is_told
+}
+
+fn is_told_of(
+    alloc: Global,
+    first: &TcpStream,
+    second: &TcpStream,
+    listener: &TcpListener,
+    file: &[u8],
+    status: u32,
+) -> io::Result<bool> {
+    Ok(
+        is_given_on(alloc, first, second, file)?
+            && is_called(alloc, listener, file, status)?
+            && is_called_again(alloc, first, listener, file)?
+            && is_right(alloc, first, second, file, status)?,
+    )
 }
 
 /// Whether a client that waits for a lock is called back where it is its own, and has it then, or has not, as it
@@ -201,20 +260,16 @@ pub fn is_called_back<R: AllocGlobal + Net<Listener = TcpListener, Stream = TcpS
     listener: &TcpListener,
     status: u32,
 ) -> io::Result<bool> {
-    let alloc = rt.alloc();
     let first = connect(rt, tcp)?;
     let second = connect(rt, tcp)?;
-    let file = create(alloc, &first)?;
-    Ok(
-        is_given_on(alloc, &first, &second, &file)?
-            && is_called(alloc, listener, &file, status)?
-            && is_called_again(alloc, &first, listener, &file)?
-            && is_right(alloc, &first, &second, &file, status)?,
-    )
+    let is_told = is_told(rt.alloc(), &first, &second, listener, status);
+    drop(second);
+    drop(first);
+    is_told
 }
 
 /// Whether a client is called back so by a server that is told where.
-fn is_told<
+fn calls_back<
     R: AllocGlobal
         + Net<Listener = TcpListener, Stream = TcpStream>
         + Threads
@@ -242,12 +297,12 @@ fn is_told<
 
 #[test]
 fn a_lock_that_is_granted_is_held(rt: HostRuntime) -> Result<(), Fail> {
-    assert!(rt; is_told(rt, GRANTED)?);
+    assert!(rt; calls_back(rt, GRANTED)?);
     Ok(())
 }
 
 #[test]
 fn a_grant_that_is_denied_is_given_back(rt: HostRuntime) -> Result<(), Fail> {
-    assert!(rt; is_told(rt, DENIED)?);
+    assert!(rt; calls_back(rt, DENIED)?);
     Ok(())
 }

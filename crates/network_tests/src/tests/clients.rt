@@ -69,10 +69,16 @@ impl Visit {
 /// Words as bytes.
 pub fn spelled(alloc: Global, words: &[u32]) -> Result<Vec<u8>, AllocError> {
     let mut bytes = Vec::new(alloc);
+    add_words(&mut bytes, words)?;
+    Ok(bytes)
+}
+
+/// Words at the end of bytes.
+pub fn add_words(bytes: &mut Vec<u8>, words: &[u32]) -> Result<(), AllocError> {
     for word in words {
         bytes.extend_from_slice(&word.to_be_bytes())?;
     }
-    Ok(bytes)
+    Ok(())
 }
 
 /// A connection, which waits for no answer for ever.
