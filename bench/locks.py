@@ -2,10 +2,12 @@
 """Tries locks over TCP: two clients lock, contend for, wait for and free the ranges of a file, and are called back.
 
 It starts nfsd on a port of the system's choice, with a host of its own that is called back, which answers the first
-grant with GRANTED, so that the lock is held, and the second with DENIED, so that the lock is given back.
+grant with GRANTED, so that the lock is held, and the second with DENIED, so that the lock is given back. Then a host
+is called back behind one whose port is closed, and behind one that never answers, while calls go on.
 
 usage: bench/locks.py [PROGRAM]
 """
+import socket
 import struct
 import time
 
@@ -49,17 +51,45 @@ def waits(one, other, handle, host, number, answered):
     other.ask(locking.freeing(10 * number + 3, 2))
 
 
+def goes_on(program, silent, what):
+    """A host is called back behind one that can't be, for which its lock is held all the same. Calls go on."""
+    host = locking.Host(IS_GRANTED)
+    callbacks = ["--callback", f"127.0.0.1=127.0.0.1:{host.port}", "--callback", f"127.0.0.2=127.0.0.1:{silent}"]
+    with network.Server(program, *callbacks) as server:
+        one, other = network.Connection(server.port), network.Connection(server.port, "127.0.0.2")
+        handle = one.make(b"file")
+        assert status(one.ask(locking.locking(1, handle, 1, 0, 100))) == IS_GRANTED
+        assert status(other.ask(locking.locking(2, handle, 2, 0, 50, block=True))) == IS_BLOCKED
+        assert status(one.ask(locking.locking(3, handle, 3, 50, 50, block=True))) == IS_BLOCKED
+        begin = time.monotonic()
+        assert status(one.ask(locking.unlocking(4, handle, 1, 0, 100))) == IS_GRANTED
+        slowest = 0
+        while not host.calls:
+            asked = time.monotonic()
+            assert status(one.ask(locking.testing(5, handle, 1, 0, 50))) == IS_DENIED, "it is held"
+            slowest = max(slowest, time.monotonic() - asked)
+            assert asked - begin < 30, "the host is called back"
+        assert status(other.ask(locking.locking(6, handle, 2, 0, 50, block=True))) == IS_GRANTED, "it learns so"
+        passed = time.monotonic() - begin
+        print(f"behind a host {what}: called back after {passed:.1f} s; no call took longer than {slowest:.3f} s")
+
+
 def main():
     words = nfsd.parser(__doc__)
     words.add_argument("program", metavar="PROGRAM", nargs="?", default=nfsd.PROGRAM, help="the program (this one)")
+    program = words.parse_args().program
     host = locking.Host(IS_GRANTED, IS_DENIED)
     callback = f"127.0.0.1=127.0.0.1:{host.port}"
-    with network.Server(words.parse_args().program, "--callback", callback) as server:
+    with network.Server(program, "--callback", callback) as server:
         one, other = network.Connection(server.port), network.Connection(server.port)
         handle = one.make(b"file")
         contends(one, other, handle)
         waits(one, other, handle, host, 1, IS_GRANTED)
         waits(one, other, handle, host, 2, IS_DENIED)
+    with socket.create_server(("127.0.0.1", 0)) as listener:
+        silent = listener.getsockname()[1]
+        goes_on(program, silent, "that never answers")
+    goes_on(program, silent, "whose port is closed")
 
 
 if __name__ == "__main__":
