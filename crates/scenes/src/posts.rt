@@ -10,19 +10,27 @@ use std::alloc::Global;
 /// AUTH_NONE, the credential of the server's own calls (RFC 5531, 8.1).
 const NO_CREDENTIAL: [u8; 8] = [0; 8];
 
+/// The most bytes of a host.
+const HOST_LIMIT: usize = 255;
+
 /// What a message is compared by: its number, its host as a string, and its call.
 pub fn given_post(alloc: Global, posted: &Posted) -> Result<Vec<u8>, Fault> {
     match spelled(alloc, posted) {
         Ok(bytes) => Ok(bytes),
+        Err(XdrError::TooLong) => Err(Fault::Line("a host is longer than it may be")),
         Err(_) => Err(Fault::Memory),
     }
 }
 
 fn spelled(alloc: Global, posted: &Posted) -> Result<Vec<u8>, XdrError> {
+    let host = posted.message.host.as_slice();
+    if host.len() > HOST_LIMIT {
+        return Err(XdrError::TooLong);
+    }
     let number = (posted.number & 0xffff_ffff) as u32;
     let mut writer = Writer::new(alloc);
     writer.u32(number)?;
-    writer.opaque(posted.message.host.as_slice())?;
+    writer.opaque(host)?;
     write_message(&mut writer, number, &posted.message)?;
     Ok(writer.into_vec())
 }
