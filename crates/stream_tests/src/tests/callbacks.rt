@@ -62,7 +62,7 @@ fn tells(alloc: Global, exit: &Exit) -> Result<bool, Fail> {
 }
 
 /// Whether a second callback is refused.
-fn is_refused(alloc: Global, callback: &str) -> Result<bool, Fail> {
+fn is_refused(alloc: Global, callback: &'static str) -> Result<bool, Fail> {
     let mut words = SERVE.to_vec(alloc)?;
     words.extend_from_slice(&["--callback", callback])?;
     match configure(alloc, &words) {
