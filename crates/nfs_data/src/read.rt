@@ -8,7 +8,6 @@ ghost use Rattle.nfs_machine.specs.declared.calls.Call.TheVariants as calls;
 ghost use Rattle.nfs_objects.specs.Attempt.{EndsCall, EndsFirst};
 ghost use Rattle.nfs_objects.specs.Begins.{Begins};
 ghost use Rattle.nfs_objects.specs.Knows.{Knows};
-ghost use Rattle.nfs_objects.specs.declared.address.Addr.TheVariants as addresses;
 ghost use Rattle.nfs_inodes.specs.Blocks.{read_from};
 ghost use Rattle.nfs_inodes.specs.Known.{IsKnown, object_at, shell};
 ghost use Rattle.nfs_inodes.specs.Stops.{StopsAt};

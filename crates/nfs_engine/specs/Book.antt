@@ -1,5 +1,6 @@
 -- The book: the present store, what led to it, and which calls are in progress.
-use Rattle.std.specs.Prelude.{◌≡◌, ◌≢◌, ◌⊎◌, ◌+◌, ◌-◌, ◌^◌, ℕ, min, List, [], ◌∷◌, ◌++◌, length}
+use Rattle.std.specs.Prelude.{◌≡◌, ◌≢◌, ◌⊎◌, ◌+◌, ◌-◌, ◌^◌, ℕ, min, List, [], ◌∷◌}
+use Rattle.std.specs.Prelude.{◌++◌, length}
 use Rattle.std.specs.Prelude.{map, Option, Some}
 use Rattle.std.specs.Prelude.{None, Result, Ok, Err, Bool, true, ◌||◌, nat_le, IfSome, IsSome}
 use Rattle.side_wire.specs.declared.message.Message.{Message}
@@ -203,7 +204,8 @@ IsAdmitted old new a (admission.Early early) = (a.reading ≡ readings.Faulted e
 -- that is kept comes to the front; no memory only for a reply that is kept
 abbrev pub Recalls : {E : Type 0} → BookValue → BookValue → Origin → Result Recalled E → Type 0
 Recalls old new origin (Ok (recalled.Kept reply)) = (kept_for old.replies origin ≡ Some reply) ×
-    IsAfter (Repeated origin.host origin.bytes) old.replies new.replies × (new ≡ record old { replies = new.replies })
+    IsAfter (Repeated origin.host origin.bytes) old.replies new.replies ×
+    (new ≡ record old { replies = new.replies })
 Recalls old new origin (Ok recalled.Running) = (kept_for old.replies origin ≡ None) ×
     IsInProgress old.living origin × (new ≡ old)
 Recalls old new origin (Ok recalled.Unknown) = IsUnknown old origin × (new ≡ old)

@@ -2,7 +2,7 @@
 
 ghost use Rattle.std.specs.Prelude.{◌≡◌, IfOk, OnErr};
 ghost use Rattle.nfs_engine.specs.Arrivals.{IsArrival, IsDropped, received_value};
-ghost use Rattle.nfs_engine.specs.Asked.{ArgumentsHoldBytes, IsAsked};
+ghost use Rattle.nfs_engine.specs.Asked.{IsAsked};
 ghost use Rattle.nfs_engine.specs.Repeats.{origin_in};
 
 use crate::answers;

@@ -1,7 +1,7 @@
 //! The book: the present store with the records that led to it, and which calls are in progress.
 
 ghost use Rattle.std.specs.Prelude.{◌≡◌, ◌+◌, ◌-◌, ◌^◌, ◌<◌, ◌≤◌, ℕ, true, length, map};
-ghost use Rattle.std.specs.Prelude.{IfErr, IfOk, IfSome, MatchOption, OnOk, Some};
+ghost use Rattle.std.specs.Prelude.{IfErr, IfOk, MatchOption, OnOk, Some};
 ghost use Rattle.std.specs.Bool.{Decides};
 ghost use Rattle.nfs_engine.specs.Arrivals.{received_value, shared_value};
 ghost use Rattle.nfs_engine.specs.Asked.{IsAsked};

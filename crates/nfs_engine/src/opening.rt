@@ -1,6 +1,6 @@
 //! What an engine is started with, and what it opens with.
 
-ghost use Rattle.std.specs.Prelude.{◌≡◌, ◌≤◌, ◌++◌, length, map, IfErr, IfOk, OnOk};
+ghost use Rattle.std.specs.Prelude.{◌≡◌, ◌++◌, map, IfOk, OnOk};
 ghost use Rattle.std.specs.Bool.{Decides};
 ghost use Rattle.nfs_machine.specs.ExportFaults.{AreFaultless};
 ghost use Rattle.nfs_objects.specs.Values.{write_value};

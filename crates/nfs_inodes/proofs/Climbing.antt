@@ -23,7 +23,8 @@ use Rattle.nfs_objects.proofs.Seen.{is_addr-same, unknown-unseen}
 use Rattle.nfs_objects.specs.Asks.{IsThere}
 use Rattle.nfs_objects.specs.Knows.{Knows, Possible}
 use Rattle.nfs_objects.specs.Modes.{held_mode}
-use Rattle.nfs_objects.specs.Stands.{Kept, Represents, beside_at, content_of, filled, living_of_inode, parent_in}
+use Rattle.nfs_objects.specs.Stands.{Kept, Represents, beside_at, content_of, filled, header_in}
+use Rattle.nfs_objects.specs.Stands.{living_of_inode, parent_in}
 use Rattle.nfs_objects.specs.Store.{Store, with_writes}
 use Rattle.nfs_objects.specs.Values.{DraftValue, Seen, is_addr, known_at, seen_at, shown_at, written_at}
 use Rattle.nfs_objects.specs.declared.address.Addr.{Addr}
@@ -32,8 +33,10 @@ use Rattle.nfs_objects.specs.declared.directory.Directory.{Directory as Header}
 use Rattle.nfs_objects.specs.declared.modes.Mode.{Mode}
 use Rattle.nfs_objects.specs.declared.object.Content.TheVariants as contents
 use Rattle.nfs_objects.specs.declared.object.Inode.{Inode}
+use Rattle.nfs_objects.specs.declared.object.Object.{Object}
+use Rattle.nfs_inodes.proofs.Putting.{inode-known}
 use Rattle.nfs_inodes.proofs.Standing.{directory-kind, kind-is, known-lives, lives-there, parent-there}
-use Rattle.nfs_inodes.specs.Gathers.{MayWish}
+use Rattle.nfs_inodes.specs.Gathers.{MayWish, wish, wish_above}
 use Rattle.nfs_inodes.specs.Known.{HasInode, IsKnown, content_at}
 use Rattle.nfs_inodes.specs.declared.kinds.Directory.{Directory}
 
@@ -152,6 +155,40 @@ parent-wished d n i h none has is (Some w) lacked = subst (MayWish d) (sym lacke
   mode = refl;
   lives = parent-stands d n i h none has is;
 })
+
+-- ---- what is asked for is the next one
+-- for what stands at this number, where so much is known of it
+abbrev wish-of : DraftValue → ℕ → Option (Option Object) → Option (Addr × Mode)
+wish-of d parent known = elim known [ None ↦ Some (wish d parent) | Some object ↦ None ]
+
+-- what a directory with this header leads up to
+abbrev above-of : DraftValue → Option Header → Option (Addr × Mode)
+above-of d header = elim header [
+  | None ↦ None
+  | Some header ↦ wish-of d header.parent (known_at d (addresses.Inode header.parent))
+]
+
+pub parent-above : (d : DraftValue) (n : ℕ) (i : Inode) (h : Header) → HasInode d n (Some i) →
+    i.content ≡ contents.Directory h → (wished : Option (Addr × Mode)) →
+    MatchOption wished (IsSome (known_at d (addresses.Inode h.parent)))
+    (λ w. (known_at d (addresses.Inode h.parent) ≡ None) ×
+    (w ≡ (addresses.Inode h.parent, held_mode d.modes d.view (addresses.Inode h.parent)))) →
+    wished ≡ wish_above d n
+parent-above d n i h has is wished lacked =
+    by wished lacked ∙ ap (above-of d) (sym (ap header_in is))
+    ∙ ap (λ (o : Option Inode). above-of d (elim o [ None ↦ None | Some i ↦ header_in i.content ]))
+    (sym (inode-known d n (Some i) has))
+  where
+    known : (o : Option (Option Object)) → IsSome o → None ≡ wish-of d h.parent o
+    known (Some object) some = refl
+    known None some = cc
+
+    by : (w : Option (Addr × Mode)) → MatchOption w (IsSome (known_at d (addresses.Inode h.parent)))
+        (λ w. (known_at d (addresses.Inode h.parent) ≡ None) ×
+        (w ≡ (addresses.Inode h.parent, held_mode d.modes d.view (addresses.Inode h.parent)))) →
+        w ≡ above-of d (Some h)
+    by None some = known (known_at d (addresses.Inode h.parent)) some
+    by (Some w) lacks = ap Some lacks.1 ∙ ap (wish-of d h.parent) (sym lacks.0)
 
 -- ---- how many of the addresses that were read stand so high
 abbrev is_high : (ℕ → ℕ) → ℕ → Addr → Bool

@@ -12,7 +12,7 @@ use Rattle.std.specs.List.{count_by}
 use Rattle.std.specs.Ordering.{nat_cmp}
 use Rattle.nfs_wire.specs.declared.attributes.Time.{Time}
 use Rattle.nfs_machine.proofs.Changes.{apart, count-without, differs-insert, differs-other, differs-remove}
-use Rattle.nfs_machine.proofs.Changes.{differs-there, find-other, flipped, none-passes, once-filter, part-of_sum}
+use Rattle.nfs_machine.proofs.Changes.{differs-there, find-other, flipped, once-filter, part-of_sum}
 use Rattle.nfs_machine.proofs.Changes.{sum-differs, weight, without-absent}
 use Rattle.nfs_machine.proofs.Changes as changes
 use Rattle.nfs_machine.proofs.Counted.{names-losing}

@@ -1,6 +1,8 @@
 -- What a draft shows of the blocks of a file, and what is written to them (RFC 1813, 3.3.6 and 3.3.7).
-use Rattle.std.specs.Prelude.{◌≡◌, ◌≢◌, ◌⊎◌, ℕ, ◌+◌, ◌-◌, ◌*◌, ◌/◌, ◌<◌, ◌≤◌, ◌==◌, ◌||◌, ◌&&◌, true, false}
-use Rattle.std.specs.Prelude.{nat_le, nat_lt, List, ◌++◌, Option, Some, None, IsSome, option_map, length, take, drop}
+use Rattle.std.specs.Prelude.{◌≡◌, ◌≢◌, ◌⊎◌, ℕ, ◌+◌, ◌-◌, ◌*◌, ◌/◌, ◌<◌}
+use Rattle.std.specs.Prelude.{◌≤◌, ◌==◌, ◌||◌, ◌&&◌, true, false}
+use Rattle.std.specs.Prelude.{nat_le, nat_lt, List, ◌++◌, Option, Some, None, IsSome, option_map, length, take}
+use Rattle.std.specs.Prelude.{drop}
 use Rattle.std.specs.Prelude.{min}
 use Rattle.nfs_machine.specs.Data.{written}
 use Rattle.nfs_objects.specs.Bits.{has}
@@ -82,7 +84,8 @@ IsInRange file offset count a = IsBlockIn file (first_of offset) (end_of offset 
 
 -- a draft knows that a block is there
 abbrev pub HasBlock : DraftValue → (file index : ℕ) → Type 0
-HasBlock d file index = (bytes : List ℕ) × (known_at d (addresses.Block file index) ≡ Some (Some (objects.Block bytes)))
+HasBlock d file index =
+    (bytes : List ℕ) × (known_at d (addresses.Block file index) ≡ Some (Some (objects.Block bytes)))
 
 -- ---- what is written
 -- the place in a block at which bytes at an offset begin, and those of them that fall into it
@@ -145,7 +148,8 @@ pub record WritesRange (old new : DraftValue) (file offset : ℕ) (bytes : List 
   pub inodes : (n : ℕ) → known_at new (addresses.Inode n) ≡ known_at old (addresses.Inode n)
   pub others : (s : Store) (i : ℕ) → (i < first_of offset) ⊎ (end_of offset (length bytes) ≤ i) →
       (with_writes s new.writes).at (addresses.Block file i) ≡ (with_writes s old.writes).at (addresses.Block file i)
-  pub blocks : (s : Store) (i : ℕ) → Fits old.view s → first_of offset ≤ i → i < end_of offset (length bytes) →
+  pub blocks : (s : Store) (i : ℕ) → Fits old.view s →
+      first_of offset ≤ i → i < end_of offset (length bytes) →
       (with_writes s new.writes).at (addresses.Block file i) ≡ Some (objects.Block (written
       (stored_in ((with_writes s old.writes).at (addresses.Block file i)))
       (place_in offset i) (part_in offset bytes i)))

@@ -1,5 +1,6 @@
 -- Files that are cut off: what is shown of their map pages, and what goes (RFC 1813, 3.3.2).
-use Rattle.std.specs.Prelude.{◌≡◌, ℕ, ◌+◌, ◌-◌, ◌*◌, ◌/◌, ◌%◌, ◌<◌, ◌≤◌, ◌==◌, ◌&&◌, ◌||◌, Bool, true, false}
+use Rattle.std.specs.Prelude.{◌≡◌, ℕ, ◌+◌, ◌-◌, ◌*◌, ◌/◌, ◌%◌, ◌<◌, ◌≤◌, ◌==◌}
+use Rattle.std.specs.Prelude.{◌&&◌, ◌||◌, Bool, true, false}
 use Rattle.std.specs.Prelude.{not, nat_lt, List, [], Option, Some, None, IsSome, length, take, slice_index_or}
 use Rattle.std.specs.Prelude.{if◌then◌else◌}
 use Rattle.nfs_machine.specs.Data.{resized}
@@ -85,7 +86,8 @@ pub record CutsBlock (old new : DraftValue) (file index left : ℕ) : Type 0 whe
 pub record CutsBlocks (old new : DraftValue) (file page : ℕ) (bits : Bits) (size places : ℕ) : Type 0 where
   pub lays : Lays file old new
   pub leaves : Leaves old new (λ a. IsTold file page bits (size / block_size) places a → ⊥)
-  pub cut : (s : Store) (place : ℕ) (bytes : List ℕ) → Fits old.view s → place < places → has bits place ≡ true →
+  pub cut : (s : Store) (place : ℕ) (bytes : List ℕ) → Fits old.view s →
+      place < places → has bits place ≡ true →
       size / block_size ≤ page * 512 + place →
       (with_writes s old.writes).at (addresses.Block file (page * 512 + place)) ≡ Some (objects.Block bytes) →
       (with_writes s new.writes).at (addresses.Block file (page * 512 + place)) ≡
@@ -96,7 +98,8 @@ pub record CutsPage (old new : DraftValue) (file page : ℕ) (bits : Bits) (size
   pub lays : Lays file old new
   pub leaves : Leaves old new (λ a. (IsTold file page bits (size / block_size) 512 a → ⊥) ×
       (is_addr (addresses.Map file page) a ≡ false))
-  pub cut : (s : Store) (place : ℕ) (bytes : List ℕ) → Fits old.view s → place < 512 → has bits place ≡ true →
+  pub cut : (s : Store) (place : ℕ) (bytes : List ℕ) → Fits old.view s →
+      place < 512 → has bits place ≡ true →
       size / block_size ≤ page * 512 + place →
       (with_writes s old.writes).at (addresses.Block file (page * 512 + place)) ≡ Some (objects.Block bytes) →
       (with_writes s new.writes).at (addresses.Block file (page * 512 + place)) ≡
@@ -153,7 +156,8 @@ pub record IsCutAt (old new : DraftValue) (file size : ℕ) (left : Bits) : Type
 pub record IsResized (old new : DraftValue) (file before size : ℕ) (left : Bits) : Type 0 where
   pub lays : Lays file old new
   pub inodes : (n : ℕ) → known_at new (addresses.Inode n) ≡ known_at old (addresses.Inode n)
-  pub content : (s : Store) (k : Kept) (bytes : List ℕ) → Fits old.view s → Represents (with_writes s old.writes) k →
+  pub content : (s : Store) (k : Kept) (bytes : List ℕ) → Fits old.view s →
+      Represents (with_writes s old.writes) k →
       IsContent before (λ b. stored_in ((with_writes s old.writes).at (addresses.Block file b))) bytes →
       IsContent size (λ b. stored_in ((with_writes s new.writes).at (addresses.Block file b))) (resized bytes size)
   pub maps : (s : Store) (k : Kept) → Fits old.view s → Represents (with_writes s old.writes) k →

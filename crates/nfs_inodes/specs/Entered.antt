@@ -1,6 +1,7 @@
 -- Entries of directories in their pages and parts: what a draft shows of them, and what makers do to them (RFC 1813,
 -- 3.3.8 to 3.3.16).
-use Rattle.std.specs.Prelude.{◌≡◌, ◌⊎◌, ℕ, suc, ◌==◌, ◌/◌, ◌<◌, length, Bool, true, false, List, [], ◌∷◌, ◌++◌}
+use Rattle.std.specs.Prelude.{◌≡◌, ◌⊎◌, ℕ, suc, ◌==◌, ◌/◌, ◌<◌, length, Bool, true, false}
+use Rattle.std.specs.Prelude.{List, [], ◌∷◌, ◌++◌}
 use Rattle.std.specs.Prelude.{Option, Some, None, IsSome, filter, if◌then◌else◌, is_some, nat_lt, not, option_map}
 use Rattle.nfs_machine.specs.Checks.{entry_of}
 use Rattle.nfs_machine.specs.RemoveSteps.{without}

@@ -1,5 +1,5 @@
 -- Objects that are read at once.
-use Rattle.std.specs.Prelude.{◌≡◌, ℕ, List, map, None, IsSome, ◌⊎◌}
+use Rattle.std.specs.Prelude.{◌≡◌, ℕ, List, Option, Some, map, None, IsSome, ◌⊎◌}
 use Rattle.std.specs.List.{AllByRecursion}
 use Rattle.nfs_machine.specs.State.{Entry}
 use Rattle.nfs_objects.specs.Asks.{EachOnce, IsThere}
@@ -11,6 +11,7 @@ use Rattle.nfs_objects.specs.declared.address.Addr.TheVariants as addresses
 use Rattle.nfs_objects.specs.declared.change.Halt.{Halt}
 use Rattle.nfs_objects.specs.declared.change.Halt.TheVariants.{Need, Memory}
 use Rattle.nfs_objects.specs.declared.modes.Mode.{Mode}
+use Rattle.nfs_inodes.specs.Entered.{header_at}
 use Rattle.nfs_inodes.specs.declared.gather.Wishes.{Wishes}
 
 -- something stands at the number of each entry in every sound store that the view fits
@@ -35,6 +36,17 @@ AsksAll d entries halt = ⊥
 -- the wish for what stands at a number
 abbrev pub wish : DraftValue → ℕ → Addr × Mode
 wish d n = (addresses.Inode n, held_mode d.modes d.view (addresses.Inode n))
+
+-- the wish of a walk up from the directory at a number: for its parent, where the draft shows the directory and does
+-- not know that
+abbrev pub wish_above : DraftValue → (number : ℕ) → Option (Addr × Mode)
+wish_above d number = elim (header_at d number) [
+  | None ↦ None
+  | Some header ↦ elim (known_at d (addresses.Inode header.parent)) [
+    | None ↦ Some (wish d header.parent)
+    | Some object ↦ None
+  ]
+]
 
 -- it may be asked for, whatever the call names
 pub record MayWish (d : DraftValue) (a : Addr × Mode) : Type 0 where

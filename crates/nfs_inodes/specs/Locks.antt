@@ -1,6 +1,7 @@
 -- What files have of locks, shares, requests and grants, as a draft knows it, and what makers do to it (RFC 1813,
 -- appendix II).
-use Rattle.std.specs.Prelude.{◌≡◌, ◌<◌, ◌%◌, ◌||◌, ◌==◌, ◌↔◌, ℕ, true, false, Contains, List, Option, Some, None, is_ok}
+use Rattle.std.specs.Prelude.{◌≡◌, ◌<◌, ◌%◌, ◌||◌, ◌==◌, ◌↔◌, ℕ, true, false, Contains}
+use Rattle.std.specs.Prelude.{List, Option, Some, None, is_ok}
 use Rattle.std.specs.Borrow.{Bor}
 use Rattle.std.specs.FinMap.{get, remove}
 use Rattle.nfs_machine.specs.Checks.{bytes_in}

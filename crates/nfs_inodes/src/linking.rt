@@ -14,7 +14,7 @@ use crate::content::naming::add_entry;
 use crate::found::inode;
 use crate::kinds::Directory;
 use crate::times::{now, touch};
-use nfs_objects::{Addr, Draft, Halt};
+use nfs_objects::{Draft, Halt};
 
 /// Gives an object a name in a directory that has it not, last and with this cookie; so many links it has then. The
 /// name is copied.

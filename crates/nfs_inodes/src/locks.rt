@@ -1,7 +1,8 @@
 //! What files have of locks, shares, requests and grants: read, put, and gone with a file's last name (RFC 1813,
 //! appendix II).
 
-ghost use Rattle.std.specs.Prelude.{◌≡◌, ◌∷◌, ◌++◌, MatchOption, MatchResult, None, OnErr, OnOk, is_some};
+ghost use Rattle.std.specs.Prelude.{◌≡◌, ◌∷◌, ◌++◌, MatchOption, MatchResult, None, OnErr, OnOk};
+ghost use Rattle.std.specs.Prelude.{is_some};
 ghost use Rattle.std.specs.Prelude.{option_copied};
 ghost use Rattle.nfs_machine.specs.Exports.{export_at};
 ghost use Rattle.nfs_objects.specs.Calls.{IsAmong, addresses_of, locks_at};

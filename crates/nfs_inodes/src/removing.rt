@@ -17,7 +17,7 @@ use crate::kinds::Directory;
 use crate::locks::ask_locks;
 use crate::makers::lose_link;
 use crate::usage::ask_uncounted;
-use nfs_objects::{Addr, Draft, Halt};
+use nfs_objects::{Draft, Halt};
 use nfs_wire::FileType;
 
 /// Takes a name out of a directory, and with it a link of the object that it leads to: a directory goes with it, and

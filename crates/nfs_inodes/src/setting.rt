@@ -9,7 +9,7 @@ ghost use Rattle.nfs_inodes.specs.Sets.{attributes_changed};
 ghost use Rattle.nfs_inodes.specs.Stops.{KnowsAt, StopsAt};
 
 use crate::found::inode;
-use nfs_objects::{Addr, Draft, Halt, Inode};
+use nfs_objects::{Draft, Halt, Inode};
 use nfs_wire::Time;
 use std::alloc::AllocError;
 

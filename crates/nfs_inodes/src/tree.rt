@@ -4,7 +4,7 @@ ghost use Rattle.std.specs.Prelude.{◌≡◌, ◌≤◌, ◌↔◌, [], true, l
 ghost use Rattle.nfs_machine.specs.RenameSteps.{IsWithin};
 ghost use Rattle.nfs_machine.specs.WellFormed.{WellFormed};
 ghost use Rattle.nfs_objects.specs.Knows.{Knows};
-ghost use Rattle.nfs_inodes.specs.Gathers.{MayWish};
+ghost use Rattle.nfs_inodes.specs.Gathers.{MayWish, wish_above};
 ghost use Rattle.nfs_inodes.specs.Known.{IsKnown};
 ghost use Rattle.nfs_inodes.specs.Stops.{StopsAt};
 
@@ -52,7 +52,8 @@ pub fn is_within(
 /// that. Something stands there in every store that the view fits.
 pub fn above(draft: &Draft<'_>, number: u64) -> Option<(Addr, Mode)>
     requires { draft.now.writes ≡ [] }
-    ensures { IfSome result (MayWish draft.now) }
+    ensures next { result ≡ wish_above draft.now number }
+    ensures may { IfSome result (MayWish draft.now) }
 {
     let Ok(Some(inode)) = inode(draft, number) else {
         return None;

@@ -1,5 +1,6 @@
 -- Locks on ranges of files and share reservations: who has what, and what conflicts (RFC 1813, appendix II, 6.1.4).
-use Rattle.std.specs.Prelude.{◌≡◌, ℕ, ◌+◌, ◌-◌, ◌^◌, ◌<◌, ◌≤◌, Bool, true, false, not, ◌&&◌}
+use Rattle.std.specs.Prelude.{◌≡◌, ℕ, ◌+◌, ◌-◌, ◌^◌, ◌<◌, ◌≤◌, Bool, true, false, not}
+use Rattle.std.specs.Prelude.{◌&&◌}
 use Rattle.std.specs.Prelude.{◌||◌, List, Option, Some, None, option_map, nat_le, if◌then◌else◌, count_by}
 use Rattle.std.specs.Prelude.{find}
 use Rattle.std.specs.Prelude.{◌==◌}

@@ -1,6 +1,6 @@
 //! The exported directories, who may use each, and how.
 
-ghost use Rattle.std.specs.Prelude.{◌≡◌, map, option_map, MatchResult, IfSome};
+ghost use Rattle.std.specs.Prelude.{◌≡◌, map, MatchResult, IfSome};
 
 use crate::export_faults::check_list;
 use bytes::Bytes;

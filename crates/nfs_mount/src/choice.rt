@@ -1,6 +1,6 @@
 //! The export that a path is under for a host (RFC 1813, section 5.2.1).
 
-ghost use Rattle.std.specs.Prelude.{◌≡◌, ◌+◌, ◌^◌, ◌<◌, length, MatchOption};
+ghost use Rattle.std.specs.Prelude.{◌≡◌, ◌<◌, MatchOption};
 ghost use Rattle.nfs_machine.specs.MountSteps.{NoExport};
 ghost use Rattle.nfs_machine.specs.Paths.{parts};
 ghost use Rattle.nfs_machine.specs.WellFormed.{AllApart};

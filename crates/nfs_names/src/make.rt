@@ -1,6 +1,7 @@
 //! How a call makes a new object under a name (RFC 1813, 3.3.8 to 3.3.11): CREATE, MKDIR, SYMLINK and MKNOD.
 
-ghost use Rattle.std.specs.Prelude.{◌≡◌, ◌∷◌, ◌++◌, [], IfErr, IfOk, IsSome, MatchResult, None, Ok, option_map};
+ghost use Rattle.std.specs.Prelude.{◌≡◌, ◌∷◌, ◌++◌, [], IfErr, IfOk, IsSome, MatchResult, None, Ok};
+ghost use Rattle.std.specs.Prelude.{option_map};
 ghost use Rattle.nfs_machine.specs.Attributes.{entries_of};
 ghost use Rattle.nfs_machine.specs.Checks.{entry_of};
 ghost use Rattle.nfs_objects.specs.Asks.{IsThere};

@@ -1,6 +1,7 @@
 //! Pages of directories, for READDIR and READDIRPLUS (RFC 1813, 3.3.16 and 3.3.17).
 
-ghost use Rattle.std.specs.Prelude.{◌≡◌, ◌+◌, ◌<◌, ◌≤◌, ◌^◌, [], List, false, length, map, true, IfOk, MatchResult};
+ghost use Rattle.std.specs.Prelude.{◌≡◌, ◌+◌, ◌<◌, ◌≤◌, ◌^◌, [], List, false, length, map};
+ghost use Rattle.std.specs.Prelude.{true, IfOk, MatchResult};
 ghost use Rattle.nfs_machine.specs.State.{Entry};
 ghost use Rattle.nfs_machine.specs.Pages.{Pages, entry_size};
 ghost use Rattle.nfs_objects.specs.Knows.{Knows};
@@ -9,7 +10,7 @@ ghost use Rattle.nfs_inodes.specs.Known.{IsKnown};
 ghost use Rattle.nfs_inodes.specs.Listing.{listed_entry};
 ghost use Rattle.nfs_names.specs.Checking.{ComesTo};
 ghost use Rattle.nfs_names.specs.Pages.{KnowsPage, fit_of, front_page, list_checked, page_cut, page_found};
-ghost use Rattle.nfs_names.specs.Pages.{result_size, sizes_fit, sizes_of};
+ghost use Rattle.nfs_names.specs.Pages.{result_size, sizes_fit};
 ghost use Rattle.nfs_inodes.specs.Stops.{StopsAt};
 
 use nfs_inodes::{

@@ -1,6 +1,7 @@
 //! RENAME: a name that moves (RFC 1813, 3.3.14).
 
-ghost use Rattle.std.specs.Prelude.{◌≡◌, ◌≤◌, ◌==◌, ◌||◌, ◌++◌, ◌↔◌, [], true, false, length, not};
+ghost use Rattle.std.specs.Prelude.{◌≡◌, ◌≤◌, ◌==◌, ◌||◌, ◌++◌, ◌↔◌, [], true, false};
+ghost use Rattle.std.specs.Prelude.{length, not};
 ghost use Rattle.std.specs.Prelude.{IfOk, IfSome, MatchResult, Some, is_some, nat_lt};
 ghost use Rattle.std.specs.Option.{option_map_or};
 ghost use Rattle.nfs_machine.specs.Checks.{link_limit};

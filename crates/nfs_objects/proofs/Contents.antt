@@ -1,13 +1,13 @@
 -- What blocks have of a file, after changes of it.
 use Rattle.std.proofs.Common.{◌≡◌, ℕ, ◌+◌, ◌-◌, ◌*◌, ◌<◌, ◌≤◌, List, [], ◌++◌, length, take, drop, replicate}
-use Rattle.std.proofs.Common.{min, max, inl, inr, refl, sym, ap, ◌∙◌, subst, arith, length-append}
+use Rattle.std.proofs.Common.{min, max, inl, inr, refl, sym, ap, ◌∙◌, arith}
 use Rattle.std.proofs.Math.Seq.{drop-append-add}
 use Rattle.std.proofs.lemmas.Bool.{cases_lt}
 use Rattle.std.proofs.lemmas.List.{append-nil, append_assoc, drop-append-le, drop-replicate, drop_all, length-drop}
 use Rattle.std.proofs.lemmas.List.{length-replicate, length-take, nil_from_length, replicate-append-replicate, take-replicate, take_all}
 use Rattle.nfs_machine.specs.Data.{resized, written}
-use Rattle.nfs_objects.proofs.FileParts.{part-resized, part-written, resized-length, resized-none, resized-same}
-use Rattle.nfs_objects.proofs.FileParts.{resized-take, take-grown, take-none, written-length, written-none}
+use Rattle.nfs_objects.proofs.FileParts.{part-resized, part-written, resized-length, resized-none}
+use Rattle.nfs_objects.proofs.FileParts.{resized-take, take-grown, written-length, written-none}
 use Rattle.nfs_objects.specs.FileMaps.{IsContent, block_size, part_at}
 
 -- how many bytes of a file lie in a block

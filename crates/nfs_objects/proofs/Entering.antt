@@ -8,7 +8,7 @@ use Rattle.std.specs.Cmp.{unsigned_Decides}
 use Rattle.nfs_machine.specs.State.{Entry}
 use Rattle.nfs_objects.specs.Directories.{led_in_part, no_entries, width_in, width_of}
 use Rattle.nfs_objects.specs.Stands.{HasEntries, HoldsEntries, IsPart, Kept, StandDirectories, StandEntries}
-use Rattle.nfs_objects.specs.Stands.{entries_at, entry_map_of, inode_in, inode_there}
+use Rattle.nfs_objects.specs.Stands.{entries_at, entry_map_of, inode_in}
 use Rattle.nfs_objects.specs.Store.{Store, put_at, with_write}
 use Rattle.nfs_objects.specs.Unfiled.{StandDirectoriesBut}
 use Rattle.nfs_objects.specs.declared.address.Addr.TheVariants as addresses

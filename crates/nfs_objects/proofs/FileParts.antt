@@ -1,12 +1,12 @@
 -- The bytes of files by blocks: the part of each block after a change is a change of that part alone.
-use Rattle.std.proofs.Common.{◌≡◌, ℕ, ◌+◌, ◌-◌, ◌*◌, ◌<◌, ◌≤◌}
+use Rattle.std.proofs.Common.{◌≡◌, ℕ, ◌+◌, ◌-◌, ◌*◌, ◌≤◌}
 use Rattle.std.proofs.Common.{List, [], ◌++◌, length, take, drop, replicate, min, max, inl, inr}
 use Rattle.std.proofs.Common.{refl, sym, ap, ◌∙◌, arith, length-append}
 use Rattle.std.proofs.Math.Seq.{drop-append-add, take-append-add}
 use Rattle.std.proofs.lemmas.Bool.{cases_lt}
 use Rattle.std.proofs.lemmas.List.{append-nil, append_assoc, drop-append-le, drop-drop, drop-replicate, drop-take}
 use Rattle.std.proofs.lemmas.List.{drop_all, drop_at, length-drop, length-replicate, length-take, take-append-drop}
-use Rattle.std.proofs.lemmas.List.{take-append-le, take-replicate, take-take, take_all, take_at}
+use Rattle.std.proofs.lemmas.List.{take-append-le, take-replicate, take-take, take_all}
 use Rattle.nfs_machine.specs.Data.{resized, written}
 use Rattle.nfs_objects.specs.FileMaps.{block_size, part_at}
 

@@ -1,5 +1,5 @@
 -- Files of a store after writes that leave them, and but for one.
-use Rattle.std.proofs.Common.{◌≡◌, ◌==◌, ℕ, true, false, cond, option_map, Bool, ◌/◌, ◌%◌}
+use Rattle.std.proofs.Common.{◌≡◌, ◌==◌, ℕ, true, false, cond, Bool, ◌/◌, ◌%◌}
 use Rattle.std.proofs.Common.{List, [], Option, Some, None, refl, sym, ◌∙◌, ap, subst}
 use Rattle.std.proofs.Common.{length}
 use Rattle.std.proofs.lemmas.List.{length-replicate}
@@ -11,10 +11,10 @@ use Rattle.nfs_machine.specs.Exports.{LivingExport}
 use Rattle.nfs_machine.specs.State.{Directory, Entry, Living, Regular}
 use Rattle.nfs_machine.specs.State as machine
 use Rattle.nfs_objects.proofs.Entering.{directories-but}
-use Rattle.nfs_objects.specs.Bits.{has, no_bits}
+use Rattle.nfs_objects.specs.Bits.{has}
 use Rattle.nfs_objects.specs.FileMaps.{FileMapValue, IsContent}
-use Rattle.nfs_objects.specs.Stands.{HasBlocks, IsMapped, IsStored, Kept, Represents, StandFiles, StandObjects, bytes_at, file_bytes}
-use Rattle.nfs_objects.specs.Stands.{content_of, inode_in, inode_there, lives_in, living_alone, living_of_inode, map_in, map_of, pages_of}
+use Rattle.nfs_objects.specs.Stands.{HasBlocks, IsMapped, IsStored, Kept, Represents, StandFiles, bytes_at, file_bytes}
+use Rattle.nfs_objects.specs.Stands.{content_of, inode_in, inode_there, living_alone, living_of_inode, map_in, map_of, pages_of}
 use Rattle.nfs_objects.specs.Stands.{Beside, HoldsEntries, beside_at, directory_entries, entry_map_in, filled, stored_in}
 use Rattle.nfs_objects.specs.Store.{Store, put_at}
 use Rattle.nfs_objects.specs.Unfiled.{RepresentsBut, StandFilesBut}

@@ -5,8 +5,8 @@ use Rattle.nfs_objects.proofs.Entering.{block-but, map-but, page-but, part-but}
 use Rattle.nfs_objects.proofs.Locked.{files-same, locks-stay}
 use Rattle.nfs_objects.proofs.Seen.{writes-append}
 use Rattle.nfs_objects.specs.Bits.{has}
-use Rattle.nfs_objects.specs.FileMaps.{FileMapValue, IsContent}
-use Rattle.nfs_objects.specs.Stands.{HasBlocks, IsMapped, IsStored, Kept, StandObjects, StandTables, bytes_at, map_of}
+use Rattle.nfs_objects.specs.FileMaps.{IsContent}
+use Rattle.nfs_objects.specs.Stands.{IsMapped, IsStored, Kept, bytes_at, map_of}
 use Rattle.nfs_objects.specs.Stands.{pages_of, stored_in}
 use Rattle.nfs_objects.specs.Store.{Store, with_write, with_writes}
 use Rattle.nfs_objects.specs.Unfiled.{Enters, Lays, RepresentsBut}

@@ -1,14 +1,12 @@
 -- Entries in pages and parts: what a test of names, one entry more and one name less do to look-ups and to pages, and
 -- which names move where a bucket has one part more.
-use Rattle.std.proofs.Common.{◌≡◌, ℕ, ◌+◌, ◌-◌, ◌*◌, ◌/◌, ◌%◌, ◌^◌, ◌<◌, ◌≤◌, ◌==◌, ◌&&◌, Bool, true, false, not, cond}
-use Rattle.std.proofs.Common.{List, [], ◌∷◌, ◌++◌, Option, Some, None, length, refl, sym, ◌∙◌, ap, subst, arith, filter, find}
+use Rattle.std.proofs.Common.{◌≡◌, ℕ, ◌+◌, ◌/◌, ◌==◌, Bool, true, false, not, cond}
+use Rattle.std.proofs.Common.{List, [], ◌∷◌, ◌++◌, Option, Some, None, length, refl, sym, ◌∙◌, ap, arith, filter}
 use Rattle.std.specs.Cmp.Lexicographic.{bytes_decides}
-use Rattle.std.specs.List.{AllByRecursion}
 use Rattle.nfs_machine.specs.Bytes.{same_bytes}
 use Rattle.nfs_machine.specs.Checks.{entry_of}
 use Rattle.nfs_machine.specs.RemoveSteps.{without}
 use Rattle.nfs_machine.specs.State.{Entry}
-use Rattle.nfs_machine.specs.WellFormed.{NamesOnce}
 use Rattle.std.proofs.lemmas.Bool.{ne_eqb}
 use Rattle.nfs_objects.specs.Directories.{has_some, in_page}
 

@@ -8,7 +8,7 @@ use Rattle.std.proofs.Math.Nat.{le-max_left, le-max_right}
 use Rattle.std.proofs.lemmas.Bool.{and_parts, le-leb, lt-leb}
 use Rattle.std.proofs.lemmas.Bool.Decides.{leb_tells}
 use Rattle.std.specs.Cmp.{nat_eq_equiv, unsigned_Decides}
-use Rattle.std.specs.FinMap.{FinMap, empty, get, insert, remove}
+use Rattle.std.specs.FinMap.{FinMap, get, insert, remove}
 use Rattle.std.specs.Ordering.{nat_cmp}
 use Rattle.side_wire.specs.declared.mount.lists.MountBody.{MountBody}
 use Rattle.nfs_machine.proofs.Changes.{differs-remove}

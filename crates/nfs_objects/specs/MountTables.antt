@@ -1,5 +1,6 @@
 -- Tables of mounts (RFC 1813, appendix I, 5.2): hosts with the paths that they mounted.
-use Rattle.std.specs.Prelude.{◌≡◌, ℕ, ◌+◌, ◌<◌, ◌≤◌, Bool, true, ◌&&◌, List, [], ◌∷◌, length, nat_eq}
+use Rattle.std.specs.Prelude.{◌≡◌, ℕ, ◌+◌, ◌<◌, ◌≤◌, Bool, true, ◌&&◌, List, [], ◌∷◌}
+use Rattle.std.specs.Prelude.{length, nat_eq}
 use Rattle.std.specs.Cmp.Lexicographic.{bytes_decides, nat_list_eq_equiv, pointwise}
 use Rattle.std.specs.List.{IsDistinct, flat_map}
 use Rattle.std.proofs.Common.{ap, sym, ◌∙◌}

@@ -19,7 +19,8 @@ use Rattle.nfs_objects.specs.Bits.{same_bits}
 use Rattle.nfs_objects.specs.ExportTables.{ExportTableValue}
 use Rattle.nfs_objects.specs.FileMaps.{FileMapValue}
 use Rattle.nfs_objects.specs.Same.{same_file_map}
-use Rattle.nfs_objects.specs.Same.{same_content, same_device, same_directory, same_entry, same_entry_map, same_export, same_exports}
+use Rattle.nfs_objects.specs.Same.{same_content, same_device, same_directory, same_entry, same_entry_map, same_export}
+use Rattle.nfs_objects.specs.Same.{same_exports}
 use Rattle.nfs_objects.specs.Same.{same_inode, same_living, same_mode, same_mount, same_number, same_object, same_run}
 use Rattle.nfs_objects.specs.Same.{held_value, same_held, same_ownership, same_pair, same_seen, same_time, same_times}
 use Rattle.nfs_objects.specs.Same.{same_verifier, same_view}
@@ -127,7 +128,8 @@ entry_map_same a b e = λ i. record {
 }
 
 pub entry_map_decides : (a b : EntryMap) → Decides (same_entry_map a b) (a ≡ b)
-entry_map_decides = from_self same_entry_map entry_map_same (λ a. both _ _ (bytes_own a.counts) ((runs_decide a.pages a.pages).1 refl))
+entry_map_decides = from_self same_entry_map entry_map_same
+    (λ a. both _ _ (bytes_own a.counts) ((runs_decide a.pages a.pages).1 refl))
 
 directory_same : (a b : Directory) → same_directory a b ≡ true → a ≡ b
 directory_same a b e =

@@ -1,5 +1,6 @@
 -- The state that a store stands for.
-use Rattle.std.specs.Prelude.{◌≡◌, ◌<◌, ◌≤◌, ◌^◌, ◌↔◌, ℕ, Bool, false, true, Contains, List, [], length}
+use Rattle.std.specs.Prelude.{◌≡◌, ◌<◌, ◌≤◌, ◌^◌, ◌↔◌, ℕ, Bool, false, true, Contains, List}
+use Rattle.std.specs.Prelude.{[], length}
 use Rattle.std.specs.Prelude.{Option, Some, None, IsSome, is_some, option_map, unwrap_or}
 use Rattle.std.specs.Prelude.{nat_le, nat_lt, if◌then◌else◌, replicate, ◌/◌, ◌%◌, ◌==◌}
 use Rattle.std.specs.FinMap.{get}

@@ -1,6 +1,7 @@
 //! The bytes of a block of a file. Those that it has not, up to `BLOCK_SIZE`, are zeros.
 
-ghost use Rattle.std.specs.Prelude.{◌≡◌, ◌++◌, ◌+◌, ◌<◌, ◌≤◌, ◌^◌, [], IfOk, OnOk, drop, length, option_copied, take};
+ghost use Rattle.std.specs.Prelude.{◌≡◌, ◌++◌, ◌+◌, ◌<◌, ◌≤◌, ◌^◌, [], IfOk, OnOk, drop};
+ghost use Rattle.std.specs.Prelude.{length, option_copied, take};
 ghost use Rattle.std.specs.Prelude.{unwrap_or};
 ghost use Rattle.nfs_machine.specs.Data.{resized, written};
 

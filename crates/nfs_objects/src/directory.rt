@@ -1,6 +1,7 @@
 //! Directories: names, what they lead to, and their cookies.
 
-ghost use Rattle.std.specs.Prelude.{◌≡◌, [], ◌∷◌, ◌++◌, ◌==◌, ◌<◌, length, IfOk, None, filter, find, not};
+ghost use Rattle.std.specs.Prelude.{◌≡◌, [], ◌∷◌, ◌++◌, ◌==◌, ◌<◌, length, IfOk, None, filter};
+ghost use Rattle.std.specs.Prelude.{find, not};
 ghost use Rattle.std.specs.Prelude.{option_map};
 ghost use Rattle.std.proofs.Common.{ap, nat_eq, rules};
 ghost use Rattle.std.specs.Cmp.Lexicographic.{bytes_decides, nat_list_eq_equiv, pointwise};

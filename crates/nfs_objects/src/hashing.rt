@@ -4,7 +4,8 @@
 //! part alone move then, all to the new part or back from it.
 
 ghost use Rattle.std.specs.Prelude.{◌≡◌, ◌<◌, ◌≤◌, ◌^◌};
-ghost use Rattle.nfs_objects.specs.Directories.{bucket_of, digest, part_among, part_hashed, source_of, top_of, width_of};
+ghost use Rattle.nfs_objects.specs.Directories.{bucket_of, digest, part_among, part_hashed, source_of, top_of};
+ghost use Rattle.nfs_objects.specs.Directories.{width_of};
 
 use std::hash::{DefaultHasher, Hasher};
 

@@ -1,6 +1,7 @@
 //! Which pages of a directory are there.
 
-ghost use Rattle.std.specs.Prelude.{◌≡◌, ◌<◌, ◌≤◌, ◌==◌, ◌||◌, ◌&&◌, [], ◌++◌, IfOk, IsTrue, OnOk, ℕ, suc, drop};
+ghost use Rattle.std.specs.Prelude.{◌≡◌, ◌<◌, ◌≤◌, ◌==◌, ◌||◌, ◌&&◌, [], ◌++◌, IfOk};
+ghost use Rattle.std.specs.Prelude.{IsTrue, OnOk, ℕ, suc, drop};
 ghost use Rattle.std.specs.Prelude.{length, not, take};
 ghost use Rattle.std.specs.Arc.{arc_value};
 ghost use Rattle.std.specs.Cmp.Lexicographic.{pointwise};

@@ -1,5 +1,6 @@
 -- The steps of a call in a pool: what they do to the call, whatever stands in the book and the shards.
-use Rattle.std.specs.Prelude.{◌≡◌, ℕ, ◌<◌, ◌&&◌, Bool, nat_le, List, [], length, slice_index_or, true, false, map}
+use Rattle.std.specs.Prelude.{◌≡◌, ℕ, ◌<◌, ◌&&◌, Bool, nat_le, List, [], length, slice_index_or, true}
+use Rattle.std.specs.Prelude.{false, map}
 use Rattle.std.specs.Prelude.{Option, Result, Ok, Err}
 use Rattle.nfs_machine.specs.Run.{Received}
 use Rattle.nfs_objects.specs.Rooms.{with_seen}

@@ -1,6 +1,7 @@
 //! The commit of a call, in the holds of the shards that it writes.
 
-ghost use Rattle.std.specs.Prelude.{◌≡◌, ◌+◌, ◌<◌, ◌≤◌, ℕ, IfErr, IfOk, OnErr, OnOk, false, map, slice_index_or, true};
+ghost use Rattle.std.specs.Prelude.{◌≡◌, ◌+◌, ◌<◌, ◌≤◌, ℕ, IfErr, IfOk, OnErr, OnOk, false, map};
+ghost use Rattle.std.specs.Prelude.{slice_index_or, true};
 ghost use Rattle.std.specs.List.{AllByRecursion};
 ghost use Rattle.nfs_objects.specs.Values.{write_value};
 ghost use Rattle.nfs_engine.specs.Engine.{ArePlaces};

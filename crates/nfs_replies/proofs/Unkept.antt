@@ -1,7 +1,7 @@
 -- What is not kept stays so behind an event of another record, and behind a repeat, for each host.
 use Rattle.std.proofs.Common.{◌≡◌, ◌≢◌, ℕ, Bool, true, false, cond, not, List, ◌∷◌}
 use Rattle.std.proofs.Common.{Some, None, option_map}
-use Rattle.std.proofs.Common.{find, filter, refl, sym, ap, ◌∙◌}
+use Rattle.std.proofs.Common.{find, filter, refl, ap, ◌∙◌}
 use Rattle.std.specs.Cmp.Lexicographic.{bytes_decides}
 use Rattle.std.proofs.lemmas.List.Folds.{find-append}
 use Rattle.std.specs.Option.{option_or}

@@ -22,7 +22,7 @@ program_of number =
     else (if number == 100005 then Some Mount
     else (if number == 100021 then Some Nlm else None))
 
--- the procedures that are there: all of NFS and of MOUNT (RFC 1813, 3.3 and 5.2); of NLM, NULL
+-- the procedures that are there: all of NFS, MOUNT and NLM (RFC 1813, 3.3, 5.2 and 6.2; NLM has none of 16 to 19)
 abbrev pub is_built : Program → ℕ → Bool
 is_built Nfs procedure = nat_le procedure 21
 is_built Mount procedure = nat_le procedure 5

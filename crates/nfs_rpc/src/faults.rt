@@ -1,7 +1,5 @@
 //! What can be wrong with a call, and what it is answered.
 
-ghost use Rattle.std.specs.Prelude.{◌≡◌};
-
 /// Why a call is not carried out (RFC 5531, section 9).
 #[derive(Clone, Copy, PartialEq, Eq)]
 pub enum Fault {

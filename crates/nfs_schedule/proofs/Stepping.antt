@@ -1,6 +1,6 @@
 -- The steps of a call on its course: each leads on, and what was read suits the call.
-use Rattle.std.proofs.Common.{◌≡◌, ◌≢◌, ℕ, ◌+◌, ◌<◌, ◌≤◌, Bool, true, false, cond, List, [], ◌∷◌, ◌++◌, Option, Some, None}
-use Rattle.std.proofs.Common.{option_map, slice_get, refl, sym, ◌∙◌, ap, subst, inl, inr, arith, ◌&&◌}
+use Rattle.std.proofs.Common.{◌≡◌, ℕ, ◌+◌, Bool, true, false, cond, List, [], ◌∷◌, ◌++◌, Option, Some, None}
+use Rattle.std.proofs.Common.{option_map, slice_get, refl, sym, ◌∙◌, ap, subst, inl, arith, ◌&&◌}
 use Rattle.std.specs.List.{AllByRecursion}
 use Rattle.std.specs.Option.{option_and_then}
 use Rattle.std.specs.Vec.Iter.{into_iter_items}
@@ -23,7 +23,7 @@ use Rattle.nfs_objects.specs.Attempt.{AsksFirst, Attempts}
 use Rattle.nfs_objects.specs.Bound.{Grows, Round, held, view_after}
 use Rattle.nfs_objects.specs.Fits.{vacant}
 use Rattle.nfs_objects.specs.Calls.{IsAmong, addresses_of, named_by, nfs_handles, objects_at, usages_of}
-use Rattle.nfs_objects.specs.Modes.{Suits, held_mode, is_apart, modes_of, only_reads}
+use Rattle.nfs_objects.specs.Modes.{Suits, is_apart, modes_of, only_reads}
 use Rattle.nfs_objects.specs.Rooms.{with_seen, with_number}
 use Rattle.nfs_objects.specs.Values.{Seen, ViewValue, is_addr, seen_at}
 use Rattle.nfs_objects.specs.declared.address.Addr.{Addr}
@@ -37,7 +37,7 @@ use Rattle.nfs_objects.specs.declared.view.Reserved.{Reserved}
 use Rattle.nfs_engine.specs.Calls.{TxnValue}
 use Rattle.nfs_schedule.proofs.Asked.{once_more}
 use Rattle.nfs_schedule.proofs.Few.{courses-few}
-use Rattle.nfs_schedule.proofs.Grown.{asking_all, asking_alone, asking_less, grown_none, grown_numbers, grown_part}
+use Rattle.nfs_schedule.proofs.Grown.{asking_all, asking_alone, asking_less, grown_numbers, grown_part}
 use Rattle.nfs_schedule.proofs.Grown.{numbering_all, numbering_less}
 use Rattle.nfs_schedule.specs.Courses.{HasReadFew, IsAfterNumber, IsAt, IsBehind, IsFirstOf, IsNextStep, NumbersNext}
 use Rattle.nfs_schedule.specs.Courses.{TakesNext}
@@ -48,7 +48,7 @@ use Rattle.nfs_schedule.specs.Workers.{IsSuited}
 use Rattle.nfs_schedule.specs.declared.course.Course.{Course}
 use Rattle.nfs_schedule.specs.declared.course.Course.TheVariants.{Begun, Foreseen, Due, Asked, Above, Numbers}
 use Rattle.nfs_schedule.specs.declared.course.NextStep.{NextStep}
-use Rattle.nfs_schedule.specs.declared.course.NextStep.TheVariants.{Acquire, Reserve}
+use Rattle.nfs_schedule.specs.declared.course.NextStep.TheVariants.{Acquire}
 
 -- ---- what has grown in rounds suits its call
 grows_suited : (call : Call) (ctx : Ctx) (rounds : List Round) → Grows call ctx rounds →

@@ -1,5 +1,6 @@
 -- What a drive comes to as a whole: what was executed, what is kept and sent, and where all that came in went.
-use Rattle.std.specs.Prelude.{◌≡◌, ℕ, ◌+◌, List, [], ◌∷◌, ◌++◌, filter_map, flat_map, length, map, take}
+use Rattle.std.specs.Prelude.{◌≡◌, ℕ, ◌+◌, List, [], ◌∷◌, ◌++◌, filter_map, flat_map, length, map}
+use Rattle.std.specs.Prelude.{take}
 use Rattle.std.specs.Prelude.{IsPermutation, Option, Some, None, Result, Ok, Err}
 use Rattle.std.specs.Arc.{arc_value}
 use Rattle.std.specs.List.{range_with_len}

@@ -1,6 +1,6 @@
 //! The attempt of a call, by its program.
 
-ghost use Rattle.std.specs.Prelude.{◌≡◌, IfOk};
+ghost use Rattle.std.specs.Prelude.{IfOk};
 ghost use Rattle.nfs_objects.specs.Attempt.{AsksFirst, Attempts};
 ghost use Rattle.nfs_objects.specs.Modes.{Suits, modes_of};
 ghost use Rattle.nfs_engine.specs.Built.{IsBuilt};

@@ -1,7 +1,6 @@
 //! Stopping a worker: what it has is given up within the step, and has no reply.
 
-ghost use Rattle.std.specs.Prelude.{◌≡◌};
-ghost use Rattle.nfs_engine.specs.Engine.{IsLeaving, Lives, Waits};
+ghost use Rattle.nfs_engine.specs.Engine.{Lives, Waits};
 ghost use Rattle.nfs_schedule.specs.Answers.{IsUnanswered};
 ghost use Rattle.nfs_schedule.specs.Stops.{IsGone, IsStop};
 ghost use Rattle.nfs_schedule.specs.Workers.{WorkerLives};

@@ -7,7 +7,7 @@ use Rattle.nfs_xdr.specs.Programs.{IsFrontedBy}
 use Rattle.nfs_xdr.specs.Reading.{read}
 use Rattle.nfs_xdr.specs.Types.{Value}
 use Rattle.nfs_xdr.proofs.Numbers.{ok_is}
-use Rattle.nfs_xdr.proofs.Spelling.{reading_finds_spelling, refusal_means_unspelled, spelled_has_spelling, spelling_is_read}
+use Rattle.nfs_xdr.proofs.Spelling.{reading_finds_spelling, spelled_has_spelling, spelling_is_read}
 use Rattle.side_wire.specs.Messages.{IsNoResult, SpellsResult, opaque_auth}
 use Rattle.side_wire.specs.Nlm.{HasResultForm}
 use Rattle.side_wire.specs.NlmTypes.{nlm4_res, result_value}

@@ -1,5 +1,6 @@
 -- Callbacks as a command line names them: HOST=ADDR:PORT.
-use Rattle.std.specs.Prelude.{◌≡◌, ◌≢◌, ◌<◌, ◌+◌, ℕ, List, [], ◌∷◌, ◌++◌, length, get_or}
+use Rattle.std.specs.Prelude.{◌≡◌, ◌≢◌, ◌<◌, ◌+◌, ℕ, List, [], ◌∷◌, ◌++◌, length}
+use Rattle.std.specs.Prelude.{get_or}
 use Rattle.std.specs.Prelude.{Option, reverse}
 use Rattle.std.specs.List.{find}
 use Rattle.std.specs.Net.Grammar.{IsSocketText}

@@ -9,7 +9,8 @@ use Rattle.nfs_machine.specs.declared.exports.ExportError.TheVariants as export
 use Rattle.nfs_server.specs.declared.callbacks.CallbackError.{CallbackError}
 use Rattle.nfs_server.specs.declared.callbacks.CallbackError.TheVariants as callback
 use Rattle.nfs_server.specs.declared.exit.Exit.{Exit}
-use Rattle.nfs_server.specs.declared.exit.Exit.TheVariants.{CommandLine, NoTransport, Exports, Callback, Memory, StandardStream}
+use Rattle.nfs_server.specs.declared.exit.Exit.TheVariants.{CommandLine, NoTransport, Exports, Callback, Memory}
+use Rattle.nfs_server.specs.declared.exit.Exit.TheVariants.{StandardStream}
 use Rattle.nfs_streams.specs.declared.serving.StreamFault.{StreamFault}
 use Rattle.nfs_streams.specs.declared.serving.StreamFault.TheVariants as stream
 

@@ -1,6 +1,7 @@
 //! Bytes that lie in pieces.
 
-ghost use Rattle.std.specs.Prelude.{◌≡◌, ◌+◌, ◌≤◌, ◌<◌, ◌^◌, ◌==◌, ◌++◌, [], IfOk, OnErr, OnOk, length, replicate};
+ghost use Rattle.std.specs.Prelude.{◌≡◌, ◌+◌, ◌≤◌, ◌<◌, ◌^◌, ◌==◌, ◌++◌, [], IfOk};
+ghost use Rattle.std.specs.Prelude.{OnErr, OnOk, length, replicate};
 ghost use Rattle.std.specs.Prelude.{nat_eq, vec_capacity, vec_len};
 ghost use Rattle.std.specs.List.{flat_map, list_all, zip};
 ghost use Rattle.std.specs.Cmp.Lexicographic.{nat_list_eq_equiv, pointwise};

@@ -1,5 +1,6 @@
 -- What is freed where a caller has nothing more (RFC 1813, appendix II, 6.2: procedure 23).
-use Rattle.std.specs.Prelude.{◌≡◌, ◌≤◌, ◌+◌, ℕ, Contains, List, [], ◌∷◌, ◌++◌, Option, Some, None, option_map, map}
+use Rattle.std.specs.Prelude.{◌≡◌, ◌≤◌, ◌+◌, ℕ, Contains, List, [], ◌∷◌, ◌++◌, Option, Some}
+use Rattle.std.specs.Prelude.{None, option_map, map}
 use Rattle.std.specs.Prelude.{true, ◌⊎◌}
 use Rattle.std.specs.List.{IsDistinct}
 use Rattle.nfs_machine.specs.Exports.{LivingExport}
@@ -29,7 +30,8 @@ pub record IsFreedFile (caller_name : List ℕ) (old new : LockedValue) : Type 0
 -- a file that lives is freed, if the caller had anything of it
 abbrev pub IsFreedOne : List LivingExport → (caller_name : List ℕ) → LockedValue → Option LockedValue → Type 0
 IsFreedOne exports caller_name old None = lives_in exports old.export ≡ true → IsFreed old.file caller_name old.file
-IsFreedOne exports caller_name old (Some new) = (lives_in exports old.export ≡ true) × IsFreedFile caller_name old new
+IsFreedOne exports caller_name old (Some new) =
+    (lives_in exports old.export ≡ true) × IsFreedFile caller_name old new
 
 -- of the files of a bucket, these are freed, in their order: each that lives and of which the caller had anything
 pub record AreFreedOf (exports : List LivingExport) (caller_name : List ℕ) (files freed : List LockedValue) :

@@ -1,5 +1,6 @@
 -- Grants that are not answered yet, and which of them a host answers (RFC 1813, appendix II, 6.2: procedure 15).
-use Rattle.std.specs.Prelude.{◌≡◌, ℕ, ◌==◌, Contains, List, [], Option, Some, None, if◌then◌else◌, length, true}
+use Rattle.std.specs.Prelude.{◌≡◌, ℕ, ◌==◌, Contains, List, [], Option, Some, None, if◌then◌else◌}
+use Rattle.std.specs.Prelude.{length, true}
 use Rattle.std.specs.Arc.{arc_value}
 use Rattle.std.specs.FinMap.{get}
 use Rattle.std.specs.Int.{w64, from_be_bytes}

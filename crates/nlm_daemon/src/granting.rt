@@ -1,6 +1,7 @@
 //! Grants: the messages that tell of them, and what hosts answer (RFC 1813, appendix II, 6.2: procedures 5, 10 and 15).
 
-ghost use Rattle.std.specs.Prelude.{◌≡◌, ◌∷◌, [], IfOk, MatchOption, MatchResult, OnOk, Some, length, map, true};
+ghost use Rattle.std.specs.Prelude.{◌≡◌, ◌∷◌, [], IfOk, MatchOption, MatchResult, OnOk, Some, length, map};
+ghost use Rattle.std.specs.Prelude.{true};
 ghost use Rattle.std.specs.Arc.{arc_value};
 ghost use Rattle.std.specs.Int.{from_be_bytes, w64};
 ghost use Rattle.nfs_machine.specs.Grants.{grant_cookie, grant_message};

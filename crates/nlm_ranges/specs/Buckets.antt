@@ -1,6 +1,7 @@
 -- Buckets of locks: the files whose numbers are the same modulo 64, with what each has of locks, shares, requests and
 -- grants.
-use Rattle.std.specs.Prelude.{◌≡◌, ◌≤◌, ◌*◌, ◌+◌, ◌^◌, ℕ, Bool, false, not, List, [], Option, None, Some, filter, find}
+use Rattle.std.specs.Prelude.{◌≡◌, ◌≤◌, ◌*◌, ◌+◌, ◌^◌, ℕ, Bool, false, not, List, [], Option}
+use Rattle.std.specs.Prelude.{None, Some, filter, find}
 use Rattle.std.specs.Prelude.{length, if◌then◌else◌, ◌==◌, ◌&&◌}
 use Rattle.std.specs.List.{AllByRecursion, IsDistinct}
 use Rattle.nlm_ranges.specs.Files.{FileValue, has_nothing}

@@ -1,5 +1,6 @@
 -- The locks that are held of a file, and who holds what stands in a call's way (RFC 1813, appendix II, 6.1.4).
-use Rattle.std.specs.Prelude.{◌≡◌, ℕ, ◌+◌, ◌-◌, ◌<◌, ◌≤◌, ◌^◌, Bool, true, false, Contains, List, ◌++◌, None, Some}
+use Rattle.std.specs.Prelude.{◌≡◌, ℕ, ◌+◌, ◌-◌, ◌<◌, ◌≤◌, ◌^◌, Bool, true, false}
+use Rattle.std.specs.Prelude.{Contains, List, ◌++◌, None, Some}
 use Rattle.std.specs.List.{AllByRecursion, IsDistinct}
 use Rattle.nfs_machine.specs.Locks.{AreListed, Conflicts, HasModes, Mode, is_in, is_within, mode_at, modes_with}
 use Rattle.nfs_machine.specs.Locks.{same_sharer}

@@ -4,8 +4,9 @@
 //! values. A bucket also counts the numbers that it gave to grants, each of which is the bucket's index modulo 64. A
 //! look-up passes over the files of a bucket, and a change copies their list, a count and two numbers for each.
 
-ghost use Rattle.std.specs.Prelude.{◌≡◌, ◌==◌, ◌<◌, ◌+◌, ◌%◌, ◌++◌, ◌∷◌, [], filter, find, if◌then◌else◌, not};
-ghost use Rattle.std.specs.Prelude.{IfOk, MatchOption, OnOk, option_copied};
+ghost use Rattle.std.specs.Prelude.{◌≡◌, ◌==◌, ◌<◌, ◌+◌, ◌%◌, ◌++◌, ◌∷◌, [], filter};
+ghost use Rattle.std.specs.Prelude.{find, if◌then◌else◌, not};
+ghost use Rattle.std.specs.Prelude.{IfOk, MatchOption, option_copied};
 ghost use Rattle.nlm_ranges.specs.Buckets.{IsInserted, bucket_count, file_in, given_most, has_none, number_given};
 ghost use Rattle.nlm_ranges.specs.Buckets.{without_file};
 ghost use Rattle.nlm_ranges.specs.Files.{has_nothing};

@@ -1,6 +1,7 @@
 //! Requests in order of arrival.
 
-ghost use Rattle.std.specs.Prelude.{◌≡◌, ◌==◌, ◌<◌, ◌+◌, ◌++◌, ◌∷◌, [], drop, find, length, map, take};
+ghost use Rattle.std.specs.Prelude.{◌≡◌, ◌==◌, ◌<◌, ◌+◌, ◌++◌, ◌∷◌, [], drop, find, length};
+ghost use Rattle.std.specs.Prelude.{map, take};
 ghost use Rattle.std.specs.Prelude.{IfNone, IfOk, IfSome, OnOk, Some, false, slice_get, true};
 ghost use Rattle.std.specs.Arc.{arc_value};
 ghost use Rattle.std.specs.List.{AllByRecursion, list_any};

@@ -1,6 +1,6 @@
 //! The requests that are granted where a file's locks changed.
 
-ghost use Rattle.std.specs.Prelude.{◌≡◌, ◌<◌, ◌++◌, ◌∷◌, [], IfOk, OnOk, length, map};
+ghost use Rattle.std.specs.Prelude.{◌<◌, ◌∷◌, [], IfOk, OnOk};
 ghost use Rattle.std.specs.Arc.{arc_value};
 ghost use Rattle.nlm_ranges.specs.Granting.{ComesTo, Grants, holding};
 ghost use Rattle.nlm_ranges.specs.Requests.{IsFirstFree};

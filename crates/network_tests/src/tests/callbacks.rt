@@ -254,7 +254,7 @@ fn is_told_of(
 
 /// Whether a client that waits for a lock is called back where it is its own, and has it then, or has not, as it
 /// answers with this status.
-pub fn is_called_back<R: AllocGlobal + Net<Listener = TcpListener, Stream = TcpStream>>(
+pub(crate) fn is_called_back<R: AllocGlobal + Net<Listener = TcpListener, Stream = TcpStream>>(
     rt: &R,
     tcp: SocketAddr,
     listener: &TcpListener,

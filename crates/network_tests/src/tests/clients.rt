@@ -67,14 +67,14 @@ impl Visit {
 }
 
 /// Words as bytes.
-pub fn spelled(alloc: Global, words: &[u32]) -> Result<Vec<u8>, AllocError> {
+pub(crate) fn spelled(alloc: Global, words: &[u32]) -> Result<Vec<u8>, AllocError> {
     let mut bytes = Vec::new(alloc);
     add_words(&mut bytes, words)?;
     Ok(bytes)
 }
 
 /// Words at the end of bytes.
-pub fn add_words(bytes: &mut Vec<u8>, words: &[u32]) -> Result<(), AllocError> {
+pub(crate) fn add_words(bytes: &mut Vec<u8>, words: &[u32]) -> Result<(), AllocError> {
     for word in words {
         bytes.extend_from_slice(&word.to_be_bytes())?;
     }
@@ -82,7 +82,7 @@ pub fn add_words(bytes: &mut Vec<u8>, words: &[u32]) -> Result<(), AllocError> {
 }
 
 /// A connection, which waits for no answer for ever.
-pub fn connect<R: AllocGlobal + Net<Listener = TcpListener, Stream = TcpStream>>(
+pub(crate) fn connect<R: AllocGlobal + Net<Listener = TcpListener, Stream = TcpStream>>(
     rt: &R,
     address: SocketAddr,
 ) -> io::Result<TcpStream> {
@@ -92,14 +92,14 @@ pub fn connect<R: AllocGlobal + Net<Listener = TcpListener, Stream = TcpStream>>
 }
 
 /// Sends words over a connection.
-pub fn send(alloc: Global, stream: &TcpStream, words: &[u32]) -> io::Result<()> {
+pub(crate) fn send(alloc: Global, stream: &TcpStream, words: &[u32]) -> io::Result<()> {
     let mut stream = stream;
     let bytes = spelled(alloc, words)?;
     stream.write_all(&bytes)
 }
 
 /// Whether this answer is what comes next over a connection.
-pub fn is_next(alloc: Global, stream: &TcpStream, answer: &[u32]) -> io::Result<bool> {
+pub(crate) fn is_next(alloc: Global, stream: &TcpStream, answer: &[u32]) -> io::Result<bool> {
     let mut stream = stream;
     let answer = spelled(alloc, answer)?;
     let mut told = Vec::from_elem(alloc, 0u8, answer.len())?;
@@ -175,7 +175,7 @@ fn exchange_datagrams<R: AllocGlobal + Net<Listener = TcpListener, Stream = TcpS
 }
 
 /// What comes next over a connection, at most 512 bytes of it.
-pub fn next(alloc: Global, stream: &TcpStream) -> io::Result<Vec<u8>> {
+pub(crate) fn next(alloc: Global, stream: &TcpStream) -> io::Result<Vec<u8>> {
     let mut stream = stream;
     let mut bytes = [0u8; MOST];
     let count = stream.read(&mut bytes)?;

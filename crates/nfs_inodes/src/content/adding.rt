@@ -1,6 +1,7 @@
 //! A name that comes to a directory: into a page by its cookie, and into a part by the name.
 
-ghost use Rattle.std.specs.Prelude.{◌≡◌, ◌<◌, ◌≤◌, ◌^◌, ◌/◌, ◌∷◌, ◌++◌, [], IfOk, MatchResult, None, OnOk, find, option_copied, unwrap_or};
+ghost use Rattle.std.specs.Prelude.{◌≡◌, ◌<◌, ◌≤◌, ◌^◌, ◌/◌, ◌∷◌, ◌++◌, [], IfOk};
+ghost use Rattle.std.specs.Prelude.{MatchResult, None, OnOk, find, option_copied, unwrap_or};
 ghost use Rattle.nfs_machine.specs.Bytes.{same_bytes};
 ghost use Rattle.nfs_objects.specs.Calls.{places_for};
 ghost use Rattle.nfs_objects.specs.Directories.{bucket_of, width_in};

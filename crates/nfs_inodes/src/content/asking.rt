@@ -1,10 +1,7 @@
 //! Addresses that are asked for at once.
 
-ghost use Rattle.std.specs.Prelude.{◌≡◌, ◌⊎◌, [], IfErr, IsSome, List, OnErr, OnOk, false};
-ghost use Rattle.std.specs.List.{AllByRecursion};
-ghost use Rattle.nfs_objects.specs.Asks.{IsThere};
-ghost use Rattle.nfs_objects.specs.Calls.{IsAmong};
-ghost use Rattle.nfs_objects.specs.Values.{DraftValue, is_addr};
+ghost use Rattle.std.specs.Prelude.{◌≡◌, [], IfErr, List, OnErr, OnOk, false};
+ghost use Rattle.nfs_objects.specs.Values.{DraftValue};
 ghost use Rattle.nfs_objects.specs.declared.address.Addr.{Addr as Address};
 ghost use Rattle.nfs_inodes.specs.Asking.{IsAsking, with_wish};
 ghost use Rattle.nfs_inodes.specs.Stops.{StopsAt};

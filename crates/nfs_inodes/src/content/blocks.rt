@@ -1,6 +1,7 @@
 //! The blocks that files are kept in: those of a range, and what is read there and written.
 
-ghost use Rattle.std.specs.Prelude.{◌≡◌, ◌+◌, ◌-◌, ◌*◌, ◌/◌, ◌<◌, ◌≤◌, ◌^◌, ◌||◌, ◌&&◌, [], ◌∷◌, IfOk, IfSome};
+ghost use Rattle.std.specs.Prelude.{◌≡◌, ◌+◌, ◌-◌, ◌*◌, ◌/◌, ◌<◌, ◌≤◌, ◌^◌};
+ghost use Rattle.std.specs.Prelude.{◌||◌, ◌&&◌, [], ◌∷◌, IfOk, IfSome};
 ghost use Rattle.std.specs.Prelude.{IsSome, MatchResult, OnOk, drop, length, nat_le, nat_lt, option_copied, take, true};
 ghost use Rattle.std.specs.Prelude.{unwrap_or, ℕ};
 ghost use Rattle.nfs_machine.specs.Data.{size_limit};

@@ -1,6 +1,7 @@
 //! The blocks that go where a file is cut off.
 
-ghost use Rattle.std.specs.Prelude.{◌≡◌, ◌/◌, ◌<◌, ◌≤◌, ◌&&◌, ℕ, [], IsSome, MatchResult, OnOk, nat_lt, true};
+ghost use Rattle.std.specs.Prelude.{◌≡◌, ◌/◌, ◌<◌, ◌≤◌, ◌&&◌, ℕ, [], IsSome, MatchResult};
+ghost use Rattle.std.specs.Prelude.{OnOk, nat_lt, true};
 ghost use Rattle.nfs_objects.specs.Bits.{has, no_bits};
 ghost use Rattle.nfs_objects.specs.Drafts.{MayChange};
 ghost use Rattle.nfs_objects.specs.Values.{known_at};

@@ -1,6 +1,7 @@
 //! The bytes of files and the texts of links (RFC 1813, 3.3.5 to 3.3.7).
 
-ghost use Rattle.std.specs.Prelude.{◌≡◌, ◌+◌, ◌<◌, ◌≤◌, ◌^◌, ℕ, [], IfOk, MatchResult, None, Some, length};
+ghost use Rattle.std.specs.Prelude.{◌≡◌, ◌+◌, ◌<◌, ◌≤◌, ℕ, [], IfOk, MatchResult, None, Some};
+ghost use Rattle.std.specs.Prelude.{length};
 ghost use Rattle.std.specs.Prelude.{option_copied};
 ghost use Rattle.nfs_machine.specs.Checks.{text_in};
 ghost use Rattle.nfs_machine.specs.Data.{read_at, resized, size_limit, transfer_limit, written};

@@ -1,6 +1,7 @@
 //! The entries of a directory in order of cookie (RFC 1813, 3.3.16).
 
-ghost use Rattle.std.specs.Prelude.{◌≡◌, ℕ, ◌<◌, ◌^◌, ◌++◌, [], length, map, IfOk, MatchResult, OnOk};
+ghost use Rattle.std.specs.Prelude.{◌≡◌, ℕ, ◌<◌, ◌^◌, ◌++◌, [], length, map, IfOk, MatchResult};
+ghost use Rattle.std.specs.Prelude.{OnOk};
 ghost use Rattle.std.specs.Prelude.{◌⊎◌, IfErr, IsSome, Some, option_copied, true};
 ghost use Rattle.nfs_machine.specs.Attributes.{entries_of};
 ghost use Rattle.nfs_machine.specs.Pages.{all_entries, behind};
@@ -24,7 +25,7 @@ use bytes::Bytes;
 use nfs_objects::{
     Addr, Content, Draft, EntryMap, EntryPage, Halt, NamedLeaf, PAGE_COOKIES, PageList,
 };
-use std::alloc::{AllocError, Global};
+use std::alloc::AllocError;
 use std::marker::Model;
 use std::vec::IntoIter;
 

@@ -1,6 +1,7 @@
 //! A name that goes from a directory: out of its page, and out of its part.
 
-ghost use Rattle.std.specs.Prelude.{◌≡◌, ◌<◌, ◌≤◌, ◌^◌, ◌==◌, [], IfOk, MatchResult, OnOk, Some, if◌then◌else◌, suc};
+ghost use Rattle.std.specs.Prelude.{◌≡◌, ◌<◌, ◌≤◌, ◌^◌, ◌==◌, [], IfOk, MatchResult, OnOk};
+ghost use Rattle.std.specs.Prelude.{Some, if◌then◌else◌, suc};
 ghost use Rattle.nfs_machine.specs.RemoveSteps.{without};
 ghost use Rattle.nfs_objects.specs.Directories.{IsPlace};
 ghost use Rattle.nfs_objects.specs.Drafts.{MayChange};

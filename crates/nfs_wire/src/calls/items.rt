@@ -1,7 +1,7 @@
 //! Items that the arguments of several procedures share.
 
 ghost use Rattle.nfs_xdr.specs.Reading.{ReadsFront, Shares};
-ghost use Rattle.nfs_wire.specs.Arguments.{nfs_fh3, filename3, diropargs3, verf3, place_value, verifier_value};
+ghost use Rattle.nfs_wire.specs.Arguments.{nfs_fh3, diropargs3, verf3, place_value, verifier_value};
 ghost use Rattle.nfs_wire.specs.Parts.{place_parts_value};
 
 use crate::calls::{Place, Verifier};

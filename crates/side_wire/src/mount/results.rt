@@ -1,6 +1,6 @@
 //! Results of MOUNT (RFC 1813, 5.2).
 
-ghost use Rattle.std.specs.Prelude.{◌≡◌, ◌≤◌, length, map, IfOk, Ok};
+ghost use Rattle.std.specs.Prelude.{◌≡◌, ◌≤◌, length, IfOk, Ok};
 ghost use Rattle.std.specs.List.{All};
 ghost use Rattle.nfs_xdr.specs.Writing.{WritesResult};
 ghost use Rattle.side_wire.specs.Mount.{mount_status_number, mnt_result, dump_result, export_result, groups};

@@ -8,12 +8,12 @@ ghost use Rattle.side_wire.specs.declared.nlm.TestStatus.TheVariants.{Denied};
 ghost use Rattle.side_wire.specs.Nlm.{test_result, plain_result, share_result, HasTestResultForm, HasTestStatusForm};
 ghost use Rattle.side_wire.specs.Nlm.{HasResultForm, IsNetobj};
 ghost use Rattle.side_wire.specs.Parts.{lock_parts_value, holder_parts_value, status_parts_value, share_parts_value};
-ghost use Rattle.side_wire.specs.NlmTypes.{netobj, nlm4_stats, nlm_status_number, nlm4_lock, lock_value, nlm4_holder};
-ghost use Rattle.side_wire.specs.NlmTypes.{holder_value, nlm4_testrply, test_status_value, nlm4_testres};
+ghost use Rattle.side_wire.specs.NlmTypes.{netobj, nlm4_stats, nlm_status_number, nlm4_lock, nlm4_holder};
+ghost use Rattle.side_wire.specs.NlmTypes.{nlm4_testrply, test_status_value, nlm4_testres};
 ghost use Rattle.side_wire.specs.NlmTypes.{test_result_value, nlm4_res, result_value, nlm4_testargs, test_value};
 ghost use Rattle.side_wire.specs.NlmTypes.{nlm4_lockargs, lock_arguments_value, nlm4_cancargs, cancel_value};
 ghost use Rattle.side_wire.specs.NlmTypes.{nlm4_unlockargs, unlock_value, fsh4_mode, mode_number, fsh4_access};
-ghost use Rattle.side_wire.specs.NlmTypes.{access_number, nlm4_share, share_value, nlm4_shareargs};
+ghost use Rattle.side_wire.specs.NlmTypes.{access_number, nlm4_share, nlm4_shareargs};
 ghost use Rattle.side_wire.specs.NlmTypes.{share_arguments_value, nlm4_notify, free_all_value};
 
 use super::parts::{HolderParts, LockParts, ShareParts, StatusParts};

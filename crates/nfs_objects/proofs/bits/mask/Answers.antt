@@ -1,5 +1,4 @@
 use Rattle.std.proofs.Common.{arith}
-use Rattle.std.proofs.lemmas.Bool.{ltb-false, ltb-true}
 use Rattle.nfs_objects.proofs.BitSets.{mask-all, mask-made}
 use Rattle.nfs_objects.proofs.bits.mask.Goals as goal
 

@@ -1,4 +1,4 @@
-use Rattle.std.proofs.Common.{◌≡◌, ◌∙◌, ◌%◌, ◌^◌, ℕ, ap, arith}
+use Rattle.std.proofs.Common.{◌∙◌, ◌%◌, ◌^◌, ℕ, ap, arith}
 use Rattle.std.proofs.Math.Pow.{mod-mod-pow}
 use Rattle.std.proofs.Math.Seq.{take_all}
 use Rattle.std.proofs.lemmas.List.Sums.{sum_by_more}

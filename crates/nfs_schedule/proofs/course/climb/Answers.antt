@@ -8,4 +8,4 @@ next_above-requires c =
 pub returns : goal.returns
 returns c =
     climb_next c.args.txn.now _ c.in-Nfs.call _ c.requires c.call.ensures c.in-Nfs.is c.view.ensures c.args.alloc _ _
-    c.in_ok-address.ensures
+    c.in_ok-address.ensures.may

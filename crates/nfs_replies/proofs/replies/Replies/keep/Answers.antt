@@ -1,7 +1,6 @@
 use Rattle.std.proofs.Common.{◌≡◌, Some, None, sym, ap, subst, ◌∙◌}
 use Rattle.std.specs.Map.{lookup}
 use Rattle.std.specs.Option.{option_copied_mut}
-use Rattle.lru.specs.LruCache.{lru_cache, put_entries}
 use Rattle.nfs_replies.specs.Kept.{ReplyEvent, reply_for, same_bytes}
 use Rattle.nfs_replies.specs.Kept.ReplyEvent.{Replied}
 use Rattle.nfs_replies.specs.Replies.{IsListed, RepliesValue, kept_of}
