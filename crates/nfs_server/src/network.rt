@@ -31,7 +31,7 @@ use crate::options::{Network, Options, Transport};
 use crate::started::open;
 use crossbeam_channel::{Receiver, bounded};
 use nfs_engine::{Config, Engine};
-use nfs_machine::Limits;
+use nfs_machine::{Limits, Moments};
 use nfs_pool::{Pool, Seat};
 use std::alloc::{AllocError, Global};
 use std::marker::Brand;

@@ -9,6 +9,7 @@ use crate::network::bell::Bell;
 use crate::network::line::Line;
 use crate::network::places::{Place, Places};
 use nfs_engine::{Arrival, Asked, Faulted, Host, Reading, Receipt, Received};
+use nfs_machine::Moments;
 use nfs_pool::{Open, PoolError, Seat, Sent};
 use nfs_rpc::Record;
 use nfs_schedule::answer::refusal;
