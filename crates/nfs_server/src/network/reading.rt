@@ -89,10 +89,20 @@ fn next_records(alloc: Global, connection: &mut Connection) -> Result<Vec<Record
 {
     let mut records = Vec::new(alloc);
     'records: for _ in 0..MOST_RECORDS {
-        let Some(record) = connection.next() else {
+        if !add_next(&mut records, connection)? {
             break;
-        };
-        records.push(record)?;
+        }
     }
     Ok(records)
+}
+
+/// Adds the next record that has come. Whether there was one.
+fn add_next(records: &mut Vec<Record>, connection: &mut Connection) -> Result<bool, AllocError>
+    ensures { connection.new.full ≡ connection.old.full }
+{
+    let Some(record) = connection.next() else {
+        return Ok(false);
+    };
+    records.push(record)?;
+    Ok(true)
 }
