@@ -3,7 +3,7 @@
 ghost use Rattle.std.specs.Prelude.{◌≡◌, ◌+◌, ◌≤◌, ◌<◌, ◌^◌, ◌==◌, ◌++◌, [], IfOk};
 ghost use Rattle.std.specs.Prelude.{OnErr, OnOk, length, replicate};
 ghost use Rattle.std.specs.Prelude.{nat_eq, vec_capacity, vec_len};
-ghost use Rattle.std.specs.List.{flat_map, list_all, zip};
+ghost use Rattle.std.specs.List.{concat, list_all, zip};
 ghost use Rattle.std.specs.Cmp.Lexicographic.{nat_list_eq_equiv, pointwise};
 ghost use Rattle.std.specs.Cmp.{partial_equiv_from_equiv};
 
@@ -133,12 +133,33 @@ impl Eq for Pieces {
     ghost laws = { nat_list_eq_equiv };
 }
 
-/// Whether the bytes of both are the same, as far as both go.
+/// Whether the bytes of both are the same, as far as both go. Of both the front that they have in one piece each is
+/// compared at once.
 fn agree(ours: &[Bytes], theirs: &[Bytes]) -> bool
-    ensures { result ≡ list_all (λ pair. pair.0 == pair.1)
-        (zip (flat_map (λ bytes. bytes) ours.now) (flat_map (λ bytes. bytes) theirs.now)) }
+    ensures { result ≡ list_all (λ pair. pair.0 == pair.1) (zip (concat ours.now) (concat theirs.now)) }
 {
-    let ours = ours.iter().flat_map(|piece| piece.as_slice());
-    let theirs = theirs.iter().flat_map(|piece| piece.as_slice());
-    ours.zip(theirs).all(|(our, their)| *our == *their)
+    let (mut our, mut our_rest): (&[u8], &[Bytes]) = (&[], ours);
+    let (mut their, mut their_rest): (&[u8], &[Bytes]) = (&[], theirs);
+    'fronts: loop {
+        if our.is_empty() {
+            let Some((first, rest)) = our_rest.split_first() else {
+                return true;
+            };
+            our = first.as_slice();
+            our_rest = rest;
+        } else if their.is_empty() {
+            let Some((first, rest)) = their_rest.split_first() else {
+                return true;
+            };
+            their = first.as_slice();
+            their_rest = rest;
+        } else {
+            let front = our.len().min(their.len());
+            if our[..front] != their[..front] {
+                return false;
+            }
+            our = &our[front..];
+            their = &their[front..];
+        }
+    }
 }
