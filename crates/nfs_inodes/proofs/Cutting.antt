@@ -39,7 +39,7 @@ use Rattle.nfs_inodes.proofs.Written.{leaves-as, leaves-both, leaves-none, leave
 use Rattle.nfs_objects.specs.declared.modes.Mode.{Mode}
 use Rattle.nfs_inodes.specs.Asking.{AsksFor, with_wish}
 use Rattle.nfs_inodes.specs.Blocks.{HasPages}
-use Rattle.nfs_inodes.specs.Cuts.{CutsBlock, CutsBlocks, CutsNext, CutsPage, EndsAt, IsBehind, IsCleared, IsCutAt}
+use Rattle.nfs_inodes.specs.Cuts.{CutsBlock, CutsBlocks, CutsNext, CutsPage, IsBehind, IsCleared, IsCutAt}
 use Rattle.nfs_inodes.specs.Cuts.{IsCutTo}
 use Rattle.nfs_inodes.specs.Cuts.{IsResized}
 use Rattle.nfs_inodes.specs.Cuts.{IsPageIn, IsTold, IsToldIn, KnowsMaps, KnowsTold, ShowsMap, ShowsMaps, cut_to}
@@ -201,6 +201,18 @@ module _ (file page : ℕ) (bits : Bits) (from : ℕ) where
             is = is.is;
           }
 
+  -- those up to the end of the map are all
+  pub told-within : (places : ℕ) → places ≤ 512 → (b : Addr) → IsTold file page bits from places b →
+      IsTold file page bits from 512 b
+  told-within places within b is =
+      let below : is.place < 512 = omega (arith, within, is.below) in
+      record { place = is.place; below = below; told = is.told; behind = is.behind; is = is.is }
+
+  pub told-end : (places : ℕ) → ((p : ℕ) → has bits p ≡ true → p < places) → (b : Addr) →
+      IsTold file page bits from 512 b → IsTold file page bits from places b
+  told-end places ends b is =
+      record { place = is.place; below = ends is.place is.told; told = is.told; behind = is.behind; is = is.is }
+
 -- one place more is asked for, or not
 module _ (d : DraftValue) (file page : ℕ) (bits : Bits) (from : ℕ) (old mid : List (Addr × Mode)) where
   abbrev Told : ℕ → Addr → Type 0
@@ -222,6 +234,12 @@ module _ (d : DraftValue) (file page : ℕ) (bits : Bits) (from : ℕ) (old mid 
   told-skip places none asks =
       asks-as d (Told places) (Told (places + 1)) (Told places) (Told (places + 1)) old mid
       (told-less file page bits from places) (told-same file page bits from places none) asks
+
+  pub told-all : (places : ℕ) → places ≤ 512 → ((p : ℕ) → has bits p ≡ true → p < places) →
+      AsksFor d (Told places) (Told places) old mid → AsksFor d (Told 512) (Told 512) old mid
+  told-all places within ends asks =
+      asks-as d (Told places) (Told 512) (Told places) (Told 512) old mid
+      (told-within file page bits from places within) (told-end file page bits from places ends) asks
 
 -- ---- of all pages
 module _ (file first : ℕ) (maps : List Bits) (from : ℕ) where
@@ -447,6 +465,15 @@ module _ (old : DraftValue) (n page : ℕ) (bits : Bits) (size : ℕ) where
             next.leaves.stands s (addresses.Block n (page * 512 + place))
             (other-block n here (page * 512 + place) (λ e. absurd (omega (arith, e, apart))))
             ∙ so.cut s place bytes fits (omega (arith, below, apart)) told behind there
+
+    -- up to the end of the map, all are
+    pub cuts-all : places ≤ 512 → ((p : ℕ) → has bits p ≡ true → p < places) → CutsBlocks old mid n page bits size 512
+    cuts-all within ends = record {
+      lays = so.lays;
+      leaves = leaves-as old mid (λ a. IsTold n page bits from 512 a → ⊥) (λ a. IsTold n page bits from places a → ⊥)
+          so.leaves (λ a none told. none (told-within n page bits from places within a told));
+      cut = λ s place bytes fits below told. so.cut s place bytes fits (ends place told) told;
+    }
 
     -- what is known of the block at the next place is as before
     pub cuts-known : known_at mid (addresses.Block n (page * 512 + places)) ≡
@@ -847,7 +874,8 @@ module _ (old : DraftValue) (n : ℕ) (pages : Bits) (size : ℕ) (shows : HasPa
               block-number e = cc
 
     -- behind the last page nothing stands
-    pub cut-end : size / block_size / 512 ≤ page → EndsAt pages page → IsCutAt old mid n size left
+    pub cut-end : size / block_size / 512 ≤ page → ((p : ℕ) → has pages p ≡ true → p < page) →
+        IsCutAt old mid n size left
     cut-end first ends = record {
       lays = so.lays;
       inodes = λ q. so.leaves.known (addresses.Inode q) (record { map = λ p before. refl; block = λ i before. refl });
@@ -948,27 +976,6 @@ larger d n before size pages within shows = record {
 -- ---- how pages are read
 abbrev pub blank : Bits
 blank = record { words = [] }
-
--- the number behind the last one that is there
-pub has-below : (bits : Bits) (n : ℕ) → has bits n ≡ true → n < 512
-has-below bits n there = ltb-true n 512 ((and_parts (nat_lt n 512)
-    (bit_at (slice_index_or bits.words (n / 64) 0) (n % 64) == 1) there).0)
-
-pub behind-more : (pages : Bits) (page : ℕ) →
-    (page + 1 ≤ page + 1) × ((n : ℕ) → has pages n ≡ true → n < page + 1 → n < page + 1)
-behind-more pages page = (omega arith, λ n there below. below)
-
-pub behind-same : (pages : Bits) (page end : ℕ) → has pages page ≡ false → end ≤ page →
-    ((n : ℕ) → has pages n ≡ true → n < page → n < end) →
-    (end ≤ page + 1) × ((n : ℕ) → has pages n ≡ true → n < page + 1 → n < end)
-behind-same pages page end none within so = (
-  omega (arith, within),
-  λ n there below. elim (n == page) as (λ b. (n == page) ≡ b → n < end) [
-    | true ↦ λ same. absurd (let no : true ≡ false = sym there ∙ ap (has pages) ((unsigned_Decides n page).0 same) ∙
-        none in cc)
-    | false ↦ λ other. so n there (let apart = differs n page other in omega (arith, below, apart))
-  ] refl,
-)
 
 -- one map more
 pub maps-none : (d : DraftValue) (n first : ℕ) (maps : List Bits) → maps ≡ [] → ShowsMaps d n first first maps

@@ -33,10 +33,6 @@ pub record ShowsMaps (d : DraftValue) (file first end : ℕ) (maps : List Bits) 
   pub counted : length maps ≡ end - first
   pub each : (page : ℕ) → first ≤ page → page < end → ShowsMap d file page (told_at maps first page)
 
--- no number from this one on is in the set
-abbrev pub EndsAt : Bits → ℕ → Type 0
-EndsAt bits end = (n : ℕ) → has bits n ≡ true → n < end
-
 -- the draft knows each map page of these, from one on and before another
 abbrev pub KnowsMaps : DraftValue → (file : ℕ) → Bits → (first end : ℕ) → Type 0
 KnowsMaps d file pages first end = (page : ℕ) → first ≤ page → page < end → has pages page ≡ true →

@@ -2,15 +2,16 @@
 use Rattle.std.proofs.Common.{◌≡◌, ◌≢◌, ◌==◌, ◌&&◌, ◌||◌, ℕ, ◌<◌, ◌+◌, ◌*◌, ◌/◌, ◌%◌, ◌^◌, Bool, true, false, nat_lt}
 use Rattle.std.proofs.Common.{List, length, replicate, suc, zero, slice_index_or, slice_set, bit_or, refl, sym, ap, ◌∙◌, subst, arith}
 use Rattle.std.proofs.Math.Bool.{or-false}
-use Rattle.std.proofs.lemmas.Nat.{one_shl}
-use Rattle.std.proofs.lemmas.Bool.{lt-ltb, ltb-false, ltb-true}
-use Rattle.std.proofs.Common.{cond, min, bit_and, [], ◌∷◌, ◌-◌, ◌≤◌}
+use Rattle.std.proofs.Math.Nat.{div-eq_of_lt-le, pow-suc}
+use Rattle.std.proofs.lemmas.Nat.{leading_top, one_shl}
+use Rattle.std.proofs.lemmas.Bool.{and_from, and_parts, cases_eq, cases_lt, eq-eqb, lt-ltb, ltb-false, ltb-true}
+use Rattle.std.proofs.Common.{cond, min, bit_and, [], ◌∷◌, ◌-◌, ◌≤◌, inl, inr}
 use Rattle.std.proofs.lemmas.List.{get_or-set_other, get_or-set_same}
-use Rattle.std.proofs.lemmas.Nat.Bits.{bit_at-lt, bit_at-zero, bit_at_and, bit_at_ones, bit_at_ones_above, bit_at_set_other}
-use Rattle.std.proofs.lemmas.Nat.Bits.{bit_at_set_same}
+use Rattle.std.proofs.lemmas.Nat.Bits.{bit_at-lt, bit_at-zero, bit_at_above, bit_at_and, bit_at_ones, bit_at_ones_above}
+use Rattle.std.proofs.lemmas.Nat.Bits.{bit_at_set_other, bit_at_set_same}
 use Rattle.std.specs.Cmp.{unsigned_Decides}
-use Rattle.std.specs.Int.{bit_at, w64}
-use Rattle.nfs_objects.specs.Bits.{IsMask, IsWordBelow, has, no_bits}
+use Rattle.std.specs.Int.{bit_at, leading_zeros, w64}
+use Rattle.nfs_objects.specs.Bits.{IsEnd, IsMask, IsWordBelow, has, no_bits}
 use Rattle.nfs_objects.specs.declared.bits.Bits.{Bits}
 
 module _ (words : List ℕ) (m : ℕ) (within : m < 512) (eight : length words ≡ 8) where
@@ -160,3 +161,65 @@ below-has words number left each n = by (nat_lt n 512) refl
             ((bit_at (slice_index_or words (n / 64) 0) (n % 64) == 1) && b)
         cut true = sym (and_true (bit_at (slice_index_or words (n / 64) 0) (n % 64) == 1))
         cut false = sym (and_false (bit_at (slice_index_or words (n / 64) 0) (n % 64) == 1))
+
+-- ---- the number behind the last one
+-- the highest bit of a word
+bit-top : (bits j : ℕ) → 2 ^ j ≤ bits → bits < 2 ^ suc j → bit_at bits j ≡ 1
+bit-top bits j least most =
+    let less : 1 * 2 ^ j ≤ bits = omega (arith, least) in
+    let more : bits < (1 + 1) * 2 ^ j = omega (arith, most, pow-suc 2 j) in
+    let one : bits / 2 ^ j ≡ 1 = div-eq_of_lt-le (2 ^ j) less more in
+    ap (λ q. q % 2) one
+
+-- the last word that is not 0 is at this place
+module _ (words : List ℕ) (place : ℕ) (within : place < 8)
+    (rest : (k : ℕ) → place < k → slice_index_or words k 0 ≡ 0) where
+  abbrev last_word : ℕ
+  last_word = slice_index_or words place 0
+
+  -- and this is its highest bit
+  module _ (j : ℕ) (small : j < 64) (least : 2 ^ j ≤ last_word) (most : last_word < 2 ^ suc j) where
+    none-above : (n : ℕ) → place * 64 + j < n → bit_at (slice_index_or words (n / 64) 0) (n % 64) ≡ 0
+    none-above n above = elim (cases_eq (n / 64) place) [
+      | inl same ↦
+          ap (λ p. bit_at (slice_index_or words p 0) (n % 64)) same
+          ∙ bit_at_above last_word (suc j) (n % 64) most (omega (arith, same, above))
+      | inr other ↦
+          ap (λ w. bit_at w (n % 64)) (rest (n / 64) (omega (arith, other, above, small))) ∙ bit_at-zero (n % 64)
+    ]
+
+    has-top : has (record { words = words }) (place * 64 + j) ≡ true
+    has-top =
+        let at : (place * 64 + j) / 64 ≡ place = omega (arith, small) in
+        let bit : (place * 64 + j) % 64 ≡ j = omega (arith, small) in
+        let one : bit_at (slice_index_or words ((place * 64 + j) / 64) 0) ((place * 64 + j) % 64) ≡ 1 =
+        ap (λ p. bit_at (slice_index_or words p 0) ((place * 64 + j) % 64)) at ∙ ap (bit_at last_word) bit
+        ∙ bit-top last_word j least most in
+        and_from (nat_lt (place * 64 + j) 512)
+        (bit_at (slice_index_or words ((place * 64 + j) / 64) 0) ((place * 64 + j) % 64) == 1)
+        (lt-ltb (place * 64 + j) 512 (omega (arith, within, small))) (eq-eqb _ 1 one)
+
+    is-end : IsEnd (record { words = words }) (place * 64 + suc j)
+    is-end = record {
+      above = λ n there. elim (cases_lt (place * 64 + j) n) [
+        | inl more ↦ absurd (let one = and_parts (nat_lt n 512)
+            (bit_at (slice_index_or words (n / 64) 0) (n % 64) == 1) there in
+            let set : bit_at (slice_index_or words (n / 64) 0) (n % 64) ≡ 1 = (unsigned_Decides _ 1).0 one.1 in
+            let none = none-above n more in omega (arith, set, none))
+        | inr below ↦ omega (arith, below)
+      ];
+      last = λ some. subst (λ n. has (record { words = words }) n ≡ true) (omega arith) has-top;
+    }
+
+  pub end-found : last_word ≢ 0 → last_word < 2 ^ 64 → (end : ℕ) →
+      end ≡ place * 64 + (64 - leading_zeros w64 last_word) → (end ≤ 512) × IsEnd (record { words = words }) end
+  end-found some fits end is = by (leading_top 64 last_word (omega (arith, some)) fits)
+    where
+      by : (j : ℕ) × (leading_zeros w64 last_word + suc j ≡ 64) × (2 ^ j ≤ last_word) × (last_word < 2 ^ suc j) →
+          (end ≤ 512) × IsEnd (record { words = words }) end
+      by (j, counted, least, most) =
+          let whole : place * 64 + suc j ≡ end = omega (arith, is, counted) in
+          let small : j < 64 = omega (arith, counted) in (
+            omega (arith, whole, small, within),
+            subst (IsEnd (record { words = words })) whole (is-end j small least most),
+          )

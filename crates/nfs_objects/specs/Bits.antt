@@ -1,5 +1,5 @@
 -- Sets of numbers below 512, a bit for each.
-use Rattle.std.specs.Prelude.{◌≡◌, ◌<◌, ℕ, ◌+◌, ◌*◌, ◌/◌, ◌%◌, Bool, ◌==◌, ◌&&◌}
+use Rattle.std.specs.Prelude.{◌≡◌, ◌<◌, ℕ, ◌+◌, ◌-◌, ◌*◌, ◌/◌, ◌%◌, Bool, true, ◌==◌, ◌&&◌}
 use Rattle.std.specs.Prelude.{List, nat_lt, replicate, slice_index_or}
 use Rattle.std.specs.Prelude.{if◌then◌else◌}
 use Rattle.std.specs.Int.{bit_at}
@@ -16,6 +16,11 @@ no_bits = record { words = replicate 8 0 }
 
 abbrev pub same_bits : Bits → Bits → Bool
 same_bits a b = same_bytes a.words b.words
+
+-- no number from this one on is in the set, and the one before it is, unless this is 0
+pub record IsEnd (bits : Bits) (end : ℕ) : Type 0 where
+  pub above : (n : ℕ) → has bits n ≡ true → n < end
+  pub last : 0 < end → has bits (end - 1) ≡ true
 
 -- the first so many bits of a word
 abbrev pub IsMask : (count mask : ℕ) → Type 0

@@ -1,7 +1,7 @@
 //! Sets of numbers below 512.
 
-ghost use Rattle.std.specs.Prelude.{◌≡◌, ◌<◌, ◌==◌, ◌&&◌, ◌||◌, ℕ, nat_lt};
-ghost use Rattle.nfs_objects.specs.Bits.{IsMask, IsWordBelow, has, no_bits, same_bits};
+ghost use Rattle.std.specs.Prelude.{◌≡◌, ◌<◌, ◌≤◌, ◌==◌, ◌&&◌, ◌||◌, ℕ, nat_lt};
+ghost use Rattle.nfs_objects.specs.Bits.{IsEnd, IsMask, IsWordBelow, has, no_bits, same_bits};
 
 /// How many numbers a set of bits may have.
 pub const BITS: u64 = 512;
@@ -35,6 +35,20 @@ impl Bits {
         ensures { result ≡ has self number }
     {
         number < BITS && (self.words[(number / WORD) as usize] >> (number % WORD)) & 1 == 1
+    }
+
+    /// The number behind the last one in it; 0 where there is none.
+    pub fn end(self) -> u64
+        ensures small { result ≤ 512 }
+        ensures end { IsEnd self result }
+    {
+        for place in (0..self.words.len()).rev() {
+            let word = self.words[place];
+            if word != 0 {
+                return place as u64 * WORD + u64::from(u64::BITS - word.leading_zeros());
+            }
+        }
+        0
     }
 
     /// The same with this number.

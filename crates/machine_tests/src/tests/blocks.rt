@@ -79,6 +79,15 @@ fn are_below() -> bool {
         && bits.below(0).is_none()
 }
 
+/// Whether the number behind the last one of a set is told; 0 of a set with none.
+fn are_ended() -> bool {
+    Bits::none().end() == 0
+        && Bits::none().with(0).end() == 1
+        && Bits::none().with(63).with(5).end() == 64
+        && Bits::none().with(63).with(64).end() == 65
+        && Bits::none().with(511).with(0).end() == 512
+}
+
 #[test]
 fn blocks_are_written_and_cut(rt: HostRuntime) -> Result<(), AllocError> {
     assert_eq!(rt; first_wrong_write(rt.alloc())?, None);
@@ -92,4 +101,5 @@ fn blocks_are_written_and_cut(rt: HostRuntime) -> Result<(), AllocError> {
 fn bits_are_set_and_told(rt: HostRuntime) {
     assert!(rt; are_in());
     assert!(rt; are_below());
+    assert!(rt; are_ended());
 }

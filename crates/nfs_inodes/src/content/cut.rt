@@ -7,7 +7,7 @@ ghost use Rattle.nfs_objects.specs.Drafts.{MayChange};
 ghost use Rattle.nfs_objects.specs.Values.{known_at};
 ghost use Rattle.nfs_inodes.specs.Asking.{AsksFor};
 ghost use Rattle.nfs_inodes.specs.Blocks.{HasPages};
-ghost use Rattle.nfs_inodes.specs.Cuts.{CutsBlock, CutsBlocks, CutsNext, CutsPage, EndsAt, IsCutAt, IsResized, IsTold};
+ghost use Rattle.nfs_inodes.specs.Cuts.{CutsBlock, CutsBlocks, CutsNext, CutsPage, IsCutAt, IsResized, IsTold};
 ghost use Rattle.nfs_inodes.specs.Cuts.{KnowsMaps, KnowsTold, ShowsMap, ShowsMaps, told_at};
 ghost use Rattle.nfs_inodes.specs.Stops.{StillStands, StopsAt};
 
@@ -59,7 +59,7 @@ pub(crate) fn cut_off(
     ensures { MatchResult result (IsCutAt draft.old draft.new number size) (StopsAt draft.old []) }
 {
     let first = size / BLOCK / MAP_BLOCKS;
-    let end = behind_last(pages);
+    let end = pages.end();
     let maps = read_maps(draft, number, pages, first, end)?;
     ask_blocks(draft, number, &maps, first, end, size / BLOCK)?;
     let mut left = pages.below(first);
@@ -98,20 +98,6 @@ fn cut_next(
     } else {
         Ok(left)
     }
-}
-
-/// The number behind the last map page that is there.
-fn behind_last(pages: Bits) -> u64
-    ensures small { result ≤ 512 }
-    ensures ends { EndsAt pages result }
-{
-    let mut end = 0;
-    for page in 0..MAP_BLOCKS {
-        if pages.has(page) {
-            end = page + 1;
-        }
-    }
-    end
 }
 
 /// What the map pages from one on tell, up to another; of one that is not there, of no block.
@@ -212,7 +198,7 @@ fn ask_page(
     ensures { OnOk result (AsksFor draft.now (IsTold number page bits from 512) (IsTold number page bits from 512)
         asking.old.asked.items asking.new.asked.items) }
 {
-    for place in 0..MAP_BLOCKS {
+    for place in 0..bits.end() {
         let index = page * MAP_BLOCKS + place;
         if bits.has(place) && index >= from {
             let address = Addr::Block {
@@ -260,7 +246,7 @@ fn cut_blocks(
         (λ _. CutsBlocks draft.old draft.new number page bits size 512)
         (StopsAt draft.old []) }
 {
-    for place in 0..MAP_BLOCKS {
+    for place in 0..bits.end() {
         let index = page * MAP_BLOCKS + place;
         if bits.has(place) && index >= size / BLOCK {
             cut_block(draft, number, index, size.saturating_sub(index * BLOCK))?;

@@ -1,5 +1,5 @@
-use Rattle.std.proofs.Common.{sym, inl, inr}
-use Rattle.nfs_inodes.proofs.Cutting.{told-more, told-skip}
+use Rattle.std.proofs.Common.{arith, sym, inl, inr}
+use Rattle.nfs_inodes.proofs.Cutting.{told-all, told-more, told-skip}
 use Rattle.nfs_inodes.proofs.content.cut.ask_page.Goals as goal
 use Rattle.nfs_inodes.proofs.content.cut.ask_page.Goals.{then-has+then-index-from+in_ok-add, else-has}
 use Rattle.nfs_inodes.proofs.content.cut.ask_page.Goals.{else-has-via-then-has+else-index-from, else-has-via-else-has}
@@ -18,3 +18,11 @@ loop-place-preserved c = elim c.if-has.branch [
         | else-has-via-else-has v ↦ inl (sym v.if-has.ensures)
       ]) c.loop-place.invariant)
 ]
+
+pub returns : goal.returns
+returns c =
+    told-all c.args.draft.now c.args.number c.args.page c.args.bits c.args.from c.args.asking.now.asked.items
+    c.loop-place.asking.asked.items c.loop-place.place
+    (omega (arith, c.end-place-end.ensures.small, c.loop-place.auto.place-end))
+    (λ n there. (let e = c.end-place-end.ensures.end.above n there in omega (arith, e, c.loop-place-test.false)))
+    c.loop-place.invariant

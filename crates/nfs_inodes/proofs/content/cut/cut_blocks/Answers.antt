@@ -1,5 +1,5 @@
-use Rattle.std.proofs.Common.{inl, inr, sym}
-use Rattle.nfs_inodes.proofs.Cutting.{cuts-next, cuts-skip}
+use Rattle.std.proofs.Common.{arith, inl, inr, sym}
+use Rattle.nfs_inodes.proofs.Cutting.{cuts-all, cuts-next, cuts-skip}
 use Rattle.nfs_inodes.proofs.content.cut.cut_blocks.Goals as goal
 use Rattle.nfs_inodes.proofs.content.cut.cut_blocks.Goals.{then-has+then-index-size+in_ok-cut_block, else-has}
 use Rattle.nfs_inodes.proofs.content.cut.cut_blocks.Goals.{else-has-via-then-has+else-index-size}
@@ -18,3 +18,9 @@ loop-place-preserved c = elim c.if-has.branch [
         | else-has-via-else-has v ↦ inl (sym v.if-has.ensures)
       ]))
 ]
+
+pub returns : goal.returns
+returns c =
+    cuts-all c.args.draft.now c.args.number c.args.page c.args.bits c.args.size c.loop-place.draft c.loop-place.place
+    c.loop-place.invariant (omega (arith, c.end-place-end.ensures.small, c.loop-place.auto.place-end))
+    (λ n there. (let e = c.end-place-end.ensures.end.above n there in omega (arith, e, c.loop-place-test.false)))

@@ -48,4 +48,4 @@ pub returns : goal.returns
 returns c =
     cut-end c.args.draft.now c.args.number c.args.pages c.args.size c.requires.pages c.loop-page.draft c.loop-page.page
     c.loop-page.left c.loop-page.invariant c.loop-page.auto.page (λ n there.
-    (let e = c.behind_last-end.ensures.ends n there in omega (arith, e, c.loop-page-test.false)))
+    (let e = c.end-end.ensures.end.above n there in omega (arith, e, c.loop-page-test.false)))
