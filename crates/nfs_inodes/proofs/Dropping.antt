@@ -15,7 +15,7 @@ use Rattle.nfs_objects.proofs.Laying.{enters-none, enters-page}
 use Rattle.nfs_objects.proofs.Seen.{known-stands}
 use Rattle.nfs_objects.specs.Directories.{AreApart, bucket_of, count_in, counted_down, has_some, in_page}
 use Rattle.nfs_objects.specs.Directories.{is_in_part, led_in_part, many, part_among, source_of, width_in, width_of, with_count}
-use Rattle.nfs_objects.specs.Entries.{leaf_of}
+use Rattle.nfs_objects.specs.Entries.{leaf_of, without_entry}
 use Rattle.nfs_objects.specs.Fits.{Fits}
 use Rattle.nfs_objects.specs.PageRuns.{lists}
 use Rattle.nfs_objects.specs.Stands.{IsPart, page_of, part_of, stored_page}
@@ -30,7 +30,7 @@ use Rattle.nfs_objects.specs.declared.object.Object.TheVariants as objects
 use Rattle.nfs_objects.specs.declared.page_list.PageRun.{PageRun}
 use Rattle.nfs_inodes.proofs.Dividing.{joined, parts-apart}
 use Rattle.nfs_inodes.proofs.Onward.{keeps-both, keeps-none, keeps-part, other-page, part-here, part-there, told}
-use Rattle.nfs_inodes.proofs.Paging.{pages-lost}
+use Rattle.nfs_inodes.proofs.Paging.{entry-gone, pages-lost}
 use Rattle.nfs_inodes.proofs.Parts.{part-lost}
 use Rattle.nfs_inodes.proofs.StillKnown.{keeps-written, knows-none}
 use Rattle.nfs_inodes.proofs.Written.{stands-here, stands-written}
@@ -76,6 +76,7 @@ some-passes test name (x ∷ es) e found passes =
 record Leads (es : List Entry) (name : List ℕ) (leaf : Leaf) : Type 0 where
   entry : Entry
   found : entry_of es name ≡ Some entry
+  cookie : leaf.cookie ≡ entry.cookie
   page : leaf.cookie / 64 ≡ entry.cookie / 64
 
 leads-there : (es : List Entry) (name : List ℕ) (leaf : Leaf) → option_map leaf_of (entry_of es name) ≡ Some leaf →
@@ -86,7 +87,12 @@ leads-there es name leaf is = by (entry_of es name) refl is
     by None found e = cc
     by (Some e) found same =
         let one : leaf_of e ≡ leaf = cc in
-        record { entry = e; found = found; page = ap (λ (l : Leaf). l.cookie / 64) (sym one) }
+        record {
+          entry = e;
+          found = found;
+          cookie = ap (λ (l : Leaf). l.cookie) (sym one);
+          page = ap (λ (l : Leaf). l.cookie / 64) (sym one);
+        }
 
 module _ (d : DraftValue) (n : ℕ) (before after : List PageRun) (leaf : Leaf) (name : List ℕ) where
   abbrev page : ℕ
@@ -160,7 +166,8 @@ module _ (d : DraftValue) (n : ℕ) (before after : List PageRun) (leaf : Leaf) 
       more false is = cc
 
   pub page-lost : (new : DraftValue) (old rest : List Entry) →
-      option_map page_of (known_at d (addresses.Page n page)) ≡ Some (Some old) → rest ≡ without old name
+      option_map page_of (known_at d (addresses.Page n page)) ≡ Some (Some old)
+      → rest ≡ without_entry old name leaf.cookie
       → new ≡ with_written d (addresses.Page n page) (stored_page rest) → lists before page ≡ true → ListsRest rest
       → PagesLose d new n before after leaf name
   page-lost new old rest known is put listed lists-rest =
@@ -186,7 +193,10 @@ module _ (d : DraftValue) (n : ℕ) (before after : List PageRun) (leaf : Leaf) 
           (let e : Some old ≡ Some (in_page page es) =
           sym (stands-told page_of d s (addresses.Page n page) (Some old) fits known)
           ∙ ap page_of (has.stand page) ∙ page-there (in_page page es) some in cc) in
-          let left : rest ≡ without (in_page page es) name = is ∙ ap (λ es. without es name) own in
+          let left : rest ≡ without (in_page page es) name =
+          is ∙ ap (λ l. without_entry l name leaf.cookie) own
+          ∙ ap (without_entry (in_page page es) name) leads.cookie
+          ∙ entry-gone (λ (e : Entry). e.cookie / 64 == page) name es leads.entry once leads.found in
           let new : Store = with_writes s (with_written d (addresses.Page n page) (stored_page rest)).writes in
           pages-lost (with_writes s d.writes) new n before after es name leads.entry once leads.found
           (subst (λ p. new.at (addresses.Page n p) ≡ stored_page (without (in_page p es) name)) leads.page

@@ -1,6 +1,6 @@
 -- An entry comes to its page, last, or goes from it: the other pages stay.
 use Rattle.std.proofs.Common.{◌≡◌, ◌⊎◌, ℕ, ◌/◌, ◌==◌, ◌||◌, Bool, true, false, cond, List, [], ◌∷◌, ◌++◌}
-use Rattle.std.proofs.Common.{Some, None, filter, inl, inr, refl, sym, ◌∙◌, ap, subst}
+use Rattle.std.proofs.Common.{Some, None, filter, inl, inr, not, refl, sym, ◌∙◌, ◌&&◌, ap, subst}
 use Rattle.std.specs.Cmp.Lexicographic.{bytes_decides, nat_list_eq_equiv}
 use Rattle.std.specs.List.{AllByRecursion}
 use Rattle.std.proofs.lemmas.Bool.{cases_eq, eq-eqb, ne_eqb}
@@ -12,6 +12,7 @@ use Rattle.nfs_machine.specs.State.{Entry}
 use Rattle.nfs_machine.specs.WellFormed.{NamesOnce}
 use Rattle.nfs_objects.proofs.Parting.{page-without}
 use Rattle.nfs_objects.specs.Directories.{has_some, in_page}
+use Rattle.nfs_objects.specs.Entries.{without_entry}
 use Rattle.nfs_objects.specs.PageRuns.{lists}
 use Rattle.nfs_objects.specs.Stands.{stored_page}
 use Rattle.nfs_objects.specs.Store.{Store}
@@ -72,6 +73,66 @@ absent-elsewhere test name (x ∷ es) e once found fails =
           | true ↦ ap (λ b. cond b (Some x) (entry_of (filter test es) name)) other ∙ gone
           | false ↦ gone
         ]
+
+-- all that have a name have this cookie
+abbrev NamedAt : List ℕ → (cookie : ℕ) → List Entry → Type 0
+NamedAt name cookie = AllByRecursion (λ (f : Entry). same_bytes f.name name ≡ true → f.cookie ≡ cookie)
+
+none-at : (name : List ℕ) (cookie : ℕ) (es : List Entry) →
+    AllByRecursion (λ (f : Entry). same_bytes name f.name ≡ false) es → NamedAt name cookie es
+none-at name cookie [] all = tt
+none-at name cookie (x ∷ es) all = (
+  λ is. absurd (let no : true ≡ false = sym is ∙ nat_list_eq_equiv.symm x.name name ∙ all.0 in cc),
+  none-at name cookie es all.1,
+)
+
+named-at : (name : List ℕ) (es : List Entry) (e : Entry) → NamesOnce es → entry_of es name ≡ Some e →
+    NamedAt name e.cookie es
+named-at name [] e once found = cc
+named-at name (x ∷ es) e once found = by (same_bytes x.name name) refl (λ is. named-at name es e once.1 is)
+  where
+    by : (b : Bool) → same_bytes x.name name ≡ b → (entry_of es name ≡ Some e → NamedAt name e.cookie es) →
+        NamedAt name e.cookie (x ∷ es)
+    by true here rest =
+        let is : Some x ≡ Some e = sym (ap (λ b. cond b (Some x) (entry_of es name)) here) ∙ found in
+        let same : x ≡ e = cc in (
+          λ named. ap (λ (y : Entry). y.cookie) same,
+          none-at name e.cookie es
+              (subst (λ n. AllByRecursion (λ (f : Entry). same_bytes n f.name ≡ false) es)
+              ((bytes_decides x.name name).0 here) once.0),
+        )
+    by false other rest = (
+      λ named. absurd (let no : true ≡ false = sym named ∙ other in cc),
+      rest (sym (ap (λ b. cond b (Some x) (entry_of es name)) other) ∙ found),
+    )
+
+filter-at : (name : List ℕ) (cookie : ℕ) (test : Entry → Bool) (es : List Entry) → NamedAt name cookie es →
+    NamedAt name cookie (filter test es)
+filter-at name cookie test [] all = tt
+filter-at name cookie test (x ∷ es) all =
+    elim (test x) as (λ b. NamedAt name cookie (cond b (x ∷ filter test es) (filter test es))) [
+      | true ↦ (all.0, filter-at name cookie test es all.1)
+      | false ↦ filter-at name cookie test es all.1
+    ]
+
+-- then it is enough to look at the names
+gone-at : (name : List ℕ) (cookie : ℕ) (es : List Entry) → NamedAt name cookie es →
+    without_entry es name cookie ≡ without es name
+gone-at name cookie [] all = refl
+gone-at name cookie (x ∷ es) all =
+    ap (λ b. cond b (x ∷ without_entry es name cookie) (without_entry es name cookie))
+    (alike (same_bytes x.name name) all.0)
+    ∙ ap (λ l. cond (not (same_bytes x.name name)) (x ∷ l) l) (gone-at name cookie es all.1)
+  where
+    alike : (b : Bool) → (b ≡ true → x.cookie ≡ cookie) → not ((x.cookie == cookie) && b) ≡ not b
+    alike true is = ap (λ t. not (t && true)) (eq-eqb x.cookie cookie (is refl))
+    alike false is = elim (x.cookie == cookie) as (λ t. not (t && false) ≡ true) [ true ↦ refl | false ↦ refl ]
+
+-- of those that pass a test, the entry that a name leads to is the one with that name
+pub entry-gone : (test : Entry → Bool) (name : List ℕ) (es : List Entry) (e : Entry) → NamesOnce es →
+    entry_of es name ≡ Some e → without_entry (filter test es) name e.cookie ≡ without (filter test es) name
+entry-gone test name es e once found =
+    gone-at name e.cookie (filter test es) (filter-at name e.cookie test es (named-at name es e once found))
 
 module _ (s t : Store) (n : ℕ) (before after : List PageRun) (entries : List Entry) where
   -- ---- an entry comes

@@ -5,10 +5,9 @@ ghost use Rattle.std.specs.Prelude.{length, option_map, slice_get};
 ghost use Rattle.std.specs.Prelude.{ℕ, not};
 ghost use Rattle.std.specs.Cmp.Lexicographic.{pointwise};
 ghost use Rattle.nfs_machine.specs.Pages.{behind};
-ghost use Rattle.nfs_machine.specs.RemoveSteps.{without};
 ghost use Rattle.nfs_machine.specs.WellFormed.{CookiesRise};
 ghost use Rattle.nfs_objects.specs.Directories.{has_some};
-ghost use Rattle.nfs_objects.specs.Entries.{entry};
+ghost use Rattle.nfs_objects.specs.Entries.{entry, without_entry};
 
 use crate::directory::Leaf;
 use bytes::Bytes;
@@ -126,17 +125,23 @@ impl EntryPage {
         Ok(EntryPage { entries })
     }
 
-    /// The same without this name. The entries themselves stay as they are.
+    /// The same without the entry that has this name and this cookie. The entries themselves stay as they are. A name
+    /// is compared only where the cookie is the same.
     ///
     /// # Errors
     ///
     /// There is no memory for the copy.
-    pub fn without_name(&self, alloc: Global, name: &[u8]) -> Result<EntryPage, AllocError>
-        ensures { IfOk result (λ page. page ≡ without self.now name.now) }
+    pub fn without_entry(
+        &self,
+        alloc: Global,
+        name: &[u8],
+        cookie: u64,
+    ) -> Result<EntryPage, AllocError>
+        ensures { IfOk result (λ page. page ≡ without_entry self.now name.now cookie) }
     {
         let mut entries = Vec::with_capacity(alloc, self.entries.len())?;
         for named in &self.entries {
-            if named.name.as_slice() != name {
+            if named.leaf.cookie != cookie || named.name.as_slice() != name {
                 entries.push(named.clone()?)?;
             }
         }

@@ -151,7 +151,7 @@ fn take_from_page(
     let Some(old) = draft.page(number, page)? else {
         return Ok(map.pages.clone()?);
     };
-    let entries = old.without_name(alloc, name)?;
+    let entries = old.without_entry(alloc, name, leaf.cookie)?;
     let is_empty = entries.is_empty();
     draft.put_page(number, page, entries)?;
     if is_empty {
