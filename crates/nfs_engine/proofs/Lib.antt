@@ -24,6 +24,7 @@ pub mod Lifted
 pub mod Listed
 pub mod Loosed
 pub mod Making
+pub mod Needing
 pub mod NlmSizes
 pub mod Opened
 pub mod Opener

@@ -1,16 +1,18 @@
 -- Commits: what is made before one, and what one writes.
 use Rattle.std.specs.Prelude.{◌≡◌, ◌+◌, ◌-◌, ◌^◌, ◌<◌, ◌≤◌, ℕ, false, min, []}
-use Rattle.std.specs.Prelude.{◌∷◌, ◌++◌, length, map, replicate, Option}
+use Rattle.std.specs.Prelude.{List, ◌∷◌, ◌++◌, length, map, replicate, Option}
 use Rattle.nfs_machine.specs.RpcReplies.{success_message}
 use Rattle.nfs_machine.specs.Run.{FromHost, Record}
 use Rattle.nfs_objects.specs.Store.{with_writes}
 use Rattle.nfs_objects.specs.Values.{write_value}
+use Rattle.nfs_objects.specs.declared.address.Addr.{Addr}
+use Rattle.nfs_objects.specs.declared.object.Object.{Object}
 use Rattle.nfs_engine.specs.Arrivals.{shared_value}
 use Rattle.nfs_engine.specs.Calls.{FinishedValue}
 use Rattle.nfs_engine.specs.Journal.{JournalValue, TakesPosted}
 use Rattle.nfs_engine.specs.Posting.{HaveForms, posted_bytes}
 use Rattle.nfs_engine.specs.Releases.{ReleaseValue}
-use Rattle.nfs_engine.specs.Tables.{store_of}
+use Rattle.nfs_engine.specs.Tables.{slots_needed, store_of}
 use Rattle.nfs_engine.specs.declared.journal.Committed.{Committed}
 use Rattle.nfs_engine.specs.declared.journal.Numbered.{Numbered}
 use Rattle.nfs_engine.specs.declared.journal.Receipt.{Receipt}
@@ -42,9 +44,9 @@ pub record SameJournal (old new : JournalValue) : Type 0 where
   pub outbox : new.outbox ≡ record old.outbox { room = new.outbox.room }
   pub base : new.base ≡ old.base
 
--- there is room for so many writes and messages, and for one more record
-pub record HasRoom (j : JournalValue) (writes messages : ℕ) : Type 0 where
-  pub objects : writes ≤ j.objects.room
+-- there is room for the slots that these writes need, for so many messages, and for one more record
+pub record HasRoom (j : JournalValue) (writes : List (Addr × Option Object)) (messages : ℕ) : Type 0 where
+  pub objects : slots_needed j.objects.slots writes ≤ j.objects.room
   pub records : 0 < j.records.room
   pub outbox : messages ≤ j.outbox.room
 
@@ -53,7 +55,7 @@ pub record IsReady (j : JournalValue) (f : FinishedValue) (numbered : Numbered) 
   pub numbers : HasNumbers j f numbered.number
   pub answer : numbered.answer ≡ success_message f.xid f.done.change.reply
   pub forms : HaveForms f.done.change.messages
-  pub room : HasRoom j (length f.done.change.writes) (length f.done.change.messages)
+  pub room : HasRoom j f.done.change.writes (length f.done.change.messages)
 
 -- the writes are made, one record more, and its messages are to be sent
 pub record Writes (old new : JournalValue) (f : FinishedValue) : Type 0 where

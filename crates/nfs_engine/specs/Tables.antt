@@ -1,5 +1,6 @@
 -- What is kept at each address, and the store that it is.
-use Rattle.std.specs.Prelude.{◌≡◌, ◌<◌, ℕ, List, Option, Some, None, map, option_map, unwrap_or}
+use Rattle.std.specs.Prelude.{◌≡◌, ◌<◌, ℕ, Bool, ◌&&◌, not, List, Option, Some, None, IsSome, is_some, count_by, map}
+use Rattle.std.specs.Prelude.{option_map, unwrap_or}
 use Rattle.std.specs.Arc.{arc_value}
 use Rattle.nfs_objects.specs.declared.address.Addr.{Addr}
 use Rattle.nfs_objects.specs.declared.address.Addr.TheVariants.{Inode}
@@ -34,6 +35,18 @@ pub record ObjectsValue : Type 0 where
 -- at an address that is not there nothing is kept
 abbrev pub kept_at : List (Addr × KeptValue) → Addr → KeptValue
 kept_at slots a = unwrap_or (found slots a) empty_kept
+
+-- whether a write puts something at an address that has no slot
+abbrev pub needs_slot : List (Addr × KeptValue) → Addr × Option Object → Bool
+needs_slot slots w = is_some w.1 && not (is_some (found slots w.0))
+
+-- How many of the writes do. They may be more than the slots that are made for them, where an address is written twice.
+abbrev pub slots_needed : List (Addr × KeptValue) → List (Addr × Option Object) → ℕ
+slots_needed slots writes = count_by (needs_slot slots) writes
+
+-- each address that has a slot keeps it
+abbrev pub KeepsSlots : List (Addr × KeptValue) → List (Addr × KeptValue) → Type 0
+KeepsSlots old new = (a : Addr) → IsSome (found old a) → IsSome (found new a)
 
 -- the store that the objects are
 abbrev pub store_of : List (Addr × KeptValue) → Store

@@ -1,11 +1,12 @@
 //! The present store with the records that led to it, and commits of calls: first room, which may want memory, then
 //! what cannot fail.
 
-ghost use Rattle.std.specs.Prelude.{◌≡◌, ◌+◌, ◌-◌, ◌^◌, [], min, IfSome, OnOk};
+ghost use Rattle.std.specs.Prelude.{◌≡◌, ◌+◌, ◌-◌, ◌^◌, [], map, min, IfSome, IsOk, OnOk};
 ghost use Rattle.nfs_engine.specs.Commits.{HasRoom, IsCommitted, IsReady, SameJournal};
 ghost use Rattle.nfs_engine.specs.Commits.{TakesEra, TakesMessage, Writes};
 ghost use Rattle.nfs_engine.specs.Forms.{HasForm};
 ghost use Rattle.nfs_engine.specs.Posting.{HaveForms};
+ghost use Rattle.nfs_objects.specs.Values.{write_value};
 
 use crate::arrival::Executed;
 use crate::calls::Finished;
@@ -127,19 +128,22 @@ impl Journal {
         if !self.outbox.has_numbers(messages) {
             return None;
         }
-        self.make_room(finished.ready.writes.len(), messages).ok()?;
+        self.make_room(&finished.writes, messages).ok()?;
         let answer = finished.answer(alloc).ok()?;
         Some(Numbered { number, answer })
     }
 
-    /// Makes room for so many writes and messages, and for one more record. An error changes nothing.
-    fn make_room(&mut self, writes: usize, messages: usize) -> Result<(), AllocError>
+    /// Makes room for these writes, for so many messages, and for one more record. Where the room is there, no more is
+    /// asked for. An error changes nothing.
+    fn make_room(&mut self, writes: &[Write], messages: usize) -> Result<(), AllocError>
         ensures same { SameJournal self.old self.new }
-        ensures room { OnOk result (HasRoom self.new writes messages) }
+        ensures room { OnOk result (HasRoom self.new (map write_value writes.now) messages) }
+        ensures enough { HasRoom self.old (map write_value writes.now) messages → IsOk result }
     {
         self.objects.make_room(writes)?;
         self.records.make_room()?;
-        self.outbox.make_room(messages)
+        self.outbox.make_room(messages)?;
+        Ok(())
     }
 
     /// Commits a call, under its number and with its answer.
@@ -168,6 +172,7 @@ impl Journal {
         drop(spelled);
         let bytes = counted(request.received.message.len(), answer.len(), posted);
         self.objects.install(writes);
+        self.objects.remove_idle(&own);
         self.outbox.post(messages);
         self.records.push(record, bytes);
         Committed {

@@ -1,7 +1,7 @@
 //! The objects of the present store, by address: first room for what is written, then writes, which cannot fail.
 
-ghost use Rattle.std.specs.Prelude.{◌≡◌, ◌+◌, ◌<◌, ◌≤◌, [], length, map, max, option_map, IfOk};
-ghost use Rattle.std.specs.Prelude.{IfSome};
+ghost use Rattle.std.specs.Prelude.{◌≡◌, ◌+◌, ◌<◌, ◌≤◌, [], map, max, option_map, true, if◌then◌else◌, IfOk};
+ghost use Rattle.std.specs.Prelude.{IfSome, IsOk};
 ghost use Rattle.std.specs.Prelude.{OnOk};
 ghost use Rattle.std.specs.Prelude.{option_copied, slice_get};
 ghost use Rattle.std.specs.Arc.{arc_value};
@@ -13,7 +13,8 @@ ghost use Rattle.nfs_objects.specs.Values.{write_value};
 ghost use Rattle.nfs_engine.specs.Opening.{no_store};
 ghost use Rattle.indexmap.specs.IndexMap.{spare};
 ghost use Rattle.nfs_engine.specs.Standing.{HasObjects, count_after};
-ghost use Rattle.nfs_engine.specs.Tables.{Stands, Unspent, generation_in, kept_at, kept_slots, store_of};
+ghost use Rattle.nfs_engine.specs.Tables.{KeepsSlots, Stands, Unspent, empty_kept, generation_in, kept_at};
+ghost use Rattle.nfs_engine.specs.Tables.{kept_slots, needs_slot, slots_needed, store_of};
 
 use indexmap::IndexMap;
 use nfs_objects::{Addr, Object, Reserved, View, Write, share};
@@ -76,7 +77,7 @@ impl Objects {
     {
         let mut objects = Objects::new(alloc);
         let copies = copy_writes(alloc, writes)?;
-        objects.make_room(copies.len())?;
+        objects.make_room(&copies)?;
         objects.install(copies);
         Ok(objects)
     }
@@ -141,17 +142,39 @@ impl Objects {
         true
     }
 
-    /// Makes room for so many writes.
-    pub(crate) fn make_room(&mut self, count: usize) -> Result<(), AllocError>
+    /// Makes room for the slots that these writes need. Where the room is there, no more is asked for.
+    pub(crate) fn make_room(&mut self, writes: &[Write]) -> Result<(), AllocError>
         ensures slots { self.new.slots ≡ self.old.slots }
-        ensures room { OnOk result (count ≤ self.new.room) }
+        ensures room { OnOk result (slots_needed self.new.slots (map write_value writes.now) ≤ self.new.room) }
+        ensures enough { slots_needed self.old.slots (map write_value writes.now) ≤ self.old.room → IsOk result }
     {
-        self.slots.reserve(count)
+        let needed = self.slots_needed(writes);
+        self.slots.reserve(needed)
     }
 
-    /// Makes the writes, for which there is room, one after the other.
+    /// How many of these writes need a slot.
+    fn slots_needed(&self, writes: &[Write]) -> usize
+        ensures { result ≡ slots_needed self.now.slots (map write_value writes.now) }
+    {
+        let mut needed: usize = 0;
+        for write in writes {
+            if self.needs_slot(write) {
+                needed += 1;
+            }
+        }
+        needed
+    }
+
+    /// Whether a write puts something at an address that has no slot.
+    fn needs_slot(&self, write: &Write) -> bool
+        ensures { result ≡ needs_slot self.now.slots (write_value write.now) }
+    {
+        write.object.is_some() && !self.slots.contains_key(&write.address)
+    }
+
+    /// Makes the writes, for which there is room, one after the other. Each slot that is there stays.
     pub(crate) fn install(&mut self, writes: Vec<Write>)
-        requires { length writes.items ≤ self.old.room }
+        requires { slots_needed self.old.slots (map write_value writes.items) ≤ self.old.room }
         ensures { store_of self.new.slots ≡ with_writes (store_of self.old.slots) (map write_value writes.items) }
     {
         let mut writes = writes.into_iter();
@@ -162,10 +185,12 @@ impl Objects {
 
     /// Puts an object at an address, or takes away what stands there.
     fn put(&mut self, address: Addr, object: Option<Arc<Object>>)
-        requires { 0 < self.old.room }
+        requires { needs_slot self.old.slots (address, option_map arc_value object) ≡ true → 0 < self.old.room }
         ensures store { store_of self.new.slots
             ≡ with_write (store_of self.old.slots) address (option_map arc_value object) }
-        ensures room { self.old.room ≤ self.new.room + 1 }
+        ensures slots { KeepsSlots self.old.slots self.new.slots }
+        ensures room { self.old.room ≤ self.new.room
+            + (if needs_slot self.old.slots (address, option_map arc_value object) then 1 else 0) }
     {
         let standing = count_after(
             self.standing,
@@ -177,6 +202,24 @@ impl Objects {
         // The number of slots brings the bound of the count.
         let _slots = self.slots.len();
         self.standing = standing;
+    }
+
+    /// Takes out the slots that these writes left with nothing in them.
+    pub(crate) fn remove_idle(&mut self, writes: &[Write])
+        ensures { store_of self.new.slots ≡ store_of self.old.slots }
+    {
+        for write in writes {
+            if write.object.is_none() && self.is_idle(write.address) {
+                take_out(&mut self.slots, write.address);
+            }
+        }
+    }
+
+    /// Whether nothing stands at an address, and its number was never given.
+    fn is_idle(&self, address: Addr) -> bool
+        ensures { Decides result (kept_at self.now.slots address ≡ empty_kept) }
+    {
+        self.find(address).is_none() && self.last(address) == 0
     }
 }
 
@@ -192,28 +235,31 @@ fn count_after(count: u64, stood: bool, stands: bool) -> u64
     }
 }
 
-/// Keeps this at an address; nothing where nothing stands, and no generation was given.
+/// Keeps this at an address. Only something that is put where no slot is takes room.
 fn keep(slots: &mut IndexMap<Addr, Kept>, address: Addr, kept: Kept)
-    requires room { 0 < spare slots.old }
+    requires room { needs_slot (kept_slots slots.old.entries) (address, option_map arc_value kept.object) ≡ true
+        → 0 < spare slots.old }
     requires last { kept.last ≡ max (kept_at (kept_slots slots.old.entries) address).last
         (generation_in (option_map arc_value kept.object)) }
     ensures store { store_of (kept_slots slots.new.entries)
         ≡ with_write (store_of (kept_slots slots.old.entries)) address (option_map arc_value kept.object) }
-    ensures room { spare slots.old ≤ spare slots.new + 1 }
+    ensures slots { KeepsSlots (kept_slots slots.old.entries) (kept_slots slots.new.entries) }
+    ensures room { spare slots.old ≤ spare slots.new
+        + (if needs_slot (kept_slots slots.old.entries) (address, option_map arc_value kept.object) then 1 else 0) }
 {
-    if kept.object.is_none() && kept.last == 0 {
-        take_out(slots, address);
+    if let Some(slot) = slots.get_mut(&address) {
+        *slot = kept;
         return;
     }
-    slots.insert(address, kept).unwrap();
+    if kept.object.is_some() {
+        slots.insert(address, kept).unwrap();
+    }
 }
 
-/// Takes away what stands at an address, whose number was never given, and the address with it.
+/// Takes out the slot of an address at which nothing is kept.
 fn take_out(slots: &mut IndexMap<Addr, Kept>, address: Addr)
-    requires { (kept_at (kept_slots slots.old.entries) address).last ≡ 0 }
-    ensures store { store_of (kept_slots slots.new.entries)
-        ≡ with_write (store_of (kept_slots slots.old.entries)) address None }
-    ensures room { spare slots.old ≤ spare slots.new }
+    requires { kept_at (kept_slots slots.old.entries) address ≡ empty_kept }
+    ensures { store_of (kept_slots slots.new.entries) ≡ store_of (kept_slots slots.old.entries) }
 {
     slots.swap_remove(&address);
 }

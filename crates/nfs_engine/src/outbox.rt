@@ -1,6 +1,6 @@
 //! Messages that are to be sent.
 
-ghost use Rattle.std.specs.Prelude.{◌≡◌, ◌+◌, ◌<◌, ◌≤◌, ◌^◌, [], ◌++◌, length, IfOk, OnOk};
+ghost use Rattle.std.specs.Prelude.{◌≡◌, ◌+◌, ◌<◌, ◌≤◌, ◌^◌, [], ◌++◌, length, IfOk, IsOk, OnOk};
 ghost use Rattle.std.specs.Bool.{Decides};
 ghost use Rattle.side_wire.specs.Messages.{HasCallbackForm};
 ghost use Rattle.nfs_engine.specs.Posting.{HasCallbackForm-prop, HaveForms};
@@ -64,10 +64,11 @@ impl Outbox {
             .is_some()
     }
 
-    /// Makes room for so many messages.
+    /// Makes room for so many messages, where there is less.
     pub(crate) fn make_room(&mut self, count: usize) -> Result<(), AllocError>
         ensures same { self.new ≡ record self.old { room = self.new.room } }
         ensures room { OnOk result (count ≤ self.new.room) }
+        ensures enough { count ≤ self.old.room → IsOk result }
     {
         self.waiting.reserve(count)
     }

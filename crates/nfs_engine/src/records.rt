@@ -1,7 +1,7 @@
 //! The records of an era.
 
 ghost use Rattle.std.specs.Prelude.{◌≡◌, ◌+◌, ◌-◌, ◌<◌, ◌^◌, [], ◌∷◌, ◌++◌, length};
-ghost use Rattle.std.specs.Prelude.{map, min, MatchOption, OnOk};
+ghost use Rattle.std.specs.Prelude.{map, min, IsOk, MatchOption, OnOk};
 ghost use Rattle.nfs_engine.specs.Arrivals.{shared_value};
 
 use crate::arrival::Executed;
@@ -93,10 +93,11 @@ impl Records {
         (self.before + self.list.len() as u64).checked_add(1)
     }
 
-    /// Makes room for one record.
+    /// Makes room for one record, where there is none.
     pub(crate) fn make_room(&mut self) -> Result<(), AllocError>
         ensures same { self.new ≡ record self.old { room = self.new.room } }
         ensures room { OnOk result (0 < self.new.room) }
+        ensures enough { 0 < self.old.room → IsOk result }
     {
         self.list.reserve(1)
     }
