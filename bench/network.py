@@ -4,6 +4,7 @@ import re
 import socket
 import struct
 import subprocess
+import sys
 import time
 
 import nfsd
@@ -20,7 +21,12 @@ class Server:
     def __init__(self, program, *options):
         words = [program, "--tcp", "127.0.0.1:0", "--export", "/data,rw,*", "--start", "7", *options]
         self.process = subprocess.Popen(words, stderr=subprocess.PIPE)
-        self.port = int(re.search(rb":(\d+) \(TCP\)", self.process.stderr.readline())[1])
+        said = self.process.stderr.readline().decode()
+        port = re.search(r":(\d+) \(TCP\)", said)
+        if not port:
+            self.process.kill()
+            sys.exit(f"{program} does not listen: {said.strip() or 'it says nothing'}")
+        self.port = int(port[1])
 
     def __enter__(self):
         return self
