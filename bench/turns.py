@@ -29,6 +29,7 @@ import multiprocessing
 import os
 import pathlib
 import select
+import shutil
 import signal
 import statistics
 import subprocess
@@ -64,6 +65,8 @@ THIS, OTHER, NOTHING = "this", "other", "nothing"
 
 def compiled(folder):
     """The load generator and the do-nothing server."""
+    if not shutil.which("gcc"):
+        sys.exit("turns: there is no gcc, which compiles the load generator")
     load, nothing = folder / "load", folder / "null_server"
     for made, sources in ((load, sorted((HERE / "load").glob("*.c"))), (nothing, [HERE / "null_server.c"])):
         if subprocess.run(["gcc", "-std=gnu99", "-O2", "-pthread", "-o", made, *sources]).returncode != 0:
@@ -204,6 +207,11 @@ def rate(told):
     return told["calls"] / told["seconds"]
 
 
+def times(told, name, other):
+    """How many times the rate of another side one has."""
+    return ratio(rate(told[name]), rate(told[other]))
+
+
 def processor(told):
     """The microseconds of a processor that a call takes."""
     return ratio(1e6 * told["processor"], told["calls"])
@@ -235,11 +243,10 @@ def groups_for(names, beside):
     builds = [name for name in names if name != NOTHING]
     groups = [
         Group("calls a second", names, ",.0f", lambda told, name: rate(told[name])),
-        Group("of nothing's", builds, ".2f", lambda told, name: ratio(rate(told[name]), rate(told[NOTHING]))),
+        Group("of nothing's", builds, ".2f", lambda told, name: times(told, name, NOTHING)),
     ]
     if OTHER in builds:
-        against = lambda told, name: ratio(rate(told[name]), rate(told[OTHER]))
-        groups += [Group("times other's", [THIS], ".2f", against)]
+        groups += [Group("times other's", [THIS], ".2f", lambda told, name: times(told, name, OTHER))]
     groups += [Group("us of a processor a call", names, ",.1f", lambda told, name: processor(told[name]))]
     if beside:
         groups += [
