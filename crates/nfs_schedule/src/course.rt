@@ -15,8 +15,13 @@ use nfs_engine::Txn;
 use nfs_machine::Call;
 use nfs_names::climbing::{climbs, next_above};
 use nfs_objects::{Addr, Change, Mode, Outcome};
+use nfs_wire::NfsCall;
 use std::alloc::{AllocError, Global};
 use std::vec::IntoIter;
+
+/// How many bytes of memory a call that may add to the state leaves, so that in a full memory one that takes away finds
+/// what it needs.
+const SPARE: usize = 32_768;
 
 /// Where a call is between two of its steps.
 #[derive(Drop)]
@@ -95,9 +100,46 @@ fn consider(alloc: Global, txn: &Txn) -> NextStep
             None => unreachable!(),
         },
         Ok(Outcome::Fresh(count)) => NextStep::Reserve(after_number(count)),
-        Ok(Outcome::Done(change)) => NextStep::Commit(change),
+        Ok(Outcome::Done(change)) => commit(alloc, txn, change),
         Err(_) => NextStep::Fail,
     }
+}
+
+/// The commit of what a call came to, where it leaves as much memory as it has to.
+#[inline(always)]
+fn commit(alloc: Global, txn: &Txn, change: Change) -> NextStep
+    requires { IsNextStep txn.now (NextStep.Commit change) }
+    ensures { IsNextStep txn.now result }
+{
+    if may_add(txn.call()) && !has_spare(alloc) {
+        drop(change);
+        return NextStep::Fail;
+    }
+    NextStep::Commit(change)
+}
+
+/// Whether a call may add objects, names or bytes to the state.
+fn may_add(call: &Call) -> bool {
+    match call {
+        Call::Nfs(call) => matches!(
+            call,
+            NfsCall::Create(_)
+                | NfsCall::Mkdir(_)
+                | NfsCall::Symlink(_)
+                | NfsCall::Mknod(_)
+                | NfsCall::Link(_)
+                | NfsCall::Write(_)
+        ),
+        _ => false,
+    }
+}
+
+/// Whether there is as much memory as is left to calls that take away. It is let go at once.
+fn has_spare(alloc: Global) -> bool {
+    let spare: Result<Vec<u8>, AllocError> = Vec::with_capacity(alloc, SPARE);
+    let is_there = spare.is_ok();
+    drop(spare);
+    is_there
 }
 
 /// What a call comes to on what it has read.
