@@ -104,10 +104,11 @@ pub record LeavesEra (old new : BookValue) (count : ℕ) (era : Era) : Type 0 wh
   pub takes : TakesEra old new era
   pub rebases : Rebases old new
 
--- an era that is over, and what its receipts tell
+-- an era that is over, what its receipts tell, and the room that they stand in
 pub record EndedValue : Type 0 where
   pub era : Era
   pub receipts : List (ℕ × Record)
+  pub room : ℕ
 
 -- a book came to another with this era, and there are as many receipts
 abbrev pub IsLeft : EndedValue → Type 0

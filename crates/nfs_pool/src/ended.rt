@@ -1,11 +1,12 @@
 //! An era that is over, and the receipts that its seats left.
 
-ghost use Rattle.std.specs.Prelude.{◌≡◌, IfErr, IfOk, length, map};
+ghost use Rattle.std.specs.Prelude.{◌≡◌, IfErr, IfOk, length, map, vec_capacity};
 ghost use Rattle.nfs_engine.specs.Arrivals.{shared_value};
 ghost use Rattle.nfs_engine.specs.Book.{BookValue};
 ghost use Rattle.nfs_pool.specs.Eras.{EndsSome, IfMissing, LeavesEra, TellAll, told_in};
 
 use crate::comparing::{begin_so, told_in_order};
+use crate::room::EraRoom;
 use crate::sent::FinishError;
 use nfs_engine::{Era, Receipt};
 use std::alloc::Global;
@@ -21,33 +22,35 @@ pub struct Ended {
 }
 
 impl Model for Ended {
-    ghost use Rattle.std.specs.Prelude.{length};
+    ghost use Rattle.std.specs.Prelude.{length, vec_capacity};
     ghost use Rattle.nfs_pool.specs.Eras.{EndedValue, IsLeft, told_in};
 
     ghost Value = { EndedValue };
 
-    ghost view = { λ e. record { era = e.era; receipts = told_in e.lists.items } };
+    ghost view = { λ e. record { era = e.era; receipts = told_in e.lists.items; room = vec_capacity e.lists } };
 
-    ghost invariant = { λ e. IsLeft (record { era = e.era; receipts = told_in e.lists.items }) };
+    ghost invariant = { λ e. IsLeft
+        (record { era = e.era; receipts = told_in e.lists.items; room = vec_capacity e.lists }) };
 }
 
 impl Ended {
     /// The era that a book came from, and the receipts of each seat.
     pub(crate) fn new(era: Era, lists: Vec<Vec<Receipt>>) -> Ended
         requires { (old : BookValue) × (new : BookValue) × LeavesEra old new (length (told_in lists.items)) era }
-        ensures { result ≡ record { era = era; receipts = told_in lists.items } }
+        ensures { result ≡ record { era = era; receipts = told_in lists.items; room = vec_capacity lists } }
     {
         Ended { era, lists }
     }
 
-    /// The records, where the receipts of all seats are they, each once.
+    /// The records, where the receipts of all seats are they, each once; and the room in which the era ended.
     ///
     /// # Errors
     ///
     /// A record has no equal receipt (`Missing`), or there is no memory to compare them. All is handed back.
-    pub fn compare(self, alloc: Global) -> Result<Era, (FinishError, Ended)>
-        ensures era { IfOk result (λ era. era ≡ self.era) }
-        ensures ends { IfOk result (EndsSome self.receipts) }
+    pub fn compare(self, alloc: Global) -> Result<(Era, EraRoom), (FinishError, Ended)>
+        ensures era { IfOk result (λ r. r.0 ≡ self.era) }
+        ensures room { IfOk result (λ r. r.1 ≡ self.room) }
+        ensures ends { IfOk result (λ r. EndsSome self.receipts r.0) }
         ensures missing { IfErr result (λ e. IfMissing e.0
             (TellAll self.era.before (map shared_value self.era.records.items) self.receipts → ⊥)) }
         ensures back { IfErr result (λ e. e.1 ≡ self) }
@@ -58,13 +61,24 @@ impl Ended {
         if !begin_so(self.era.before, &self.era.records, &tells) {
             return Err((FinishError::Missing, self));
         }
-        Ok(self.into_era())
+        Ok(self.into_parts())
     }
 
-    /// The records, as they are.
-    pub(crate) fn into_era(self) -> Era
-        ensures { result ≡ self.era }
+    /// Lets the era go. The room in which it ended is left.
+    pub fn let_go(self) -> EraRoom
+        ensures { result ≡ self.room }
     {
-        self.era
+        let (era, room) = self.into_parts();
+        drop(era);
+        room
+    }
+
+    /// The records as they are, and the room in which the era ended.
+    pub(crate) fn into_parts(self) -> (Era, EraRoom)
+        ensures era { result.0 ≡ self.era }
+        ensures room { result.1 ≡ self.room }
+    {
+        let Ended { era, lists } = self;
+        (era, EraRoom::without(lists))
     }
 }

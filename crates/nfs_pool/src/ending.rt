@@ -1,6 +1,6 @@
 //! The end of an era, and of a pool.
 
-ghost use Rattle.std.specs.Prelude.{IfErr, IfOk, OnErr, ◌≡◌, length};
+ghost use Rattle.std.specs.Prelude.{IfErr, IfOk, OnErr, ◌≡◌, ◌≤◌, length};
 ghost use Rattle.nfs_engine.specs.Book.{IsRun};
 ghost use Rattle.nfs_pool.specs.Eras.{AreNew, EndsEra, EndsIn, EndsSome, IfMissing, LeaveOut, LeavesEra, TellAll};
 ghost use Rattle.nfs_pool.specs.Eras.{told_by};
@@ -10,6 +10,7 @@ use crate::counting::Count;
 use crate::desk::Desk;
 use crate::ended::Ended;
 use crate::pool::Pool;
+use crate::room::EraRoom;
 use crate::seat::{Seat, leave_all, new_seats};
 use crate::sent::FinishError;
 use nfs_engine::{Book, Era};
@@ -78,23 +79,26 @@ impl<L: Ledger> Pool<L> {
     }
 
     /// Ends the era, and begins the next, with as many new seats. That the receipts of these seats are its records is
-    /// left to be compared, so that callers need not wait for it. Its time goes by the number of seats.
+    /// left to be compared, so that callers need not wait for it. Its time goes by the number of seats, and it takes no
+    /// memory: what they leave stands in this room, which the era that is over gives back.
     ///
     /// # Errors
     ///
-    /// A seat of the pool is not given (`Missing`), or there is no memory. The pool is as it was, and the seats are
+    /// A seat of the pool is not given, or the room is for fewer seats. The pool is as it was, and seats and room are
     /// handed back.
     pub fn next_era(
         &mut self,
         alloc: Global,
         seats: Vec<Seat<L>>,
-    ) -> Result<(Ended, Vec<Seat<L>>), (FinishError, Vec<Seat<L>>)>
+        room: EraRoom,
+    ) -> Result<(Ended, Vec<Seat<L>>), (Vec<Seat<L>>, EraRoom)>
         ensures ended { IfOk result (λ r. r.0.receipts ≡ told_by seats.items) }
+        ensures room { IfOk result (λ r. r.0.room ≡ room) }
         ensures seats { IfOk result (λ r. AreNew r.1.items (length seats.items)) }
-        ensures missing { IfErr result (λ e. IfMissing e.0 (length seats.items ≡ L.parts → ⊥)) }
-        ensures back { IfErr result (λ e. e.1.items ≡ seats.items) }
+        ensures missing { IfErr result (λ _. length seats.items ≡ L.parts → length seats.items ≤ room → ⊥) }
+        ensures back { IfErr result (λ e. (e.0.items ≡ seats.items) × (e.1 ≡ room)) }
     {
-        leave_era(alloc, self.desk.get_mut(), &self.count, seats)
+        leave_era(alloc, self.desk.get_mut(), &self.count, seats, room)
     }
 
     /// Ends the pool: its book is handed out. It takes no memory.
@@ -136,42 +140,51 @@ fn close_era<L: Ledger>(
     if !begin_so(desk.book.before(), desk.book.executed(), &tells) {
         return Err((FinishError::Missing, seats));
     }
-    let (ended, seats) = leave_era(alloc, desk, count, seats)?;
-    Ok((ended.into_era(), seats))
+    let Ok(room) = EraRoom::new(alloc, seats.len()) else {
+        return Err((FinishError::Memory, seats));
+    };
+    match leave_era(alloc, desk, count, seats, room) {
+        Ok((ended, seats)) => {
+            let (era, room) = ended.into_parts();
+            drop(room);
+            Ok((era, seats))
+        }
+        Err((seats, room)) => {
+            drop(room);
+            Err((FinishError::Missing, seats))
+        }
+    }
 }
 
-/// Ends the era, and begins the next, with as many new seats.
+/// Ends the era, and begins the next, with as many new seats. It takes no memory: what the seats leave stands in this
+/// room, and the new ones where they stood.
 ///
 /// # Errors
 ///
-/// They are not all seats, or there is no memory. Nothing is changed.
+/// They are not all seats, or the room is for fewer. Nothing is changed.
 fn leave_era<L: Ledger>(
     alloc: Global,
     desk: &mut Desk<L>,
     count: &Count<L>,
     seats: Vec<Seat<L>>,
-) -> Result<(Ended, Vec<Seat<L>>), (FinishError, Vec<Seat<L>>)>
+    room: EraRoom,
+) -> Result<(Ended, Vec<Seat<L>>), (Vec<Seat<L>>, EraRoom)>
     ensures ended { IfOk result (λ r. r.0.receipts ≡ told_by seats.items) }
+    ensures room { IfOk result (λ r. r.0.room ≡ room) }
     ensures leaves { IfOk result (λ r.
         LeavesEra desk.old.book desk.new.book (length r.0.receipts) r.0.era) }
     ensures seats { IfOk result (λ r. AreNew r.1.items (length seats.items)) }
-    ensures missing { IfErr result (λ e. IfMissing e.0 (length seats.items ≡ L.parts → ⊥)) }
-    ensures back { IfErr result (λ e. e.1.items ≡ seats.items) }
+    ensures missing { IfErr result (λ _. length seats.items ≡ L.parts → length seats.items ≤ room → ⊥) }
+    ensures back { IfErr result (λ e. (e.0.items ≡ seats.items) × (e.1 ≡ room)) }
     ensures same { OnErr result (desk.new.book ≡ desk.old.book) }
 {
     let number = seats.len();
-    if !count.is(number) {
-        return Err((FinishError::Missing, seats));
+    if !count.is(number) || !room.is_for(number) {
+        return Err((seats, room));
     }
-    let Ok(lists) = Vec::with_capacity(alloc, number) else {
-        return Err((FinishError::Memory, seats));
-    };
-    let Ok(room) = Vec::with_capacity(alloc, number) else {
-        return Err((FinishError::Memory, seats));
-    };
     let mut all = desk.no_share();
-    let lists = leave_all(seats, lists, &mut all);
+    let (lists, emptied) = leave_all(seats, room.into_lists(), &mut all);
     let era = desk.new_era(alloc, &mut all);
-    let seats = new_seats(alloc, room, all, number);
+    let seats = new_seats(alloc, emptied, all, number);
     Ok((Ended::new(era, lists), seats))
 }

@@ -92,22 +92,27 @@ pub(crate) fn new_seats<L: Ledger>(
     seats
 }
 
-/// Gives the parts of these seats back, and leaves the receipts of each in this room.
+/// Gives the parts of these seats back, and leaves the receipts of each in this room. The seats' own room is left.
 pub(crate) fn leave_all<L: Ledger>(
     seats: Vec<Seat<L>>,
     room: Vec<Vec<Receipt>>,
     all: &mut Share<L>,
-) -> Vec<Vec<Receipt>>
+) -> (Vec<Vec<Receipt>>, Vec<Seat<L>>)
     requires empty { room.items ≡ [] }
     requires room { length seats.items ≤ vec_capacity room }
     ensures parts { all.new.parts ≡ all.old.parts + length seats.items }
     ensures amount { all.new.amount ≡ all.old.amount + receipts_count seats.items }
-    ensures told { told_in result.items ≡ told_by seats.items }
+    ensures told { told_in result.0.items ≡ told_by seats.items }
+    ensures same { vec_capacity result.0 ≡ vec_capacity room }
+    ensures emptied { result.1.items ≡ [] }
+    ensures left { vec_capacity result.1 ≡ vec_capacity seats }
 {
     let mut lists = room;
-    let mut rest = seats.into_iter();
-    'seats: while let Some(seat) = rest.next() {
+    let mut rest = seats;
+    // So that the first seat is taken out first.
+    rest.reverse();
+    'seats: while let Some(seat) = rest.pop() {
         lists.push_reserved(seat.leave(all));
     }
-    lists
+    (lists, rest)
 }

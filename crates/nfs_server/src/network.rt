@@ -32,7 +32,7 @@ use crate::started::open;
 use crossbeam_channel::{Receiver, bounded};
 use nfs_engine::{Config, Engine};
 use nfs_machine::{Limits, Moments};
-use nfs_pool::{Pool, Seat};
+use nfs_pool::{EraRoom, Pool, Seat};
 use std::alloc::{AllocError, Global};
 use std::marker::Brand;
 use std::net::{Net, TcpListener, TcpStream, UdpSocket};
@@ -209,15 +209,16 @@ fn open_places<
 ) -> Result<Places<L>, AllocError> {
     let (back, free) = bounded(alloc, count)?;
     let (full, filled) = bounded(alloc, count)?;
+    let room = EraRoom::new(alloc, count)?;
     let pool = Arc::new(alloc, pool)?;
-    let room = hand_out(&rt, &back, pool, seats, 0, false);
+    let seats = hand_out(&rt, &back, pool, seats, 0, false);
     let keeper = Keeper {
         free: free.clone()?,
         back: back.clone()?,
         full: filled,
         count,
     };
-    thread::spawn(&rt, move || keeper.work(&rt, alloc, room))?;
+    thread::spawn(&rt, move || keeper.work(&rt, alloc, seats, room))?;
     Ok(Places::new(free, back, full))
 }
 

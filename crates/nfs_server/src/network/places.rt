@@ -4,7 +4,7 @@
 //! places are gathered nobody else has the pool, and its era can be ended: no thread has to be joined for that.
 
 use crossbeam_channel::{Receiver, Sender};
-use nfs_pool::{Ended, FinishError, Pool, Seat};
+use nfs_pool::{Ended, EraRoom, FinishError, Pool, Seat};
 use std::alloc::{AllocError, Global};
 use std::rt::Clock;
 use std::sync::ledger::Ledger;
@@ -36,7 +36,7 @@ pub(crate) struct Place<L: Ledger> {
     pub(crate) seat: Seat<L>,
     /// How often an era was to be ended before it was handed out.
     pub(crate) turns: u64,
-    /// The last time there was no memory for that.
+    /// The last time it was not.
     pub(crate) is_stuck: bool,
 }
 
@@ -122,9 +122,16 @@ pub(crate) struct Keeper<L: Ledger> {
 impl<L: Ledger> Keeper<L> {
     /// Ends eras, until nobody calls any more. What was recorded in them is compared and let go by this thread, which
     /// serves nobody; after a record without its receipt no era is ended any more, so nothing is executed behind it.
-    /// There is room for all seats.
-    pub(crate) fn work<R: Wait + Clock>(&self, rt: &R, alloc: Global, room: Vec<Seat<L>>) {
-        let mut seats = room;
+    /// There is room for all seats, and to end an era in: each era takes the room of the one before it.
+    pub(crate) fn work<R: Wait + Clock>(
+        &self,
+        rt: &R,
+        alloc: Global,
+        seats: Vec<Seat<L>>,
+        room: EraRoom,
+    ) {
+        let mut seats = seats;
+        let mut room = room;
         let mut compared = Compared::Told;
         for first in self.full.iter(rt) {
             let turns = first.turns.saturating_add(1);
@@ -134,7 +141,7 @@ impl<L: Ledger> Keeper<L> {
             if compared == Compared::Missing {
                 seats = hand_out(rt, &self.back, pool, seats, turns, true);
             } else {
-                (seats, compared) = self.turn(rt, alloc, pool, seats, turns);
+                (seats, room, compared) = self.turn(rt, alloc, pool, seats, room, turns);
             }
         }
     }
@@ -165,65 +172,65 @@ impl<L: Ledger> Keeper<L> {
         }
     }
 
-    /// Ends the era, hands out the places of the next one, and lets go what was recorded. Their room is left, and what
-    /// was found of it. Where there is no memory for the next seats the era stays, and nothing is found.
+    /// Ends the era, hands out the places of the next one, and lets go what was recorded. The room of the seats is left,
+    /// that of the era, and what was found of it. Where a seat is missing the era stays, and nothing is found.
     fn turn<R: Wait + Clock>(
         &self,
         rt: &R,
         alloc: Global,
         pool: Arc<Pool<L>>,
         seats: Vec<Seat<L>>,
+        room: EraRoom,
         turns: u64,
-    ) -> (Vec<Seat<L>>, Compared) {
+    ) -> (Vec<Seat<L>>, EraRoom, Compared) {
         let mut pool = pool;
-        match next_era(alloc, &mut pool, seats) {
+        match next_era(alloc, &mut pool, seats, room) {
             Ok((ended, seats)) => {
-                let room = hand_out(rt, &self.back, pool, seats, turns, false);
-                (room, compare(rt, alloc, ended))
+                let seats = hand_out(rt, &self.back, pool, seats, turns, false);
+                let (room, compared) = compare(rt, alloc, ended);
+                (seats, room, compared)
             }
-            Err(seats) => {
-                let room = hand_out(rt, &self.back, pool, seats, turns, true);
-                (room, Compared::Unknown)
+            Err((seats, room)) => {
+                let seats = hand_out(rt, &self.back, pool, seats, turns, true);
+                (seats, room, Compared::Unknown)
             }
         }
     }
 }
 
-/// Ends the era of a pool that nobody else has, and begins the next: what is left of it, and the next seats.
+/// Ends the era of a pool that nobody else has, and begins the next: what is left of it, and the next seats. It takes no
+/// memory.
 ///
 /// # Errors
 ///
-/// There is no memory for the next seats. These are handed back.
+/// Somebody else has the pool, or a seat is missing. Seats and room are handed back.
 fn next_era<L: Ledger>(
     alloc: Global,
     pool: &mut Arc<Pool<L>>,
     seats: Vec<Seat<L>>,
-) -> Result<(Ended, Vec<Seat<L>>), Vec<Seat<L>>> {
+    room: EraRoom,
+) -> Result<(Ended, Vec<Seat<L>>), (Vec<Seat<L>>, EraRoom)> {
     let Some(pool) = Arc::get_mut(pool) else {
-        return Err(seats);
+        return Err((seats, room));
     };
-    pool.next_era(alloc, seats).map_err(|(_, seats)| seats)
+    pool.next_era(alloc, seats, room)
 }
 
-/// Compares an era that is over, and lets it go.
-fn compare<R: Wait + Clock>(rt: &R, alloc: Global, ended: Ended) -> Compared {
+/// Compares an era that is over, and lets it go. Its room is left.
+fn compare<R: Wait + Clock>(rt: &R, alloc: Global, ended: Ended) -> (EraRoom, Compared) {
     let mut ended = ended;
     for _ in 0..TRIES {
         match ended.compare(alloc) {
-            Ok(era) => {
+            Ok((era, room)) => {
                 drop(era);
-                return Compared::Told;
+                return (room, Compared::Told);
             }
-            Err((FinishError::Missing, left)) => {
-                drop(left);
-                return Compared::Missing;
-            }
+            Err((FinishError::Missing, left)) => return (left.let_go(), Compared::Missing),
             Err((FinishError::Memory, left)) => ended = left,
         }
         thread::sleep(rt, Duration::from_millis(PAUSE));
     }
-    drop(ended);
-    Compared::Unknown
+    (ended.let_go(), Compared::Unknown)
 }
 
 /// Makes a place of each seat, and hands it out. The room of the seats is left.

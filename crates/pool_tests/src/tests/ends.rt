@@ -5,7 +5,7 @@ use super::calls::Ask;
 use super::pools::{Course, Runs, in_pool};
 use super::rows::{Row, Rows, Want, X, alone, follow};
 use nfs_engine::{Book, Era};
-use nfs_pool::{FinishError, Pool, Seat};
+use nfs_pool::{Ended, EraRoom, FinishError, Pool, Seat};
 use std::alloc::AllocError;
 use std::sync::ledger::Ledger;
 
@@ -18,6 +18,8 @@ pub(super) enum End {
     SeatLeftOut,
     /// Behind a second era: numbers go on, and so do replies that are kept.
     EraTurned,
+    /// Behind a second era, in the room that the first one left. In a room for no seat the first one does not end.
+    RoomLeft,
     /// Its receipts are not asked for.
     Stopped,
 }
@@ -34,6 +36,7 @@ pub(super) fn ends_so<L: Ledger, R: Runs>(
         End::Finished => finishes(rt, pool, seats, 0, records),
         End::SeatLeftOut => finishes_with_all(rt, pool, seats, records),
         End::EraTurned => turns_era(rt, pool, seats, records),
+        End::RoomLeft => leaves_room(rt, pool, seats, records),
         End::Stopped => stops(rt, pool, seats, records),
     }
 }
@@ -184,6 +187,120 @@ fn goes_on<L: Ledger, R: Runs>(rt: &R, pool: Pool<L>, seats: Vec<Seat<L>>, befor
     finishes(rt, pool, seats, before, executed)
 }
 
+/// Whether the era and the next one end in one room, and the pool behind them.
+fn leaves_room<L: Ledger, R: Runs>(
+    rt: &R,
+    pool: Pool<L>,
+    seats: Vec<Seat<L>>,
+    records: u64,
+) -> bool {
+    let mut pool = pool;
+    let ended = end_in_one_room(rt, &mut pool, seats, records);
+    let book = pool.end();
+    let over = is_at_rest(&book, 0);
+    drop(book);
+    ended && over
+}
+
+/// Whether the era and the next one end in one room, and the first one not without it.
+fn end_in_one_room<L: Ledger, R: Runs>(
+    rt: &R,
+    pool: &mut Pool<L>,
+    seats: Vec<Seat<L>>,
+    records: u64,
+) -> bool {
+    let count = seats.len();
+    let Some(seats) = stays_without_room(rt, pool, seats) else {
+        return false;
+    };
+    let Some((seats, room)) = ends_in(rt, pool, seats, EraRoom::new(rt.alloc(), count), 0, records)
+    else {
+        return false;
+    };
+    let mut seats = seats;
+    let executed = match seats.first_mut() {
+        Some(seat) => follow(&mut Caller::new(rt, pool, seat), SECOND_ERA, records),
+        None => 0,
+    };
+    let left = ends_in(rt, pool, seats, Ok(room), records, executed);
+    let ended = left.is_some();
+    drop(left);
+    ended && executed == 1
+}
+
+/// The seats, where the era does not end in a room for none.
+fn stays_without_room<L: Ledger, R: Runs>(
+    rt: &R,
+    pool: &mut Pool<L>,
+    seats: Vec<Seat<L>>,
+) -> Option<Vec<Seat<L>>> {
+    match EraRoom::new(rt.alloc(), 0) {
+        Ok(none) => match pool.next_era(rt.alloc(), seats, none) {
+            Ok(ended) => {
+                drop(ended);
+                None
+            }
+            Err((seats, none)) => {
+                drop(none);
+                Some(seats)
+            }
+        },
+        Err(_) => {
+            drop(seats);
+            None
+        }
+    }
+}
+
+/// The next seats and the room, where the era ends in it with so many records behind this one.
+fn ends_in<L: Ledger, R: Runs>(
+    rt: &R,
+    pool: &mut Pool<L>,
+    seats: Vec<Seat<L>>,
+    room: Result<EraRoom, AllocError>,
+    before: u64,
+    records: u64,
+) -> Option<(Vec<Seat<L>>, EraRoom)> {
+    match room {
+        Ok(room) => match pool.next_era(rt.alloc(), seats, room) {
+            Ok((ended, seats)) => match compared(rt, ended, before, records) {
+                Some(room) => Some((seats, room)),
+                None => {
+                    drop(seats);
+                    None
+                }
+            },
+            Err(back) => {
+                drop(back);
+                None
+            }
+        },
+        Err(_) => {
+            drop(seats);
+            None
+        }
+    }
+}
+
+/// The room of an era that is over, where its receipts tell so many records behind this one.
+fn compared<R: Runs>(rt: &R, ended: Ended, before: u64, records: u64) -> Option<EraRoom> {
+    match ended.compare(rt.alloc()) {
+        Ok((era, room)) => {
+            let told = has_records(&era, before, records);
+            drop(era);
+            if told {
+                return Some(room);
+            }
+            drop(room);
+            None
+        }
+        Err(back) => {
+            drop(back);
+            None
+        }
+    }
+}
+
 const FIRST_ERA: &[Row] = &[
     (1, Ask::Create(X), Want::Makes),
     (2, Ask::Remove(X), Want::Is(OK)),
@@ -204,6 +321,22 @@ fn a_full_era_is_followed_by_another(rt: HostRuntime) -> Result<(), AllocError> 
         era_records: 2,
         calls: 2,
         end: End::EraTurned,
+    };
+    let part = Rows {
+        caller: 0,
+        rows: FIRST_ERA,
+    };
+    in_pool(&rt, course, &part)
+}
+
+/// The next era ends in the room that the first one left.
+#[test]
+fn an_era_ends_in_the_room_of_the_one_before_it(rt: HostRuntime) -> Result<(), AllocError> {
+    let course = Course {
+        seats: 2,
+        era_records: 2,
+        calls: 2,
+        end: End::RoomLeft,
     };
     let part = Rows {
         caller: 0,

@@ -12,8 +12,8 @@ use Rattle.nfs_pool.proofs.Numbered.{count-told, tell-all, told-count}
 use Rattle.nfs_pool.proofs.Ordered.{begin-sorted}
 use Rattle.nfs_pool.proofs.ending.close_era.Goals as goal
 
-pub returns-clause-era : goal.returns-clause-era
-returns-clause-era g c =
+pub returns-in-Ok-leave_era-clause-era : goal.returns-in-Ok-leave_era-clause-era
+returns-in-Ok-leave_era-clause-era g c =
     let old = c.args.desk.now.book in
     let tells = map told_value c.in-Ok.tells.items in
     let moved : IsPermutation (told_by c.args.seats.items) tells =
@@ -23,9 +23,9 @@ returns-clause-era g c =
     (subst (λ (rs : List Record). BeginSo c.before-2.result rs tells) c.executed.ensures
     (subst (λ (ts : List Told). BeginSo c.before-2.result (map shared_value c.executed.result.now)
     (map told_value ts)) c.deref-2.ensures.value (c.if-not-begin_so.ensures.0 refl))) in
-    let leaves = c.in_ok-ended.ensures.leaves in
+    let leaves = c.in-Ok-leave_era.ensures.leaves in
     let count = told-count c.args.seats.items c.in-Ok.tells.items moved in
-    let receipts = ap length c.in_ok-ended.ensures.ended in
+    let receipts = ap length c.in-Ok-leave_era.ensures.ended in
     let len : length tells ≡ length old.records =
     omega (
       arith,
@@ -36,7 +36,7 @@ returns-clause-era g c =
       leaves.counted,
     ) in
     subst (λ (era : Era). EndsEra old c.leave_era.new.desk.book (told_by c.args.seats.items) era)
-    (sym c.into_era.ensures) (record {
+    (sym c.into_parts-era.ensures.era) (record {
       run = leaves.run;
       told = tell-all old.before old.records (told_by c.args.seats.items) tells moved len begins;
       takes = leaves.takes;

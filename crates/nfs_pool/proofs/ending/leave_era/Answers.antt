@@ -8,7 +8,7 @@ new-requires g c =
     let old = c.no_share-all.new.self.book in
     let new = c.new_era-era.new.self.book in
     let told = ap length c.leave_all-lists.ensures.told in
-    let count : c.leave_all-lists.new.all.amount ≡ length (told_in c.leave_all-lists.result.items) =
+    let count : c.leave_all-lists.new.all.amount ≡ length (told_in c.leave_all-lists.result.0.items) =
     omega (
       arith,
       c.leave_all-lists.ensures.amount,

@@ -42,7 +42,7 @@ returns-clause-ends c =
       new,
       (
         old,
-        subst (λ (e : Era). EndsEra old new c.args.self.receipts e) (sym c.into_era.ensures)
+        subst (λ (e : Era). EndsEra old new c.args.self.receipts e) (sym c.into_parts.ensures.era)
             (subst (λ (e : EndedValue). EndsEra old new e.receipts e.era) c.self.view_is ends),
       ),
     )
