@@ -21,6 +21,9 @@ use std::rt::Clock;
 use std::sync::ledger::Ledger;
 use std::sync::{Arc, Wait};
 
+/// How many records are answered on one place, so that no connection has others wait for long.
+const MOST_RECORDS: usize = 64;
+
 /// Why a peer can't be served any more.
 #[derive(Clone, Copy)]
 pub(crate) enum Closed {
@@ -55,46 +58,76 @@ pub(crate) struct Clerk<L: Ledger, C> {
 }
 
 impl<L: Ledger, C: Clock> Clerk<L, C> {
-    /// Answers records of a connection, one after the other, and sends the answers. The place is given back behind the
-    /// last one, and whenever the answers that wait are to be sent before the next one.
+    /// Answers a record of a connection and those behind it, one after the other and so many at most, and sends the
+    /// answers. The place is given back behind the last one, and whenever the answers that wait are to be sent before the
+    /// next one. Whether a call was refused.
     ///
     /// # Errors
     ///
-    /// There was no memory to take a record in or to answer it, or the answers can't be sent. The records behind it are
-    /// let go.
+    /// There was no memory to take a record in or to answer it, or the answers can't be sent.
     pub(crate) fn answer_all<R: Wait>(
         &mut self,
         rt: &R,
         alloc: Global,
         line: &Line,
         place: Place<L>,
-        records: Vec<Record>,
-        waiting: &mut Connection,
-    ) -> Result<(), Closed>
-        requires { waiting.old.full ≡ false }
-        ensures { waiting.new.full ≡ false }
+        first: Record,
+        connection: &mut Connection,
+    ) -> Result<bool, Closed>
+        requires { connection.old.full ≡ false }
+        ensures { connection.new.full ≡ false }
     {
-        let mut place = place;
-        'records: for record in records {
-            let (left, answered) = self.answer(rt, alloc, &line.host, place, record);
+        let (mut place, mut is_refused) = self.answer_next(
+            rt, alloc, line, place, first, connection,
+        )?;
+        'records: for _ in 1..MOST_RECORDS {
+            let Some(record) = connection.next() else {
+                break;
+            };
+            let (left, refused) = self.answer_next(rt, alloc, line, place, record, connection)?;
             place = left;
-            match answered {
-                Ok(answer) => {
-                    if put(waiting, answer) {
-                        self.places.give(rt, place);
-                        line.send(waiting)?;
-                        place = self.places.take(rt);
-                    }
-                }
-                Err(closed) => {
-                    self.places.give(rt, place);
-                    line.send(waiting)?;
-                    return Err(closed);
-                }
-            }
+            is_refused = is_refused || refused;
         }
         self.places.give(rt, place);
-        line.send(waiting)
+        line.send(connection)?;
+        Ok(is_refused)
+    }
+
+    /// Answers the next record of a connection, and sends the answers that wait, where they are to be sent before the one
+    /// behind it. The place that is handed back may be another one. Whether the call was refused.
+    ///
+    /// # Errors
+    ///
+    /// As `answer_all`. The place is given back.
+    fn answer_next<R: Wait>(
+        &mut self,
+        rt: &R,
+        alloc: Global,
+        line: &Line,
+        place: Place<L>,
+        record: Record,
+        connection: &mut Connection,
+    ) -> Result<(Place<L>, bool), Closed>
+        requires { connection.old.full ≡ false }
+        ensures { connection.new.full ≡ false }
+    {
+        let (place, answered) = self.answer(rt, alloc, &line.host, place, record);
+        match answered {
+            Ok(answer) => {
+                let is_refused = is_refusal(&answer);
+                if !put(connection, answer) {
+                    return Ok((place, is_refused));
+                }
+                self.places.give(rt, place);
+                line.send(connection)?;
+                Ok((self.places.take(rt), is_refused))
+            }
+            Err(closed) => {
+                self.places.give(rt, place);
+                line.send(connection)?;
+                Err(closed)
+            }
+        }
     }
 
     /// Answers a record on a place that it takes for this one alone.
@@ -185,6 +218,11 @@ fn may_have_posted(answered: &Answered) -> bool {
         Ok(_) => false,
         Err(_) => true,
     }
+}
+
+/// Whether a call was refused, for want of memory or of a number.
+fn is_refusal(answer: &Answer) -> bool {
+    matches!(answer, Answer::Refused(_))
 }
 
 /// Puts an answer behind those that wait. Whether these are to be sent before the next one.

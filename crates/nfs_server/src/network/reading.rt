@@ -1,10 +1,10 @@
 //! The thread of a connection: it reads, and answers what it has read.
 
-ghost use Rattle.std.specs.Prelude.{◌≡◌, false};
+ghost use Rattle.std.specs.Prelude.{◌≡◌, false, length, OnOk};
 
 use crate::network::clerk::{Clerk, Closed};
 use crate::network::line::Line;
-use nfs_rpc::{Record, RecordError};
+use nfs_rpc::RecordError;
 use nfs_streams::Connection;
 use std::alloc::{AllocError, Global};
 use std::io::Read;
@@ -17,9 +17,6 @@ const FIRST_SIZE: usize = 16_384;
 
 /// How many bytes are read at once then.
 const BUFFER_SIZE: usize = 262_144;
-
-/// How many records are answered on one place, so that no connection has others wait for long.
-const MOST_RECORDS: usize = 64;
 
 /// What reads a connection.
 #[derive(Drop)]
@@ -46,63 +43,61 @@ impl<L: Ledger, C: Clock> Reader<L, C> {
                 return Ok(());
             }
             let taken = connection.take_in(&buffer[..count]);
-            self.answer_piece(rt, alloc, &mut connection)?;
+            let is_refused = self.answer_piece(rt, alloc, &mut connection)?;
             match taken {
                 Ok(()) => {}
                 Err(RecordError::TooLarge) => return Err(Closed::Failed),
                 Err(RecordError::Memory) => return Err(Closed::Memory),
             }
-            if count == buffer.len() {
-                // Where there is no memory for a larger one, this one does.
-                let _ = buffer.resize(BUFFER_SIZE, 0);
-            }
+            fit(&mut buffer, count, is_refused)?;
         }
         unreachable!()
     }
 
-    /// Answers the whole records that have come.
+    /// Answers the whole records that have come. Whether a call was refused.
     fn answer_piece<R: Wait>(
         &mut self,
         rt: &R,
         alloc: Global,
         connection: &mut Connection,
-    ) -> Result<(), Closed>
+    ) -> Result<bool, Closed>
         requires { connection.old.full ≡ false }
         ensures { connection.new.full ≡ false }
     {
+        let mut is_refused = false;
         'batches: for _ in rt.forever() {
-            let records = next_records(alloc, connection)?;
-            if records.is_empty() {
-                return Ok(());
-            }
+            let Some(first) = connection.next() else {
+                return Ok(is_refused);
+            };
             let place = self.clerk.places.take(rt);
-            self.clerk
-                .answer_all(rt, alloc, &self.line, place, records, connection)?;
+            let refused = self
+                .clerk
+                .answer_all(rt, alloc, &self.line, place, first, connection)?;
+            is_refused = is_refused || refused;
         }
         unreachable!()
     }
 }
 
-/// The next records that have come, so many at most.
-fn next_records(alloc: Global, connection: &mut Connection) -> Result<Vec<Record>, AllocError>
-    ensures { connection.new.full ≡ connection.old.full }
-{
-    let mut records = Vec::new(alloc);
-    'records: for _ in 0..MOST_RECORDS {
-        if !add_next(&mut records, connection)? {
-            break;
-        }
+/// Fits the buffer for the next read, where so many bytes came in this one: it is small again where a call was refused,
+/// since memory is wanting then, and else large once it was full.
+fn fit(buffer: &mut Vec<u8>, count: usize, is_refused: bool) -> Result<(), AllocError> {
+    if is_refused && buffer.len() > FIRST_SIZE {
+        return make_small(buffer);
     }
-    Ok(records)
+    if !is_refused && count == buffer.len() {
+        // Where there is no memory for a larger one, this one does.
+        let _ = buffer.resize(BUFFER_SIZE, 0);
+    }
+    Ok(())
 }
 
-/// Adds the next record that has come. Whether there was one.
-fn add_next(records: &mut Vec<Record>, connection: &mut Connection) -> Result<bool, AllocError>
-    ensures { connection.new.full ≡ connection.old.full }
+/// Gives back what the buffer takes, and takes what it had first. To move what stands in it would take memory before
+/// that.
+fn make_small(buffer: &mut Vec<u8>) -> Result<(), AllocError>
+    ensures { OnOk result (length buffer.new.items ≡ FIRST_SIZE) }
 {
-    let Some(record) = connection.next() else {
-        return Ok(false);
-    };
-    records.push(record)?;
-    Ok(true)
+    buffer.clear();
+    buffer.shrink_to_fit();
+    buffer.resize(FIRST_SIZE, 0)
 }
