@@ -3,7 +3,7 @@
 //! every moment is (1000, 0). Calls and replies are worked out by hand from RFC 5531, sections 8, 9 and 11, and RFC
 //! 1813.
 
-ghost use Rattle.std.specs.Prelude.{IfOk};
+ghost use Rattle.std.specs.Prelude.{◌≡◌, [], IfOk};
 ghost use Rattle.nfs_schedule.specs.Worlds.{IsAtRest};
 
 mod callbacks;
@@ -12,6 +12,7 @@ mod command_lines;
 mod connections;
 mod exit_lines;
 mod from_options;
+mod full_memory;
 mod readers_and_writers;
 mod runs;
 mod stream_faults;
@@ -122,6 +123,14 @@ fn exports(alloc: Global) -> Result<Exports, AllocError> {
 fn opened(alloc: Global) -> Result<Engine, AllocError>
     ensures { IfOk result IsAtRest }
 {
+    opened_with(alloc, 65_536)
+}
+
+/// The same with eras of so many records.
+fn opened_with(alloc: Global, era_records: u64) -> Result<Engine, AllocError>
+    ensures rest { IfOk result IsAtRest }
+    ensures records { IfOk result (λ engine. engine.book.records ≡ []) }
+{
     let config = Config {
         exports: exports(alloc)?,
         start: 7,
@@ -133,7 +142,7 @@ fn opened(alloc: Global) -> Result<Engine, AllocError>
         limits: Limits {
             total_bytes: 1 << 40,
         },
-        era_records: 65_536,
+        era_records,
     };
     match Engine::new(alloc, config) {
         Ok(engine) => Ok(engine),

@@ -1,0 +1,239 @@
+//! A memory that is full can be emptied. The test takes the address space itself, but for what it leaves to the server,
+//! by vectors that it never writes to: of these the machine has nothing to hold. From then on growths are refused as on
+//! a machine whose memory is full.
+
+mod by_stream;
+
+use super::*;
+use std::io;
+use std::rt::Clock;
+use std::time::Duration;
+
+/// How many bytes are left to the server. So many that what is refused first is the growth of a large table, while for
+/// what a call needs besides there is memory.
+const LEFT: usize = 33 << 19;
+
+/// How many bytes the largest vectors have that are tried. The system refuses those above the machine's memory.
+const LARGEST: usize = 1 << 40;
+
+/// How often they are halved: down to 16 bytes.
+const HALVES: u32 = 36;
+
+/// How many vectors are taken at most.
+const MOST_TAKEN: usize = 1 << 17;
+
+/// How many seconds taking may last: some tenths of one do.
+const PATIENCE: u64 = 10;
+
+/// How many names are made, at most, where memory is there.
+const FEW: u32 = 200;
+
+/// No server makes as many names in what is left.
+const MOST: u32 = 100_000;
+
+/// NFS3_OK and NFS3ERR_JUKEBOX (RFC 1813, 2.6).
+const OK: u32 = 0;
+
+const JUKEBOX: u32 = 10008;
+
+/// What is done at present with names in the root.
+#[derive(Clone, Copy, PartialEq, Eq)]
+enum Stage {
+    /// They are made, until that is refused for want of memory.
+    Making,
+    /// Each of them is removed.
+    Removing,
+    /// As many are made again.
+    MakingAgain,
+    Over,
+}
+
+/// How far names are.
+#[derive(Clone, Copy)]
+struct Progress {
+    stage: Stage,
+    /// How many are made at most.
+    most: u32,
+    calls: u32,
+    made: u32,
+    removed: u32,
+    made_again: u32,
+}
+
+impl Progress {
+    fn new(most: u32) -> Progress {
+        Progress {
+            stage: Stage::Making,
+            most,
+            calls: 0,
+            made: 0,
+            removed: 0,
+            made_again: 0,
+        }
+    }
+
+    /// The number of the name that is next.
+    fn number(&self) -> u32 {
+        match self.stage {
+            Stage::Making => self.made,
+            Stage::Removing => self.removed,
+            Stage::MakingAgain | Stage::Over => self.made_again,
+        }
+    }
+
+    /// Behind the call on the name that was next, which was answered so.
+    fn answered(self, status: Option<u32>) -> Progress {
+        match status {
+            Some(OK) => self.done(),
+            Some(JUKEBOX) if self.stage == Stage::Making => self.at(Stage::Removing),
+            _ => self.at(Stage::Over),
+        }
+    }
+
+    /// The call on the name that was next is done.
+    fn done(self) -> Progress {
+        let mut next = self;
+        next.calls = self.calls.saturating_add(1);
+        let number = self.number().saturating_add(1);
+        match self.stage {
+            Stage::Making => next.made = number,
+            Stage::Removing => next.removed = number,
+            Stage::MakingAgain | Stage::Over => next.made_again = number,
+        }
+        next.followed()
+    }
+
+    /// The next stage where all names of this one are done.
+    fn followed(self) -> Progress {
+        match self.stage {
+            Stage::Making if self.made == self.most => self.at(Stage::Removing),
+            Stage::Removing if self.removed == self.made => self.at(Stage::MakingAgain),
+            Stage::MakingAgain if self.made_again == self.made => self.at(Stage::Over),
+            _ => self,
+        }
+    }
+
+    fn at(self, stage: Stage) -> Progress {
+        let mut next = self;
+        next.calls = self.calls.saturating_add(1);
+        next.stage = stage;
+        next
+    }
+}
+
+/// The name with this number: four letters.
+fn name(number: u32) -> u32 {
+    let mut letters = [b'a'; 4];
+    let mut rest = number;
+    for letter in &mut letters {
+        *letter = b'a' + (rest % 26) as u8;
+        rest /= 26;
+    }
+    u32::from_be_bytes(letters)
+}
+
+/// Adds words.
+fn add(bytes: &mut Vec<u8>, words: &[u32]) -> io::Result<()> {
+    for word in words {
+        bytes.extend_from_slice(&word.to_be_bytes())?;
+    }
+    Ok(())
+}
+
+/// Adds a call of a procedure on the name with this number in the root, and what stands behind that.
+fn add_call(
+    call: &mut Vec<u8>,
+    procedure: u32,
+    progress: &Progress,
+    mark: u32,
+    behind: &[u32],
+) -> io::Result<()> {
+    let front = [mark, progress.calls, 0, 2, 100003, 3, procedure, 0, 0, 0, 0];
+    add(call, &front)?;
+    add(call, &[32, 0x4e464433, 1, 0, 7, 0, 1, 0, 1])?;
+    add(call, &[4, name(progress.number())])?;
+    add(call, behind)
+}
+
+/// Adds the next call, if there is one: every other name is a directory's. CREATE is GUARDED, and it and MKDIR give no
+/// attributes (RFC 1813, 3.3.8, 3.3.9, 3.3.12 and 3.3.13).
+fn add_next(call: &mut Vec<u8>, progress: &Progress) -> io::Result<()> {
+    let is_directory = progress.number() % 2 == 1;
+    match progress.stage {
+        Stage::Over => Ok(()),
+        Stage::Removing if is_directory => add_call(call, 13, progress, 0x80000054, &[]),
+        Stage::Removing => add_call(call, 12, progress, 0x80000054, &[]),
+        _ if is_directory => add_call(call, 9, progress, 0x8000006c, &[0; 6]),
+        _ => add_call(call, 8, progress, 0x80000070, &[1, 0, 0, 0, 0, 0, 0]),
+    }
+}
+
+/// The status of NFS in an answer, where the call was accepted: behind the mark and six words (RFC 5531, section 9).
+fn status(answer: &[u8]) -> Option<u32> {
+    match answer.get(28..)? {
+        [a, b, c, d, ..] => Some(u32::from_be_bytes([*a, *b, *c, *d])),
+        _ => None,
+    }
+}
+
+/// Takes vectors of this size until one is refused, or no time is left.
+fn take_of(
+    clock: &impl Clock,
+    alloc: Global,
+    taken: &mut Vec<Vec<u8>>,
+    size: usize,
+    until: Duration,
+) {
+    for _ in 0..MOST_TAKEN {
+        let Ok(vector) = Vec::with_capacity(alloc, size) else {
+            return;
+        };
+        drop(taken.push(vector));
+        if !is_before(clock, until) {
+            return;
+        }
+    }
+}
+
+/// Takes all memory, as no vector of 16 bytes is left. False where that lasts too long.
+fn take_all(clock: &impl Clock, alloc: Global, taken: &mut Vec<Vec<u8>>) -> bool {
+    let Ok(now) = clock.monotonic() else {
+        return false;
+    };
+    let until = now.saturating_add(Duration::from_secs(PATIENCE));
+    for halves in 0..HALVES + 1 {
+        take_of(clock, alloc, taken, LARGEST >> halves, until);
+    }
+    is_before(clock, until)
+}
+
+/// Whether it is not that late yet.
+fn is_before(clock: &impl Clock, until: Duration) -> bool {
+    match clock.monotonic() {
+        Ok(now) => now < until,
+        Err(_) => false,
+    }
+}
+
+/// Names were made, removed and made again, first a few of them where memory was there, so that the stack was as deep as
+/// it gets before the address space was taken; then where it was full: each was removed, and nine tenths came again.
+fn is_emptied(rt: &impl Abort, few: Progress, full: Progress) -> Result<(), Fail> {
+    assert_eq!(rt; (few.made, few.removed, few.made_again), (FEW, FEW, FEW));
+    assert!(rt;
+        1000 < full.made && full.made < MOST,
+        "no memory was full: {} names",
+        full.made
+    );
+    assert!(rt;
+        full.removed == full.made,
+        "{} of {} removed",
+        full.removed,
+        full.made
+    );
+    assert!(rt;
+        full.made_again >= full.made / 10 * 9,
+        "{} made again",
+        full.made_again
+    );
+    Ok(())
+}
