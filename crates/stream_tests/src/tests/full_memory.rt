@@ -9,9 +9,12 @@ use std::io;
 use std::rt::Clock;
 use std::time::Duration;
 
-/// How many bytes are left to the server. So many that what is refused first is the growth of a large table, while for
-/// what a call needs besides there is memory.
-const LEFT: usize = 33 << 19;
+/// How many bytes are left to the server, so that what is refused first is the growth of a large table, while for what
+/// a call needs besides there is memory.
+const LEFT_BELOW_A_TABLE: usize = 33 << 19;
+
+/// How many bytes are left to it, so that names take them to the brim.
+const LEFT_TO_THE_BRIM: usize = 24 << 20;
 
 /// How many bytes the largest vectors have that are tried. The system refuses those above the machine's memory.
 const LARGEST: usize = 1 << 40;

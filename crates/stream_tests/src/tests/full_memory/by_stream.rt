@@ -62,10 +62,14 @@ fn played(alloc: Global, most: u32) -> Progress {
     progress.get()
 }
 
-/// How far names come where memory is full but for what is left.
-fn played_in_full_memory(clock: &impl Clock, alloc: Global) -> Result<Progress, AllocError> {
+/// How far names come where memory is full but for so many bytes.
+fn played_in_full_memory(
+    clock: &impl Clock,
+    alloc: Global,
+    bytes: usize,
+) -> Result<Progress, AllocError> {
     let mut taken = Vec::with_capacity(alloc, MOST_TAKEN)?;
-    let left: Vec<u8> = Vec::with_capacity(alloc, LEFT)?;
+    let left: Vec<u8> = Vec::with_capacity(alloc, bytes)?;
     let is_taken = take_all(clock, alloc, &mut taken);
     drop(left);
     let progress = played(alloc, if is_taken { MOST } else { 0 });
@@ -74,8 +78,17 @@ fn played_in_full_memory(clock: &impl Clock, alloc: Global) -> Result<Progress, 
 }
 
 /// No REMOVE and no RMDIR is refused.
-#[test]
-fn a_full_memory_is_emptied(rt: HostRuntime) -> Result<(), Fail> {
+fn is_emptied_of(rt: &(impl Abort + Clock + AllocGlobal), bytes: usize) -> Result<(), Fail> {
     let few = played(rt.alloc(), FEW);
-    is_emptied(&rt, few, played_in_full_memory(&rt, rt.alloc())?)
+    is_emptied(rt, few, played_in_full_memory(rt, rt.alloc(), bytes)?)
+}
+
+#[test]
+fn a_memory_in_which_no_table_grows_is_emptied(rt: HostRuntime) -> Result<(), Fail> {
+    is_emptied_of(&rt, LEFT_BELOW_A_TABLE)
+}
+
+#[test]
+fn a_memory_that_is_full_to_the_brim_is_emptied(rt: HostRuntime) -> Result<(), Fail> {
+    is_emptied_of(&rt, LEFT_TO_THE_BRIM)
 }
