@@ -36,6 +36,21 @@ impl<L: Ledger, C: Clock> Reader<L, C> {
     /// Serves the connection to its end.
     fn read<R: Wait>(&mut self, rt: &R, alloc: Global) -> Result<(), Closed> {
         let mut connection = Connection::new(alloc);
+        let served = self.read_pieces(rt, alloc, &mut connection);
+        // A call of `drop`, since a drop at the end is proved for each exit.
+        drop(connection);
+        served
+    }
+
+    /// Reads what comes over the connection and answers it, to its end.
+    fn read_pieces<R: Wait>(
+        &mut self,
+        rt: &R,
+        alloc: Global,
+        connection: &mut Connection,
+    ) -> Result<(), Closed>
+        requires { connection.old.full ≡ false }
+    {
         let mut buffer = Vec::from_elem(alloc, 0u8, FIRST_SIZE)?;
         'pieces: for _ in rt.forever() {
             let count = (&self.line.stream).read(buffer.as_mut_slice())?;
@@ -43,7 +58,7 @@ impl<L: Ledger, C: Clock> Reader<L, C> {
                 return Ok(());
             }
             let taken = connection.take_in(&buffer[..count]);
-            let is_refused = self.answer_piece(rt, alloc, &mut connection)?;
+            let is_refused = self.answer_piece(rt, alloc, connection)?;
             match taken {
                 Ok(()) => {}
                 Err(RecordError::TooLarge) => return Err(Closed::Failed),
