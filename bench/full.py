@@ -1,7 +1,7 @@
 #!/usr/bin/env python3
 """Tries nfsd with a memory that is full: under a limit of its address space files are made until 100 calls in turn are
 refused; then each of them is removed, and as many are made again. It says what was made, refused, removed and made
-again, and ends with 1 where a file could not be removed or less than nine tenths came again.
+again, and ends with 1 where a file could not be removed or less than half came again.
 
 A REMOVE that is refused is asked again, up to ten times in all, a second apart. Over TCP a connection that the server
 closes for want of memory is opened anew, and counts as a refusal.
@@ -159,7 +159,7 @@ def played(server, data):
     tell(f"; {again:,} made again")
     status = server.close()
     tell(f"; the program ends with {status}")
-    return made and not left and again * 10 >= len(made) * 9 and status == 0
+    return made and not left and again * 2 >= len(made) and status == 0
 
 
 def is_emptied(what, server, data):
