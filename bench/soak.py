@@ -32,6 +32,7 @@ PATIENCE = 2  # seconds until a call is sent again, since its answer may have go
 TRIES = 30
 LATEST = 4096  # so many replies a client remembers
 PROCESSES = 4
+MOST_READ = 65_536  # bytes that a READ gives at most
 SIZES = [1, 7, 100, 1000, 5000, 40_000]  # of what is written
 
 
@@ -302,7 +303,9 @@ class Client(Caller):
                 assert self.find(handle, name) == file, f"handle of {name}"
                 assert self.content(file, len(content)) == content, f"bytes of {name}"
         begin = self.number * len(self.part)
-        assert self.read(self.board, begin, len(self.part)) == self.part, "bytes of its part"
+        for offset in range(0, len(self.part), MOST_READ):
+            part = self.part[offset : offset + MOST_READ]
+            assert self.read(self.board, begin + offset, len(part)) == part, "bytes of its part"
 
 
 Told = collections.namedtuple("Told", "number fault calls again twice slowest made tokens")
