@@ -5,6 +5,7 @@ mod MakingWorked
 mod OneFile
 mod PostingWorked
 mod Ranges
+mod ReplacingWorked
 mod Replies
 mod RunWorked
 mod Settled

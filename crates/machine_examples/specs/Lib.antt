@@ -9,6 +9,7 @@ pub mod WorkedMaking
 pub mod WorkedNames
 pub mod WorkedPages
 pub mod WorkedPosting
+pub mod WorkedReplacing
 pub mod WorkedReplies
 pub mod WorkedRun
 pub mod WorkedSetting

@@ -10,6 +10,7 @@ ghost use Rattle.machine_examples.specs.WorkedLocks.{WorkedGrants, WorkedMounts,
 ghost use Rattle.machine_examples.specs.WorkedLocks.{WorkedShares, WorkedTests};
 ghost use Rattle.machine_examples.specs.WorkedPages.{WorkedFullPages, WorkedPages, WorkedSizes};
 ghost use Rattle.machine_examples.specs.WorkedPosting.{WorkedPosting};
+ghost use Rattle.machine_examples.specs.WorkedReplacing.{WorkedNumberings, WorkedReplacings};
 ghost use Rattle.machine_examples.specs.WorkedReplies.{WorkedFileReplies, WorkedRootReplies};
 ghost use Rattle.machine_examples.specs.WorkedRun.{WorkedLeaving, WorkedLinkings, WorkedRenamings, WorkedRun};
 ghost use Rattle.machine_examples.specs.WorkedRun.{WorkedSteps, WorkedTurns};
@@ -50,6 +51,12 @@ pub fn worked_exports()
 /// Exports whose numbers are not their places, and whose roots have other numbers than they.
 pub fn worked_exporting()
     ensures { WorkedExporting }
+{}
+
+/// Exports that are replaced: what stays, what is new, what goes and comes back, and numbers that are used up.
+pub fn worked_replacing()
+    ensures numbers { WorkedNumberings }
+    ensures steps { WorkedReplacings }
 {}
 
 /// Which calls change something.

@@ -6,7 +6,7 @@ use Rattle.nfs_wire.specs.Calls.{SpellsOneCall}
 use Rattle.nfs_xdr.specs.Programs as program
 use Rattle.side_wire.specs.Mount.{mount_procedure_of, SpellsMountArguments}
 use Rattle.side_wire.specs.Nlm.{nlm_procedure_of, SpellsNlmArguments}
-use Rattle.nfs_machine.specs.Run.{Arrival, FromHost, Asks, IsCall, Setting, context_of}
+use Rattle.nfs_machine.specs.Run.{Arrival, FromHost, NewExports, Asks, IsCall, Setting, context_of}
 use Rattle.nfs_machine.specs.declared.calls.Call.{Call}
 use Rattle.nfs_machine.specs.declared.calls.Call.TheVariants as calls
 use Rattle.nfs_machine.specs.declared.context.Ctx.{Ctx}
@@ -25,6 +25,10 @@ one_call nfs mount nlm of procedure bytes (calls.Mount k) (calls.Nfs k') a b = l
 one_call nfs mount nlm of procedure bytes (calls.Mount k) (calls.Nlm k') a b = let same = sym a.0 ∙ b.0 in cc
 one_call nfs mount nlm of procedure bytes (calls.Nlm k) (calls.Nfs k') a b = let same = sym a.0 ∙ b.0 in cc
 one_call nfs mount nlm of procedure bytes (calls.Nlm k) (calls.Mount k') a b = let same = sym a.0 ∙ b.0 in cc
+one_call nfs mount nlm of procedure bytes (calls.Replace k) call a b = absurd a
+one_call nfs mount nlm of procedure bytes (calls.Nfs k) (calls.Replace k') a b = absurd b
+one_call nfs mount nlm of procedure bytes (calls.Mount k) (calls.Replace k') a b = absurd b
+one_call nfs mount nlm of procedure bytes (calls.Nlm k) (calls.Replace k') a b = absurd b
 
 pub asked_once : SpellsOneCall → program.SpellsOneCall mount_procedure_of SpellsMountArguments → program.SpellsOneCall nlm_procedure_of SpellsNlmArguments
     → (setting : Setting) (arrival : Arrival) (ctx ctx' : Ctx) (call call' : Call)
@@ -37,3 +41,4 @@ asked_once nfs mount nlm setting (FromHost received) ctx ctx' call call' a b =
           b.made_under),
       one_call nfs mount nlm b.header.program b.header.procedure b.header.arguments call call' (subst P same a.is_call) b.is_call,
     )
+asked_once nfs mount nlm setting (NewExports exports moment) ctx ctx' call call' a b = (a.1 ∙ sym b.1, a.0 ∙ sym b.0)

@@ -1,6 +1,6 @@
 -- What is mounted, held and waited for stays within the bounds of MOUNT and NLM, whatever is called.
 use Rattle.std.proofs.Common.{◌≡◌, ℕ, true, false, cond, List, [], ◌∷◌, ◌++◌, Result, Ok, Err}
-use Rattle.std.proofs.Common.{refl, sym, ap, subst}
+use Rattle.std.proofs.Common.{inl, inr, refl, sym, ap, subst}
 use Rattle.std.specs.List.{AllByRecursion}
 use Rattle.nfs_xdr.specs.Types.{Spells}
 use Rattle.side_wire.specs.Messages.{HasLockForm}
@@ -17,7 +17,11 @@ use Rattle.side_wire.specs.declared.nlm.NlmCall.{NlmCall}
 use Rattle.side_wire.specs.declared.nlm.NlmCall.TheVariants as nlm
 use Rattle.nfs_rpc.specs.declared.programs.Program.{Program}
 use Rattle.nfs_machine.specs.MountSteps.{MntAnswers, MountStep, is_mounted, newest}
-use Rattle.nfs_machine.specs.Run.{FromHost, IsCall}
+use Rattle.nfs_machine.specs.Run.{FromHost, NewExports, IsCall}
+use Rattle.nfs_machine.specs.Exports.{ExportValue}
+use Rattle.nfs_machine.specs.Replacing.{ReplaceStep}
+use Rattle.nfs_machine.specs.Times.{time_of}
+use Rattle.nfs_machine.proofs.ReplacedState.{bounds-kept, same-or-replaced}
 use Rattle.nfs_machine.specs.SideLaws.{AskedFits, CallFits, LocksFit, LocksStayFit, MountsFit, MountsStayFit}
 use Rattle.nfs_machine.specs.SideLaws.{OpeningFits, OwnersFit, PathFits, ChainsStayFit, SpelledCallsFit}
 use Rattle.nfs_machine.specs.State.{Request, State}
@@ -71,11 +75,14 @@ spelled : (ctx : Ctx) (program : Program) (procedure : ℕ) (bytes : List ℕ) (
 spelled ctx program procedure bytes (calls.Nfs call) host is = tt
 spelled ctx program procedure bytes (calls.Mount call) host is = (host, spelled-path call is.2.0 is.2.3)
 spelled ctx program procedure bytes (calls.Nlm call) host is = spelled-call call is.2.0 is.2.3
+spelled ctx program procedure bytes (calls.Replace exports) host is = absurd is
 
 pub spelled_calls_fit : SpelledCallsFit
 spelled_calls_fit setting (FromHost received) ctx call host asks =
     spelled ctx asks.header.program asks.header.procedure asks.header.arguments call
     (subst IsHostName (sym (ap (λ (c : Ctx). c.host) asks.made_under)) host) asks.is_call
+spelled_calls_fit setting (NewExports exports moment) ctx call host asks =
+    subst (λ (c : Call). AskedFits ctx c) (sym asks.0) tt
 
 -- ---- MOUNT leaves locks as they are
 mnt-locks : (old : State) (ctx : Ctx) (path : List ℕ) (result : Result (List ℕ) MountStatus) (new : State) →
@@ -106,6 +113,22 @@ same-mounts old new same fit = subst
     (λ (mounts : List MountBody). AllByRecursion
     (λ (x : MountBody). IsHostName x.hostname × IsDirpath x.directory) mounts) (sym same) fit
 
+-- ---- other exports leave mounts, and locks are those of what stays
+replaced-mounts : (old : State) (ctx : Ctx) (exports : List ExportValue) (messages : List Message) (new : State)
+    → ReplaceStep old ctx exports messages new → new.mounts ≡ old.mounts
+replaced-mounts old ctx exports messages new step = elim (same-or-replaced old ctx exports messages new step) [
+  | inl same ↦ ap (λ (m : State). m.mounts) same
+  | inr r ↦ ap (λ (m : State). m.mounts) r.replaces.state_is
+]
+
+replaced-locks : (old : State) (ctx : Ctx) (exports : List ExportValue) (messages : List Message) (new : State)
+    → ReplaceStep old ctx exports messages new → LocksFit old → LocksFit new
+replaced-locks old ctx exports messages new step fit = elim (same-or-replaced old ctx exports messages new step) [
+  | inl same ↦ subst LocksFit (sym same) fit
+  | inr r ↦ subst LocksFit (sym r.replaces.state_is)
+      (bounds-kept old exports r.replaces.choose r.replaces.spent (time_of ctx.moment) r.replaces.fresh fit)
+]
+
 pub mounts_stay_fit : MountsStayFit
 mounts_stay_fit old ctx (calls.Nfs call) (replies.Nfs reply) messages new step asked fit = same-mounts old new
     (nfs-follows old ctx call reply messages new step).mounts fit
@@ -114,6 +137,8 @@ mounts_stay_fit old ctx (calls.Mount call)
     step
 mounts_stay_fit old ctx (calls.Nlm call) (replies.Nlm reply) messages new step asked fit = same-mounts old new
     (nlm-touches old ctx call reply messages new step).mounts fit
+mounts_stay_fit old ctx (calls.Replace exports) replies.Replaced messages new step asked fit =
+    same-mounts old new (replaced-mounts old ctx exports messages new step) fit
 mounts_stay_fit old ctx call reply messages new step asked fit = absurd step
 
 pub locks_stay_fit : LocksStayFit
@@ -123,6 +148,8 @@ locks_stay_fit old ctx (calls.Mount call)
     (replies.Mount reply) messages new step asked fit = mount-locks old ctx call reply messages new step fit
 locks_stay_fit old ctx (calls.Nlm call) (replies.Nlm reply) messages new step asked fit =
     (nlm_messages_form old ctx call reply messages new fit asked step).1
+locks_stay_fit old ctx (calls.Replace exports) replies.Replaced messages new step asked fit =
+    replaced-locks old ctx exports messages new step fit
 locks_stay_fit old ctx call reply messages new step asked fit = absurd step
 
 pub opening_fits : OpeningFits

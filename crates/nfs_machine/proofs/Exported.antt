@@ -57,7 +57,7 @@ or-later true b e = refl
 or-later false b e = e
 
 -- the root of each is one
-each-root : (exports : List LivingExport) →
+pub each-root : (exports : List LivingExport) →
     AllByRecursion (λ (e : LivingExport). list_any (roots_at e.root) exports ≡ true) exports
 each-root [] = tt
 each-root (e ∷ exports) = (

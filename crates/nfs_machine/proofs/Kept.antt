@@ -1,9 +1,9 @@
 -- What each step keeps, and so each run: a handle is given once, and what is true of every state stays true.
 use Rattle.std.proofs.Common.{◌≡◌, ℕ, ◌+◌, ◌≤◌, ◌^◌, Bool, true, false, not, ◌||◌, cond}
 use Rattle.std.proofs.Common.{List, [], ◌∷◌, ◌++◌, Option, Some, None, Result, Ok, Err, IfOk, filter}
-use Rattle.std.proofs.Common.{nat_lt, inl, inr, refl, sym, ◌∙◌, ap, subst, arith, ◌==◌}
+use Rattle.std.proofs.Common.{nat_lt, inl, inr, refl, sym, ◌∙◌, ap, subst, arith, ◌==◌, ◌<◌, ◌&&◌, nat_le, suc}
 use Rattle.std.specs.FinMap.{FinMap, get, values}
-use Rattle.std.specs.List.{sum_by}
+use Rattle.std.specs.List.{AllByRecursion, sum_by}
 use Rattle.std.specs.Ordering.{nat_cmp}
 use Rattle.nfs_wire.specs.declared.attributes.Time.{Time}
 use Rattle.nfs_wire.specs.declared.calls.NfsCall.{NfsCall}
@@ -26,6 +26,7 @@ use Rattle.side_wire.specs.declared.nlm.NlmReply.{NlmReply}
 use Rattle.nfs_wire.specs.declared.calls.RenameArguments.{RenameArguments}
 use Rattle.std.specs.Prelude.{ok_or, is_some}
 use Rattle.std.proofs.lemmas.Bool.{not-true}
+use Rattle.std.proofs.lemmas.Bool.Decides.{nat_tests}
 use Rattle.std.specs.Cmp.{unsigned_Decides}
 use Rattle.nfs_machine.specs.Resolve.{Named, resolve}
 use Rattle.nfs_machine.specs.Permission.{ToChange}
@@ -35,6 +36,17 @@ use Rattle.nfs_machine.specs.Chains.{Chain, Transition}
 use Rattle.nfs_machine.specs.Checks.{DirectoryEntries, holding, link_limit, ◌>>=◌, object_of, entries_in, entry_of, changeable, permitted, plain_name_checked}
 use Rattle.nfs_machine.specs.Laws.{GivesOnce, KeepsCookies, KeepsExports, LivesAs, NeverGivenAgain, ChainsKeepForm}
 use Rattle.nfs_machine.specs.Laws.{StepsGiveOnce, StepsKeepCookies, StepsKeepExports, StepsKeepForm}
+use Rattle.nfs_machine.specs.Laws.{AreWithin, ChainsNumberOnce, GoneIsStale, NumbersOnce, StepsKeepWithin}
+use Rattle.nfs_machine.specs.Laws.{StepsNumberOnce, is_replacing}
+use Rattle.nfs_machine.specs.ExportFaults.{AreFaultless}
+use Rattle.nfs_machine.specs.Exports.{ExportValue, LivingExport, export_admits, export_at}
+use Rattle.nfs_machine.specs.Replacing.{AreFreshRoots, ReplaceStep, RootChoice, export_with_path, is_exhausted}
+use Rattle.nfs_machine.specs.Replacing.{new_count, renumbered, replaced}
+use Rattle.nfs_machine.specs.Resolve.{Stale, living_at, named}
+use Rattle.nfs_machine.proofs.Exported.{export-number}
+use Rattle.nfs_machine.proofs.Bounded.{HasBounds, faultless-bound}
+use Rattle.nfs_machine.proofs.ReplacedState.{apart-kept, cookies-kept, firm-kept, formed, gives-once, names-kept}
+use Rattle.nfs_machine.proofs.ReplacedState.{numbers-once, same-object, same-or-replaced, waits-kept}
 use Rattle.nfs_machine.specs.LinkSteps.{link_end}
 use Rattle.nfs_machine.specs.Grants.{AllHeldUp}
 use Rattle.nfs_machine.specs.LockLaws.{ChainsKeepApart, ChainsKeepWaiting, StepsKeepApart, StepsKeepWaiting}
@@ -409,17 +421,184 @@ nlm-keeps old ctx call reply messages new step =
     untouched (time_of ctx.moment) old new (nlm-touches old ctx call reply messages new step)
     (nlm-waits old ctx call reply messages new step)
 
-step-keeps : (old : State) (ctx : Ctx) (call : Call) (reply : Reply) (messages : List Message) (new : State) → Step old ctx call reply messages new → Keeps (time_of ctx.moment) old new
-step-keeps old ctx (calls.Nfs call) (replies.Nfs reply) messages new step = keeps (time_of ctx.moment) old new (nfs-follows old ctx call reply messages new step)
-step-keeps old ctx (calls.Mount call) (replies.Mount reply) messages new step = mount-keeps old ctx call reply messages new step
-step-keeps old ctx (calls.Nlm call) (replies.Nlm reply) messages new step = nlm-keeps old ctx call reply messages new step
+never : true ≡ false → ⊥
+never e = cc
+
+-- what a call of a host keeps
+host-keeps : (old : State) (ctx : Ctx) (call : Call) (reply : Reply) (messages : List Message) (new : State)
+    → is_replacing call ≡ false
+    → Step old ctx call reply messages new → Keeps (time_of ctx.moment) old new
+host-keeps old ctx (calls.Nfs call) (replies.Nfs reply) messages new host step =
+    keeps (time_of ctx.moment) old new (nfs-follows old ctx call reply messages new step)
+host-keeps old ctx (calls.Mount call) (replies.Mount reply) messages new host step =
+    mount-keeps old ctx call reply messages new step
+host-keeps old ctx (calls.Nlm call) (replies.Nlm reply) messages new host step =
+    nlm-keeps old ctx call reply messages new step
+host-keeps old ctx (calls.Replace exports) reply messages new host step = absurd (never host)
+host-keeps old ctx call reply messages new host step = absurd step
+
+-- what every step keeps, whoever asks it
+record Always (now : Time) (old new : State) : Type 0 where
+  pub gives : GivesOnce old new
+  pub touches : TouchesOnce now old new
+  pub cookies : KeepsCookies old new
+  pub formed : WellFormed old → WellFormed new
+  pub counts : WellFormed old → Counts now old new
+  pub locks : LocksFollow old new
+  pub numbers : WellFormed old → NumbersOnce old new
+  pub within : AreWithin old.exports → AreWithin new.exports
+
+same-exports : (old new : State) → KeepsExports old new → WellFormed old → NumbersOnce old new
+same-exports old new keeps w = record {
+  last = (let same = keeps.last in omega (arith, same));
+  lived = λ number e found used.
+      let there : export_at old.exports number ≡ Some e = ap (λ es. export_at es number) (sym keeps.exports) ∙ found in
+      let own = export-number old.exports number e there in
+      record { was = e; there = ap (export_at old.exports) own ∙ there; root = refl; path = refl };
+}
+
+always : (now : Time) (old new : State) → Keeps now old new → Always now old new
+always now old new k = record {
+  gives = k.gives;
+  touches = k.touches;
+  cookies = k.cookies;
+  formed = k.formed;
+  counts = k.counts;
+  locks = k.locks;
+  numbers = same-exports old new k.exports;
+  within = subst AreWithin (sym (k.exports).exports);
+}
+
+-- other exports
+room : (m : State) (exports : List ExportValue) → is_exhausted m.exports m.last_export exports ≡ false
+    → m.last_export < m.last_export + new_count m.exports exports → m.last_export + new_count m.exports exports < 2 ^ 32
+room m exports free more =
+    by (nat_le 1 (new_count m.exports exports)) (nat_le (2 ^ 32) (m.last_export + new_count m.exports exports))
+    refl refl free
+  where
+    by : (a b : Bool) → nat_le 1 (new_count m.exports exports) ≡ a
+        → nat_le (2 ^ 32) (m.last_export + new_count m.exports exports) ≡ b
+        → (a && b) ≡ false → m.last_export + new_count m.exports exports < 2 ^ 32
+    by true true some many is = absurd (never is)
+    by true false some few is = grind (arith, nat_tests)
+    by false b none few is =
+        absurd (let less : new_count m.exports exports < 1 = grind (arith, nat_tests) in omega (arith, less, more))
+
+replaced-within : (living : List LivingExport) (root : ℕ → ℕ) (last : ℕ) (es : List ExportValue)
+    → AllByRecursion HasBounds es
+    → AreWithin (renumbered living root last es)
+replaced-within living root last [] all = (tt, tt)
+replaced-within living root last (e ∷ es) all =
+    let own = all.0 in
+    elim (export_with_path living e.path) as (λ o. AreWithin (elim o [
+      | Some then ↦ record { number = then.number; root = then.root; value = e } ∷ renumbered living root last es
+      | None ↦ record { number = suc last; root = root (suc last); value = e } ∷ renumbered living root (suc last) es
+    ])) [
+      | Some then ↦ (let rest = replaced-within living root last es all.1 in
+          (((own.0, own.1), rest.0), (own.2, rest.1)))
+      | None ↦ (let rest = replaced-within living root (suc last) es all.1 in
+          (((own.0, own.1), rest.0), (own.2, rest.1)))
+    ]
+
+module _ (old : State) (exports : List ExportValue) (choose : ℕ → RootChoice) (spent : ℕ → ℕ → Bool) (time : Time)
+    (fresh : AreFreshRoots old choose spent old.last_export (new_count old.exports exports))
+    (faultless : AreFaultless exports)
+    (free : is_exhausted old.exports old.last_export exports ≡ false) where
+  replaced-always : Always time old (replaced old exports choose spent time)
+  replaced-always = record {
+    gives = gives-once old exports choose spent time fresh;
+    touches = λ n was is at there. inl (same-object old exports choose spent time fresh n was is at there);
+    cookies = cookies-kept old exports choose spent time fresh;
+    formed = λ w. formed old exports choose spent time fresh w faultless (room old exports free);
+    counts = λ w. record {
+      kinds = λ n was is at there. ap (λ (x : Living). is_directory x.content)
+          (same-object old exports choose spent time fresh n was is at there);
+      names = λ n was is at there. inl
+          (names-kept old exports choose spent time fresh w faultless (room old exports free) n was is at there);
+    };
+    locks = record {
+      apart = apart-kept old exports choose spent time fresh;
+      waits = waits-kept old exports choose spent time fresh;
+      firm = firm-kept old exports choose spent time fresh;
+    };
+    numbers = λ w. numbers-once old exports choose spent time fresh w faultless (room old exports free);
+    within = λ was. replaced-within old.exports (λ e. (choose e).number) old.last_export exports
+        (faultless-bound exports faultless);
+  }
+
+replace-keeps : (old : State) (ctx : Ctx) (exports : List ExportValue) (messages : List Message) (new : State)
+    → ReplaceStep old ctx exports messages new → Always (time_of ctx.moment) old new
+replace-keeps old ctx exports messages new step = elim (same-or-replaced old ctx exports messages new step) [
+  | inl same ↦ always (time_of ctx.moment) old new (unchanged (time_of ctx.moment) old new same)
+  | inr r ↦ subst (Always (time_of ctx.moment) old) (sym r.replaces.state_is)
+      (replaced-always old exports r.replaces.choose r.replaces.spent (time_of ctx.moment) r.replaces.fresh
+      r.faultless r.free)
+]
+
+step-keeps : (old : State) (ctx : Ctx) (call : Call) (reply : Reply) (messages : List Message) (new : State)
+    → Step old ctx call reply messages new → Always (time_of ctx.moment) old new
+step-keeps old ctx (calls.Nfs call) reply messages new step =
+    always (time_of ctx.moment) old new (host-keeps old ctx (calls.Nfs call) reply messages new refl step)
+step-keeps old ctx (calls.Mount call) reply messages new step =
+    always (time_of ctx.moment) old new (host-keeps old ctx (calls.Mount call) reply messages new refl step)
+step-keeps old ctx (calls.Nlm call) reply messages new step =
+    always (time_of ctx.moment) old new (host-keeps old ctx (calls.Nlm call) reply messages new refl step)
+step-keeps old ctx (calls.Replace exports) replies.Replaced messages new step =
+    replace-keeps old ctx exports messages new step
 step-keeps old ctx call reply messages new step = absurd step
+
+pub steps_number_once : StepsNumberOnce
+steps_number_once old ctx call reply messages new w step = (step-keeps old ctx call reply messages new step).numbers w
+
+pub steps_keep_within : StepsKeepWithin
+steps_keep_within old ctx call reply messages new step = (step-keeps old ctx call reply messages new step).within
+
+pub chains_number_once : ChainsNumberOnce
+chains_number_once first last [] w chain =
+    subst (NumbersOnce first) (sym chain) (same-exports first first (record { exports = refl; last = refl }) w)
+chains_number_once first last (t ∷ steps) w (mid, step, rest) =
+    let k = step-keeps first t.ctx t.call t.reply t.messages mid step in
+    let one = k.numbers w in
+    let more = chains_number_once mid last steps (k.formed w) rest in
+    record {
+      last = (let a = one.last in let b = more.last in omega (arith, a, b));
+      lived = λ number e found used.
+          let then = more.lived number e found (let a = one.last in omega (arith, a, used)) in
+          let own = export-number mid.exports e.number then.was then.there in
+          let here : e.number ≡ number = export-number last.exports number e found in
+          let was = one.lived e.number then.was then.there (omega (arith, here, used)) in
+          record {
+            was = was.was;
+            there = ap (export_at first.exports) (sym own) ∙ was.there;
+            root = then.root ∙ was.root;
+            path = then.path ∙ was.path;
+          };
+    }
+
+pub gone_is_stale : GoneIsStale
+gone_is_stale first last steps ctx bytes h w chain is used gone =
+    ap (λ o. named (get last.objects) last.exports ctx o) is
+    ∙ ap (λ o. cond ((h.start == ctx.start) && export_admits o ctx.host) (living_at (get last.objects h.fileid) h)
+    Stale) none
+    ∙ elim (h.start == ctx.start) as (λ b. cond (b && false) (living_at (get last.objects h.fileid) h) Stale
+    ≡ Stale) [ true ↦ refl | false ↦ refl ]
+  where
+    none : export_at last.exports h.export ≡ None
+    none = by (export_at last.exports h.export) refl
+      where
+        by : (o : Option LivingExport) → export_at last.exports h.export ≡ o → export_at last.exports h.export ≡ None
+        by None found = found
+        by (Some e) found =
+            let l = (chains_number_once first last steps w chain).lived h.export e found used in
+            let own = export-number last.exports h.export e found in
+            let both : Some l.was ≡ None = sym l.there ∙ ap (export_at first.exports) own ∙ gone in cc
 
 pub steps_give_once : StepsGiveOnce
 steps_give_once old ctx call reply messages new step = (step-keeps old ctx call reply messages new step).gives
 
 pub steps_keep_exports : StepsKeepExports
-steps_keep_exports old ctx call reply messages new step = (step-keeps old ctx call reply messages new step).exports
+steps_keep_exports old ctx call reply messages new host step =
+    (host-keeps old ctx call reply messages new host step).exports
 
 pub steps_touch_once : StepsTouchOnce
 steps_touch_once old ctx call reply messages new step = (step-keeps old ctx call reply messages new step).touches

@@ -1,6 +1,7 @@
 pub mod Asked
-pub mod Changes
+pub mod Bounded
 pub mod Bounds
+pub mod Changes
 pub mod Checked
 pub mod Choosing
 pub mod Continued
@@ -38,6 +39,8 @@ pub mod Loose
 pub mod Planned
 mod Refused
 pub mod Renamed
+mod Replaced
+mod ReplacedState
 mod ReplySizes
 pub mod Roots
 pub mod Runs
@@ -48,6 +51,7 @@ mod Unlocked
 mod Visited
 mod Visits
 pub mod Waiting
+mod Weights
 pub mod WellFormed
 pub mod Setting
 mod Settling

@@ -110,6 +110,8 @@ step-lists old t mid directory cookie page eof step answers w = by t.call t.repl
     by (calls.Nfs call) (replies.Nlm reply) step from shows = absurd step
     by (calls.Mount call) reply step from shows = cc
     by (calls.Nlm call) reply step from shows = cc
+    by (calls.Replace exports) reply step from shows = cc
+    by (calls.Nfs call) replies.Replaced step from shows = absurd step
 
 -- a name but "." and "..", and the entry that it has in the directory of a handle
 pub record IsName (directory : List ℕ) (h : Handle) (name : List ℕ) (target : ℕ) (e : Entry) : Type 0 where

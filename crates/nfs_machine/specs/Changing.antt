@@ -1,4 +1,5 @@
--- Which calls change something, and so are not to be executed again where their record comes once more (RFC 1813, 4.5).
+-- Which calls of hosts change something, and so are not to be executed again where their record comes once more
+-- (RFC 1813, 4.5).
 use Rattle.std.specs.Prelude.{Bool, true, false}
 use Rattle.nfs_wire.specs.declared.calls.NfsCall.{NfsCall}
 use Rattle.nfs_wire.specs.declared.calls.NfsCall.TheVariants as nfs
@@ -50,3 +51,4 @@ abbrev pub is_changing : Call → Bool
 is_changing (calls.Nfs call) = is_changing_nfs call
 is_changing (calls.Mount call) = is_changing_mount call
 is_changing (calls.Nlm call) = is_changing_nlm call
+is_changing (calls.Replace exports) = false

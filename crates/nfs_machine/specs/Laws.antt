@@ -1,8 +1,8 @@
 -- Laws of the machine.
 use Rattle.std.specs.Prelude.{◌≡◌, ℕ, Bool, true, false, ◌<◌, ◌≤◌, ◌^◌, List, [], ◌∷◌}
-use Rattle.std.specs.Prelude.{◌++◌, length, Some, is_some, IfSome, ◌⊎◌}
+use Rattle.std.specs.Prelude.{◌++◌, length, Some, None, is_some, IfSome, ◌⊎◌}
 use Rattle.std.specs.FinMap.{get}
-use Rattle.std.specs.List.{All}
+use Rattle.std.specs.List.{All, AllByRecursion}
 use Rattle.nfs_wire.specs.Replies.{HasNfsForm, result_bytes}
 use Rattle.nfs_wire.specs.declared.calls.NfsCall.{NfsCall}
 use Rattle.nfs_wire.specs.declared.replies.NfsReply.{NfsReply}
@@ -11,18 +11,21 @@ use Rattle.nfs_machine.specs.Attributes.{entries_of}
 use Rattle.nfs_machine.specs.Chains.{Chain, Transition}
 use Rattle.nfs_machine.specs.Checks.{entry_of}
 use Rattle.nfs_machine.specs.ExportFaults.{AreFaultless}
-use Rattle.nfs_machine.specs.Exports.{ExportValue}
+use Rattle.nfs_machine.specs.Exports.{ExportValue, LivingExport, export_at}
 use Rattle.nfs_machine.specs.Handles.{handle_bytes, handle_of}
 use Rattle.nfs_machine.specs.NfsSteps.{NfsStep}
 use Rattle.nfs_machine.specs.Opening.{opening}
 use Rattle.nfs_machine.specs.Refusal.{nfs_refusal}
 use Rattle.nfs_machine.specs.RenameSteps.{TellsWithin}
+use Rattle.nfs_machine.specs.Resolve.{Stale, resolve}
 use Rattle.nfs_machine.specs.Run.{Arrival, Asks, Executes, Record, Run, Setting}
+use Rattle.nfs_machine.specs.SideLaws.{ExportsFit}
 use Rattle.nfs_machine.specs.State.{Entry, Living, State}
 use Rattle.nfs_machine.specs.StatusLaws.{failure_in}
 use Rattle.nfs_machine.specs.Step.{Step}
 use Rattle.nfs_machine.specs.WellFormed.{WellFormed}
 use Rattle.nfs_machine.specs.declared.calls.Call.{Call}
+use Rattle.nfs_machine.specs.declared.calls.Call.TheVariants as calls
 use Rattle.nfs_machine.specs.declared.calls.Reply.{Reply}
 use Rattle.nfs_machine.specs.declared.context.Ctx.{Ctx}
 use Rattle.nfs_machine.specs.declared.handle.Handle.{Handle}
@@ -141,14 +144,54 @@ abbrev pub StepsKeepCookies : Type 0
 StepsKeepCookies = (old : State) (ctx : Ctx) (call : Call) (reply : Reply) (messages : List Message) (new : State) →
     Step old ctx call reply messages new → KeepsCookies old new
 
--- no step changes the exports
+-- ---- exports
 pub record KeepsExports (old new : State) : Type 0 where
   pub exports : new.exports ≡ old.exports
   pub last : new.last_export ≡ old.last_export
 
+abbrev pub is_replacing : Call → Bool
+is_replacing (calls.Replace exports) = true
+is_replacing call = false
+
+-- no call of a host changes the exports
 abbrev pub StepsKeepExports : Type 0
 StepsKeepExports = (old : State) (ctx : Ctx) (call : Call) (reply : Reply) (messages : List Message) (new : State) →
-    Step old ctx call reply messages new → KeepsExports old new
+    is_replacing call ≡ false → Step old ctx call reply messages new → KeepsExports old new
+
+-- an export lived before with this number, at this path and with this root
+pub record Lived (m : State) (e : LivingExport) : Type 0 where
+  pub was : LivingExport
+  pub there : export_at m.exports e.number ≡ Some was
+  pub root : e.root ≡ was.root
+  pub path : e.path ≡ was.path
+
+-- what lives under a number that was used lived under it before, at the same path and with the same root
+pub record NumbersOnce (old new : State) : Type 0 where
+  pub last : old.last_export ≤ new.last_export
+  pub lived : (number : ℕ) (e : LivingExport) → export_at new.exports number ≡ Some e → number ≤ old.last_export →
+      Lived old e
+
+abbrev pub StepsNumberOnce : Type 0
+StepsNumberOnce = (old : State) (ctx : Ctx) (call : Call) (reply : Reply) (messages : List Message) (new : State) →
+    WellFormed old → Step old ctx call reply messages new → NumbersOnce old new
+
+abbrev pub ChainsNumberOnce : Type 0
+ChainsNumberOnce = (first last : State) (steps : List Transition) → WellFormed first → Chain first steps last →
+    NumbersOnce first last
+
+-- a handle of an export that went is stale from then on, for every host (RFC 1813, 2.6: NFS3ERR_STALE)
+abbrev pub GoneIsStale : Type 0
+GoneIsStale = (first last : State) (steps : List Transition) (ctx : Ctx) (bytes : List ℕ) (h : Handle) →
+    WellFormed first → Chain first steps last → handle_of bytes ≡ Some h → h.export ≤ first.last_export →
+    export_at first.exports h.export ≡ None → resolve last ctx bytes ≡ Stale
+
+-- the exports are within the bounds of MOUNT (5.1.4), and each has at most 1,024 hosts
+abbrev pub AreWithin : List LivingExport → Type 0
+AreWithin exports = ExportsFit exports × AllByRecursion (λ (e : LivingExport). length e.hosts ≤ 1024) exports
+
+abbrev pub StepsKeepWithin : Type 0
+StepsKeepWithin = (old : State) (ctx : Ctx) (call : Call) (reply : Reply) (messages : List Message) (new : State) →
+    Step old ctx call reply messages new → AreWithin old.exports → AreWithin new.exports
 
 -- what is true of every state: a server starts so, each step keeps it, and so each chain of steps
 abbrev pub OpeningIsFormed : Type 0

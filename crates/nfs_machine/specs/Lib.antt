@@ -38,9 +38,11 @@ pub mod Readings
 pub mod Refusal
 pub mod RemoveSteps
 pub mod RenameSteps
+pub mod Replacing
 pub mod Resolve
 pub mod RpcReplies
 pub mod Run
+pub mod SameExports
 pub mod Shown
 pub mod SideLaws
 pub mod State

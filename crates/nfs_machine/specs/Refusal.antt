@@ -90,3 +90,4 @@ refusal_of (calls.Nlm call) = elim (nlm_refusal call) [
   | None ↦ refusals.SystemError
   | Some r ↦ refusals.Reply (replies.Nlm r)
 ]
+refusal_of (calls.Replace exports) = refusals.Silent

@@ -31,9 +31,11 @@ abbrev pub results_of : Reply → List ℕ
 results_of (replies.Nfs reply) = result_bytes reply
 results_of (replies.Mount reply) = mount_result_bytes reply
 results_of (replies.Nlm reply) = nlm_result_bytes reply
+results_of replies.Replaced = []
 
 -- an accepted call with SUCCESS and its results; each reply is one fragment
 abbrev pub success_message : (xid : ℕ) → Reply → List ℕ
+success_message xid replies.Replaced = []
 success_message xid reply = fragment true (reply_of xid answers.Success ++ results_of reply)
 
 -- a call that is denied, or accepted with another status and no results
@@ -49,3 +51,4 @@ fault_message (early.Answer xid fault) = failure_message xid fault
 abbrev pub refusal_message : (xid : ℕ) → Refusal → List ℕ
 refusal_message xid (refusals.Reply reply) = success_message xid reply
 refusal_message xid refusals.SystemError = failure_message xid faults.SystemError
+refusal_message xid refusals.Silent = []

@@ -10,6 +10,7 @@ use Rattle.nfs_wire.specs.Calls.{procedure_of, SpellsArguments}
 use Rattle.side_wire.specs.Mount.{mount_procedure_of, SpellsMountArguments}
 use Rattle.side_wire.specs.Nlm.{nlm_procedure_of, SpellsNlmArguments}
 use Rattle.side_wire.specs.declared.message.Message.{Message}
+use Rattle.nfs_machine.specs.Exports.{ExportValue}
 use Rattle.nfs_machine.specs.State.{State}
 use Rattle.nfs_machine.specs.Step.{Step}
 use Rattle.nfs_machine.specs.declared.calls.Call.{Call}
@@ -19,7 +20,7 @@ use Rattle.nfs_machine.specs.declared.context.Ctx.{Ctx}
 use Rattle.nfs_machine.specs.declared.context.Limits.{Limits}
 use Rattle.nfs_machine.specs.declared.moment.Moment.{Moment}
 
--- what a server was started with, beside its exports, which stand in its state
+-- what a server was started with, beside its exports, which stand in its state and may be replaced
 pub record Setting : Type 0 where
   pub start : ℕ
   pub limits : Limits
@@ -30,9 +31,27 @@ pub record Received : Type 0 where
   pub bytes : List ℕ
   pub moment : Moment
 
--- what comes in
+-- what comes in: a record, or exports that replace those before
 pub data Arrival : Type 0 where
   FromHost : (received : Received) → Arrival
+  NewExports : (exports : List ExportValue) (moment : Moment) → Arrival
+
+-- the host that it came from and its bytes; exports have neither
+abbrev pub host_in : Arrival → List ℕ
+host_in (FromHost received) = received.host
+host_in (NewExports exports moment) = []
+
+abbrev pub bytes_in : Arrival → List ℕ
+bytes_in (FromHost received) = received.bytes
+bytes_in (NewExports exports moment) = []
+
+abbrev pub moment_in : Arrival → Moment
+moment_in (FromHost received) = received.moment
+moment_in (NewExports exports moment) = moment
+
+-- nobody calls
+abbrev pub no_ids : Ids
+no_ids = record { uid = 0; gid = 0; gids = [] }
 
 -- the call is of this procedure of this program, and a front of the bytes spells its arguments; what follows that is
 -- ignored
@@ -43,6 +62,7 @@ IsCall program procedure bytes (calls.Mount call) = (program ≡ programs.Mount)
     (mount_procedure_of call ≡ procedure) × IsFrontedBy SpellsMountArguments call bytes
 IsCall program procedure bytes (calls.Nlm call) = (program ≡ programs.Nlm) × (nlm_procedure_of call ≡ procedure) ×
     IsFrontedBy SpellsNlmArguments call bytes
+IsCall program procedure bytes (calls.Replace exports) = ⊥
 
 -- what a call of this host is made under, with these ids and at this moment
 abbrev pub context_of : Setting → (host : List ℕ) → Ids → Moment → Ctx
@@ -64,6 +84,8 @@ pub record ReceivedAsks (setting : Setting) (received : Received) (ctx : Ctx) (c
 -- what an arrival asks
 abbrev pub Asks : Setting → Arrival → Ctx → Call → Type 0
 Asks setting (FromHost received) ctx call = ReceivedAsks setting received ctx call
+Asks setting (NewExports exports moment) ctx call = (call ≡ calls.Replace exports) ×
+    (ctx ≡ context_of setting [] no_ids moment)
 
 -- a call that was executed, with what it was answered and the messages that it put
 pub record Record : Type 0 where

@@ -26,7 +26,7 @@ use Rattle.nfs_machine.specs.Locks.{mode_at}
 use Rattle.nfs_machine.specs.MountSteps.{MountStep}
 use Rattle.nfs_machine.specs.NlmSteps.{NlmStep}
 use Rattle.nfs_machine.specs.Opening.{opening}
-use Rattle.nfs_machine.specs.Run.{Arrival, FromHost, Asks, Setting}
+use Rattle.nfs_machine.specs.Run.{Arrival, FromHost, NewExports, Asks, Setting}
 use Rattle.nfs_machine.specs.State.{Lock, Owner, Request, State}
 use Rattle.nfs_machine.specs.Step.{Step}
 use Rattle.nfs_machine.specs.declared.calls.Call.{Call}
@@ -116,10 +116,12 @@ abbrev pub AskedFits : Ctx → Call → Type 0
 AskedFits ctx (calls.Nfs call) = Unit {0}
 AskedFits ctx (calls.Mount call) = IsHostName ctx.host × PathFits call
 AskedFits ctx (calls.Nlm call) = CallFits call
+AskedFits ctx (calls.Replace exports) = Unit {0}
 
 -- and so is the host that a record came from
 abbrev pub HostFits : Arrival → Type 0
 HostFits (FromHost received) = IsHostName received.host
+HostFits (NewExports exports moment) = Unit {0}
 
 -- a call that an arrival spells names nothing else
 abbrev pub SpelledCallsFit : Type 0

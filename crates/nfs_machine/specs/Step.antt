@@ -4,6 +4,7 @@ use Rattle.side_wire.specs.declared.message.Message.{Message}
 use Rattle.nfs_machine.specs.MountSteps.{MountStep}
 use Rattle.nfs_machine.specs.NfsSteps.{NfsStep}
 use Rattle.nfs_machine.specs.NlmSteps.{NlmStep}
+use Rattle.nfs_machine.specs.Replacing.{ReplaceStep}
 use Rattle.nfs_machine.specs.State.{State}
 use Rattle.nfs_machine.specs.declared.calls.Call.{Call}
 use Rattle.nfs_machine.specs.declared.calls.Call.TheVariants as calls
@@ -16,4 +17,5 @@ abbrev pub Step : State → Ctx → Call → Reply → List Message → State �
 Step old ctx (calls.Nfs call) (replies.Nfs reply) messages new = NfsStep old ctx call reply messages new
 Step old ctx (calls.Mount call) (replies.Mount reply) messages new = MountStep old ctx call reply messages new
 Step old ctx (calls.Nlm call) (replies.Nlm reply) messages new = NlmStep old ctx call reply messages new
+Step old ctx (calls.Replace exports) replies.Replaced messages new = ReplaceStep old ctx exports messages new
 Step old ctx call reply messages new = ⊥

@@ -1,14 +1,17 @@
 //! Calls and replies of the three programs.
 
+use crate::exports::Exports;
 use nfs_wire::{NfsCall, NfsReply};
 use side_wire::{MountCall, MountReply, NlmCall, NlmReply};
 
 /// What a caller asks.
-#[derive(Drop, PartialEq, Eq)]
+#[derive(Drop)]
 pub enum Call {
     Nfs(NfsCall),
     Mount(MountCall),
     Nlm(NlmCall),
+    /// These are the exports from now on. No host asks it.
+    Replace(Exports),
 }
 
 /// What the machine answers.
@@ -17,6 +20,8 @@ pub enum Reply {
     Nfs(NfsReply),
     Mount(MountReply),
     Nlm(NlmReply),
+    /// The exports were replaced: there is nothing to answer.
+    Replaced,
 }
 
 /// What a call that cannot be executed for want of memory is answered.
@@ -26,4 +31,6 @@ pub enum Refusal {
     Reply(Reply),
     /// By SYSTEM_ERR (RFC 5531, section 9), where the procedure has no status.
     SystemError,
+    /// Nothing is answered.
+    Silent,
 }

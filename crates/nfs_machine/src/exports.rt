@@ -76,6 +76,54 @@ impl Clone for Exports {
     }
 }
 
+impl PartialEq for Export {
+    ghost use Rattle.std.specs.Bool.{Decides};
+    ghost use Rattle.std.specs.Cmp.{partial_equiv_from_equiv};
+    ghost use Rattle.nfs_machine.specs.Exports.{export_value};
+    ghost use Rattle.nfs_machine.specs.SameExports.{is_same_equivalence, is_same_export};
+
+    ghost eq = { is_same_export };
+
+    ghost laws = { partial_equiv_from_equiv is_same_equivalence };
+
+    fn eq(&self, other: &Export) -> bool
+        ensures test { result ≡ is_same_export self.now other.now }
+        ensures same { Decides result (export_value self.now ≡ export_value other.now) }
+    {
+        self.path == other.path && self.read_only == other.read_only && self.hosts == other.hosts
+    }
+}
+
+impl Eq for Export {
+    ghost use Rattle.nfs_machine.specs.SameExports.{is_same_equivalence};
+
+    ghost laws = { is_same_equivalence };
+}
+
+impl PartialEq for Exports {
+    ghost use Rattle.std.specs.Bool.{Decides};
+    ghost use Rattle.std.specs.Cmp.{decided, partial_equiv_from_equiv};
+    ghost use Rattle.nfs_machine.specs.SameExports.{exports_decide, same_exports};
+
+    ghost eq = { same_exports };
+
+    ghost laws = { partial_equiv_from_equiv (decided same_exports exports_decide) };
+
+    fn eq(&self, other: &Exports) -> bool
+        ensures test { result ≡ same_exports self.now other.now }
+        ensures same { Decides result (self.now ≡ other.now) }
+    {
+        self.list == other.list
+    }
+}
+
+impl Eq for Exports {
+    ghost use Rattle.std.specs.Cmp.{decided};
+    ghost use Rattle.nfs_machine.specs.SameExports.{exports_decide, same_exports};
+
+    ghost laws = { decided same_exports exports_decide };
+}
+
 impl Export {
     ghost use Rattle.nfs_machine.specs.Exports.{admits, export_value};
 

@@ -7,6 +7,7 @@ ghost use Rattle.nfs_machine.specs.Laws.{OpeningIsFormed, OpeningNumbersFit, Ref
 ghost use Rattle.nfs_machine.specs.Laws.{RepliesAreShort, RunsGoOn, RunsJoin, ChainsKeepForm, ChainsKeepNumbers};
 ghost use Rattle.nfs_machine.specs.Laws.{StepsGiveOnce, StepsKeepCookies, StepsKeepExports, StepsKeepForm};
 ghost use Rattle.nfs_machine.specs.Laws.{StepsKeepNumbers, WithinIsTold};
+ghost use Rattle.nfs_machine.specs.Laws.{StepsNumberOnce, ChainsNumberOnce, GoneIsStale, StepsKeepWithin};
 ghost use Rattle.nfs_machine.specs.LockLaws.{ListedLocksTell, OpeningIsApart, OpeningWaitsForNone, ChainsKeepApart};
 ghost use Rattle.nfs_machine.specs.LockLaws.{ChainsKeepWaiting, StepsKeepApart, StepsKeepWaiting};
 ghost use Rattle.nfs_machine.specs.LockLaws.{UnlockedFilesKeepNothing};
@@ -148,20 +149,34 @@ pub fn numbers_fit()
     ensures chains { ChainsKeepNumbers }
 {}
 
-/// No step changes the exports.
+/// No call of a host changes the exports.
 ///
 /// Such a step is in `worked_steps`.
 pub fn steps_keep_exports()
     ensures { StepsKeepExports }
 {}
 
-/// What is true of the state that a server starts with stays true: each export has its number and a root of its own,
-/// names lead to living objects of their export and none to a root, the directories of an export form one tree,
-/// cookies rise, the texts of links are within their bound, and what is mounted stands once and within its bound.
+/// A number of an export is given once. Where the exports are replaced, or not, what lives under a number that was used
+/// lived under it before, at the same path and with the same root; so after each step, and after a chain of steps of
+/// any calls. So a handle of an export that went is stale from then on, whoever brings it. The exports stay within the
+/// bounds of MOUNT.
+///
+/// Such steps are in `worked_replacing`.
+pub fn exports_are_numbered_once()
+    ensures steps { StepsNumberOnce }
+    ensures chains { ChainsNumberOnce }
+    ensures gone { GoneIsStale }
+    ensures within { StepsKeepWithin }
+{}
+
+/// What is true of the state that a server starts with stays true, also where its exports are replaced: each export has
+/// its number and a root of its own, names lead to living objects of their export and none to a root, the directories
+/// of an export form one tree, cookies rise, the texts of links are within their bound, and what is mounted stands once
+/// and within its bound.
 /// Locks, shares, waiting requests and pending grants are of living regular files, conflict with nothing, or with what
 /// is held where they wait, and have numbers of their own that were given. What is locked, waited for or pending is a
 /// range of 64-bit offsets; a sharer has one share of a file, and equal requests wait once. The exports that it starts
-/// with are faultless, as those of `Exports::new` are.
+/// with are faultless, as those of `Exports::new` are, and so are those that replace them (`ReplaceStep`).
 ///
 /// Such a run is `worked_run`. Locks are held and waited for in `worked_locking`.
 pub fn states_stay_well_formed()
@@ -208,8 +223,8 @@ pub fn mount_replies_are_bounded()
 {}
 
 /// What is mounted, held and waited for is always within those bounds: a server starts so, each call of any program
-/// leaves it so, and so does a chain of such calls. The byte strings of a call are within them, since it is spelled;
-/// that the name of a host that calls is, has to be given.
+/// leaves it so, as does one that replaces the exports, and so does a chain of such calls. The byte strings of a call
+/// are within them, since it is spelled; that the name of a host that calls is, has to be given.
 ///
 /// Such a run is `worked_run`, and such steps are in `worked_locking`.
 pub fn bounds_are_kept()

@@ -42,6 +42,7 @@ impl Call {
             Call::Nfs(call) => Ok(refusal_by(nfs_refusal(call).map(Reply::Nfs))),
             Call::Mount(call) => Ok(mount_refusal(call)),
             Call::Nlm(call) => Ok(refusal_by(nlm_refusal(call)?.map(Reply::Nlm))),
+            Call::Replace(_) => Ok(Refusal::Silent),
         }
     }
 }
