@@ -1,6 +1,6 @@
 -- What all groups of an export use: those that are not known are asked for, and the sums over all are the machine's.
 use Rattle.std.proofs.Common.{◌≡◌, ◌≢◌, ◌==◌, ◌&&◌, ◌+◌, ◌<◌, ℕ, true, false, List, []}
-use Rattle.std.proofs.Common.{◌∷◌, ◌++◌, Some, None}
+use Rattle.std.proofs.Common.{◌∷◌, ◌++◌, ◌||◌, nat_lt, Some, None}
 use Rattle.std.proofs.Common.{inl, length, option_map, refl, sym, ◌∙◌, ap, subst, arith}
 use Rattle.std.specs.Cmp.{unsigned_Decides}
 use Rattle.std.specs.List.{AllByRecursion}
@@ -120,7 +120,8 @@ module _ (d : DraftValue) (export : ℕ) where
   total-more group total usage more was known is = λ s k w lives.
       is ∙ ap (λ (t : Usage). together t usage) (was s k w lives)
       ∙ next-group k.state export group usage
-      (sym (w.sound.usage export group) ∙ usage-known d export group usage known s k w.fits w.stands lives)
+      (sym (w.sound.usage export group) ∙ usage-known d export group usage known s k w.fits w.stands
+      (ap (λ b. b || nat_lt k.state.last_export export) lives))
 
   pub total-all : (total : Usage) → IsTotal 64 total
       → Knows d (λ k. lives_in k.state.exports export ≡ true → total ≡ export_usage k.state export)

@@ -30,6 +30,12 @@ use Rattle.nfs_objects.specs.Bound.{empty_count, held, view_after, with_round}
 use Rattle.nfs_objects.specs.Calls.{IsAmong, added_by, addresses_of, blocks_at, blocks_from, data_of, in_file, made_by}
 use Rattle.nfs_objects.specs.Calls.{maps_at, named_by, new_numbers, nfs_handles, nlm_handles, objects_at, places_for}
 use Rattle.nfs_objects.specs.Calls.{buckets_below, locks_at, locks_lost, locks_named, locks_of, locks_under, usages_of}
+use Rattle.std.proofs.Common.{take, min}
+use Rattle.nfs_machine.specs.Exports.{ExportValue}
+use Rattle.nfs_machine.specs.Replacing.{is_exhausted, new_count}
+use Rattle.nfs_objects.specs.Calls.{exports_shown, root_usages, roots_for, roots_named, roots_wanted}
+use Rattle.nfs_objects.specs.ExportTables.{ExportTableValue}
+use Rattle.nfs_objects.specs.Stands.{export_table_of}
 use Rattle.nfs_objects.specs.Fits.{Fits, vacant}
 use Rattle.nfs_objects.specs.Modes.{led_at, modes_of, number_at, number_in, part_address}
 use Rattle.nfs_objects.specs.Sound.{Sound}
@@ -479,6 +485,91 @@ named-stay view more numbers call a =
     later : ViewValue
     later = record { entries = view.entries ++ more; reserved = numbers }
 
+-- ---- other exports
+-- the groups of the first roots are named still where more are given
+usages-stay : (last count : ℕ) (rs more : List Reserved) (a : Addr) → IsAmong (root_usages last (take count rs)) a →
+    IsAmong (root_usages last (take count (rs ++ more))) a
+usages-stay last zero rs more a among = among
+usages-stay last (suc count) [] more a among = absurd among
+usages-stay last (suc count) (r ∷ rs) more a (inl same) = inl same
+usages-stay last (suc count) (r ∷ rs) more a (inr rest) = inr (usages-stay (suc last) count rs more a rest)
+
+-- what a view shows of the exports it shows still
+pub exports-before : (view : ViewValue) (more : List Seen) (numbers : List Reserved) (table : ExportTableValue) →
+    exports_shown view ≡ Some table → exports_shown (record { entries = view.entries ++ more; reserved = numbers })
+    ≡ Some table
+exports-before view more numbers table is = by (shown_at view.entries addresses.Exports) refl
+  where
+    by : (o : Option (Option Object)) → shown_at view.entries addresses.Exports ≡ o →
+        exports_shown (record { entries = view.entries ++ more; reserved = numbers }) ≡ Some table
+    by None none = (let no : None ≡ Some table = sym (ap (option_map export_table_of) none) ∙ is in cc)
+    by (Some o) some = ap (option_map export_table_of) (shown-before view.entries more addresses.Exports o some)
+        ∙ sym (ap (option_map export_table_of) some) ∙ is
+
+abbrev usages_for : List Reserved → Option ExportTableValue → List Addr
+usages_for rs o = elim o as (λ (x : Option ExportTableValue). List Addr) [
+  | None ↦ []
+  | Some table ↦
+      root_usages table.last (take 64 rs)
+]
+
+replacing-stay : (view : ViewValue) (more : List Seen) (numbers : List Reserved) →
+    ((last : ℕ) (a : Addr) → IsAmong (root_usages last (take 64 view.reserved)) a
+    → IsAmong (root_usages last (take 64 numbers)) a)
+    → (a : Addr) → IsAmong (addresses.Exports ∷ roots_named view) a →
+    IsAmong (addresses.Exports ∷ roots_named (record { entries = view.entries ++ more; reserved = numbers })) a
+replacing-stay view more numbers still a (inl same) = inl same
+replacing-stay view more numbers still a (inr rest) = inr (by (exports_shown view) refl)
+  where
+    by : (o : Option ExportTableValue) → exports_shown view ≡ o →
+        IsAmong (roots_named (record { entries = view.entries ++ more; reserved = numbers })) a
+    by None none = absurd (subst (λ o. IsAmong (usages_for view.reserved o) a) none rest)
+    by (Some table) some =
+        subst (λ o. IsAmong (usages_for numbers o) a) (sym (exports-before view more numbers table some))
+        (still table.last a (subst (λ o. IsAmong (usages_for view.reserved o) a) some rest))
+
+abbrev pub wanted_for : List ExportValue → Option ExportTableValue → ℕ
+wanted_for exports o = elim o as (λ (x : Option ExportTableValue). ℕ) [
+  | None ↦ 0
+  | Some table ↦ roots_for exports table
+]
+
+wanted-stay : (view : ViewValue) (more : List Seen) (numbers : List Reserved) (exports : List ExportValue) →
+    roots_wanted view exports ≤ roots_wanted (record { entries = view.entries ++ more; reserved = numbers }) exports
+wanted-stay view more numbers exports = by (exports_shown view) refl
+  where
+    by : (o : Option ExportTableValue) → exports_shown view ≡ o →
+        roots_wanted view exports ≤ roots_wanted (record { entries = view.entries ++ more; reserved = numbers }) exports
+    by None none = (let zero : roots_wanted view exports ≡ 0 = ap (wanted_for exports) none in omega (arith, zero))
+    by (Some table) some =
+        let same : roots_wanted view exports
+        ≡ roots_wanted (record { entries = view.entries ++ more; reserved = numbers }) exports =
+        ap (wanted_for exports) some ∙ sym (ap (wanted_for exports) (exports-before view more numbers table some)) in
+        omega (arith, same)
+
+wanted-few : (view : ViewValue) (exports : List ExportValue) → roots_wanted view exports ≤ 64
+wanted-few view exports = by (exports_shown view)
+  where
+    few : (b : Bool) (n : ℕ) → cond b 0 (min n 64) ≤ 64
+    few true n = omega arith
+    few false n = omega arith
+
+    by : (o : Option ExportTableValue) → wanted_for exports o ≤ 64
+    by None = omega arith
+    by (Some table) = few (is_exhausted table.exports table.last exports) (new_count table.exports exports)
+
+root-usages-few : (last count : ℕ) (rs : List Reserved) → length (root_usages last (take count rs)) ≤ count
+root-usages-few last zero rs = omega arith
+root-usages-few last (suc count) [] = omega arith
+root-usages-few last (suc count) (r ∷ rs) = (let few = root-usages-few (suc last) count rs in omega (arith, few))
+
+roots-few : (view : ViewValue) → length (roots_named view) ≤ 64
+roots-few view = by (exports_shown view)
+  where
+    by : (o : Option ExportTableValue) → length (usages_for view.reserved o) ≤ 64
+    by None = omega arith
+    by (Some table) = root-usages-few table.last 64 view.reserved
+
 pub names-stay : NamesStay
 names-stay (calls.Nfs call) view (Read entries) =
     record { named = named-stay view entries view.reserved call; numbers = omega arith }
@@ -486,6 +577,19 @@ names-stay (calls.Nfs call) view (Given numbers) =
     record { named = named-stay view (map vacant numbers) (view.reserved ++ numbers) call; numbers = omega arith }
 names-stay (calls.Mount call) view round = record { named = λ a among. among; numbers = omega arith }
 names-stay (calls.Nlm call) view round = record { named = λ a among. among; numbers = omega arith }
+names-stay (calls.Replace exports) view (Read entries) =
+    record {
+      named = replacing-stay view entries view.reserved (λ last a among. among);
+      numbers =
+          wanted-stay view entries view.reserved exports;
+    }
+names-stay (calls.Replace exports) view (Given numbers) =
+    record {
+      named = replacing-stay view (map vacant numbers) (view.reserved ++ numbers)
+          (λ last a among. usages-stay last 64 view.reserved numbers a among);
+      numbers =
+          wanted-stay view (map vacant numbers) (view.reserved ++ numbers) exports;
+    }
 
 -- ---- rounds
 in-all : (P : Addr × Mode → Type 0) (xs : List (Addr × Mode)) (a : Addr × Mode) → AllByRecursion P xs →
@@ -856,3 +960,4 @@ names-few (calls.Nlm call) view = omega (
   locks-few call,
   length-append (objects_at view (nlm_handles call)) (locks_named call),
 )
+names-few (calls.Replace exports) view = omega (arith, roots-few view, wanted-few view exports)

@@ -13,7 +13,8 @@ use Rattle.nfs_machine.specs.Exports.{ExportValue, LivingExport, export_at, expo
 use Rattle.nfs_machine.specs.Exports.{opening_exports}
 use Rattle.nfs_machine.specs.WellFormed.{AllApart, AreApart, IsNumbered}
 use Rattle.nfs_machine.specs.declared.exports.Export.{Export}
-use Rattle.nfs_objects.specs.ExportTables.{ExportTableValue, IsExportTable}
+use Rattle.nfs_objects.specs.ExportTables.{AllNamedApart, AreNamedApart, ExportTableValue, IsExportTable}
+use Rattle.nfs_objects.proofs.Seen.{all-map}
 
 pub few : (es : List ExportValue) → AreFaultless es → length es ≤ 64
 few es faultless = (opened-apart es faultless).0
@@ -32,6 +33,14 @@ numbered-next (x ∷ es) k (suc i) e at =
     ∙ ap (λ n. numbered_exports (k + 1) (take i es) ++ with_number n e ∷ [])
     (let next : k + 1 + i ≡ k + suc i = omega arith in next))
 
+named-apart : (exports : List LivingExport) → AllApart exports → AllNamedApart exports
+named-apart [] all = tt
+named-apart (e ∷ exports) all = (
+  all-map (AreApart e) (AreNamedApart e) (λ x apart. record { numbers = apart.numbers; paths = apart.paths })
+      exports all.0,
+  named-apart exports all.1,
+)
+
 -- what a server opens with is a table
 pub opening-table : (es : List ExportValue) → AreFaultless es →
     IsExportTable (record { exports = opening_exports es; last = length es })
@@ -41,7 +50,7 @@ opening-table es faultless =
       few = (let counted = length-numbered es 1 in omega (arith, counted, all.0));
       numbered = all-numbered (IsNumbered (length es)) es 1
           (λ n e low high. (low, omega (arith, all.0, high), omega (arith, high)));
-      apart = all.1;
+      apart = named-apart (opening_exports es) all.1;
     }
 
 -- each export of a table is found by its number

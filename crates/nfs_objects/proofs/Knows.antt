@@ -213,6 +213,7 @@ pub names-exports : (call : Call) (view : ViewValue) → IsAmong (named_by call 
 names-exports (calls.Nfs call) view = inl refl
 names-exports (calls.Mount call) view = inl refl
 names-exports (calls.Nlm call) view = inl refl
+names-exports (calls.Replace exports) view = inl refl
 
 pub names-objects : (call : Call) (view : ViewValue) (a : Addr) → IsAmong (objects_at view (handles_of call)) a →
     IsAmong (named_by call view) a
@@ -222,6 +223,7 @@ names-objects (calls.Nfs call) view a among =
 names-objects (calls.Mount call) view a among = absurd among
 names-objects (calls.Nlm call) view a among =
     inr (among-front (objects_at view (nlm_handles call)) (locks_named call) a among)
+names-objects (calls.Replace exports) view a among = absurd among
 
 pub names-data : (call : NfsCall) (view : ViewValue) (a : Addr) → IsAmong (data_of call) a →
     IsAmong (named_by (calls.Nfs call) view) a

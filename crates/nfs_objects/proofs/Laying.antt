@@ -31,6 +31,7 @@ module _ (number : ℕ) (s : Store) (k : Kept) (but : RepresentsBut number s k) 
       given = but.objects.given;
       fits = but.objects.fits;
       spent = but.objects.spent;
+      numbered = but.objects.numbered;
     };
     files = record {
       blocks = λ n other.
@@ -65,6 +66,7 @@ module _ (number : ℕ) (s : Store) (k : Kept) (but : RepresentsBut number s k) 
       given = but.objects.given;
       fits = but.objects.fits;
       spent = but.objects.spent;
+      numbered = but.objects.numbered;
     };
     files = record {
       blocks = λ n other.
@@ -102,6 +104,7 @@ module _ (number : ℕ) (s : Store) (k : Kept) (but : RepresentsBut number s k) 
       given = but.objects.given;
       fits = but.objects.fits;
       spent = but.objects.spent;
+      numbered = but.objects.numbered;
     };
     files = record {
       blocks = λ n other.
@@ -129,6 +132,7 @@ module _ (number : ℕ) (s : Store) (k : Kept) (but : RepresentsBut number s k) 
       given = but.objects.given;
       fits = but.objects.fits;
       spent = but.objects.spent;
+      numbered = but.objects.numbered;
     };
     files = record {
       blocks = λ n other.

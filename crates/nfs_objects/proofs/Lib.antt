@@ -18,10 +18,12 @@ pub mod Locked
 pub mod Looked
 pub mod MountTables
 pub mod NamePlaces
+pub mod Numbers
 pub mod PageRuns
 pub mod Parting
 pub mod Placed
 pub mod Promised
+pub mod Replaced
 pub mod Rising
 pub mod Seen
 pub mod Suiting

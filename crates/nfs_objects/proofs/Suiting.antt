@@ -148,7 +148,7 @@ module _ (view : ViewValue) (more : List Seen) (reserved : List Reserved) where
       ] refl
 
   covers-wider : (modes : ModesValue) (a : Addr) → covers (held_mode modes view a) (held_mode modes wider a) ≡ true
-  covers-wider modes addresses.Exports = refl
+  covers-wider modes addresses.Exports = covers-self modes.exports
   covers-wider modes (addresses.Inode n) = inode-wider modes n
   covers-wider modes (addresses.Map n page) = inode-wider modes n
   covers-wider modes (addresses.Block n i) = inode-wider modes n
@@ -188,7 +188,14 @@ and-false false = refl
 
 -- RENAME may change the directory of each name, and what the name leads to there
 module _ (d : DraftValue) (a : RenameArguments)
-    (modes : d.modes ≡ record { inodes = Exclusive; mounts = Shared; locks = Exclusive; renames = Some a }) where
+    (modes : d.modes ≡ record {
+      exports = Shared;
+      inodes = Exclusive;
+      mounts = Shared;
+      locks = Exclusive;
+      renames =
+          Some a;
+    }) where
   at-place : (n : ℕ) → only_reads (Some a) d.view n ≡ false → MayChange d (addresses.Inode n)
   at-place n not_read =
       subst (λ m. held_mode m d.view (addresses.Inode n) ≡ Exclusive) (sym modes)

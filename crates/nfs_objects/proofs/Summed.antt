@@ -1,6 +1,6 @@
 -- What groups of objects use, when one object changes: its share gives way to another, and the sums are right again.
 use Rattle.std.proofs.Common.{◌≡◌, ◌==◌, ℕ, ◌+◌, ◌-◌, ◌*◌, ◌<◌, ◌≤◌, ◌^◌, true}
-use Rattle.std.proofs.Common.{false, cond, ◌&&◌, min}
+use Rattle.std.proofs.Common.{false, cond, ◌&&◌, ◌||◌, min, nat_lt}
 use Rattle.std.proofs.Common.{Option, Some, None, IsSome, refl, sym, ◌∙◌, ap, subst, arith}
 use Rattle.std.proofs.Math.Nat.{div-mul-le_self}
 use Rattle.std.proofs.lemmas.Bool.{and_parts}
@@ -210,7 +210,8 @@ pub usage-lives : (s : Store) (k : Kept) (n : ℕ) (o : Living) → Represents s
     get k.state.objects n ≡ Some o → IsSome (s.at (addresses.Usage o.export (group_of n)))
 usage-lives s k n o stands sound at =
     subst (λ (x : Option Object). IsSome x)
-    (sym (stands.usages.usage o.export (group_of n) (exported-there s k n o stands at)))
+    (sym (stands.usages.usage o.export (group_of n)
+    (ap (λ b. b || nat_lt k.state.last_export o.export) (exported-there s k n o stands at))))
     (some (k.usage o.export (group_of n)) one)
   where
     itself : (q : ℕ) → (q == q) ≡ true

@@ -1,6 +1,6 @@
 -- What one write of an inode does to what the store stands for.
 use Rattle.std.proofs.Common.{◌≡◌, ◌==◌, ℕ, ◌<◌, ◌≤◌, ◌/◌, ◌%◌, Bool, true, false, cond, option_map, [], replicate}
-use Rattle.std.proofs.Common.{◌||◌, ◌&&◌, max}
+use Rattle.std.proofs.Common.{◌||◌, ◌&&◌, ◌⊎◌, max}
 use Rattle.std.proofs.Common.{nat_le, List, Option, Some, None, IsSome, inl, inr, refl, sym, ◌∙◌, ap, subst, arith}
 use Rattle.std.specs.Prelude.{IfSome}
 use Rattle.std.proofs.Math.Bool.{or-false}
@@ -35,7 +35,7 @@ use Rattle.nfs_objects.specs.declared.object.Content.TheVariants as contents
 use Rattle.nfs_objects.specs.Edits.{edited, freed, recounted, set_at, with_living, with_mounts, with_new}
 use Rattle.nfs_objects.specs.Fits.{Fits}
 use Rattle.nfs_objects.specs.Knows.{ShowsExport, Turns, TurnsWhere}
-use Rattle.nfs_objects.specs.Stands.{IsFitting, Kept, Represents, inode_in, inode_there, links_kept, lives_in}
+use Rattle.nfs_objects.specs.Stands.{IsFitting, Kept, Represents, counts, inode_in, inode_there, links_kept, lives_in}
 use Rattle.nfs_objects.specs.Stands.{HasBlocks, IsMapped, IsStored, StandFiles, bytes_at, file_bytes, content_of, file_of, living_in}
 use Rattle.nfs_objects.specs.Stands.{map_in, map_of, living_alone, pages_of, stored_in}
 use Rattle.nfs_objects.specs.Stands.{StandLocks, StandObjects, StandTables, bucket_there, export_table_of, exports_of}
@@ -174,7 +174,7 @@ tables-stay s t m n same stand = record {
 }
 
 abbrev objects_in : Store → Kept → (ℕ → Option Object) × (ℕ → ℕ) × List LivingExport × FinMap nat_cmp Living ×
-    (ℕ → ℕ) × (ℕ → ℕ) × (ℕ → ℕ → Bool)
+    (ℕ → ℕ) × (ℕ → ℕ) × (ℕ → ℕ → Bool) × ℕ
 objects_in s k = (
   λ n. s.at (addresses.Inode n),
   s.last,
@@ -183,6 +183,7 @@ objects_in s k = (
   k.links,
   k.parents,
   k.state.spent,
+  k.state.last_export,
 )
 
 objects-stay : (s t : Store) (k l : Kept) → objects_in t l ≡ objects_in s k → StandObjects s k → StandObjects t l
@@ -197,7 +198,22 @@ objects-stay s t k l same stand = record {
       subst (λ x. i.generation ≤ x.1 n) (sym same) (stand.given n i (ap (λ x. x.0 n) (sym same) ∙ at));
   fits = λ n i at. stand.fits n i (ap (λ x. x.0 n) (sym same) ∙ at);
   spent = λ n g. ap (λ x. x.6 n g) same ∙ stand.spent n g ∙ ap (λ x. nat_le g (x.1 n)) (sym same);
+  numbered = λ n i at. subst (λ x. (lives_in x.2 i.export ≡ true) ⊎ (i.export ≤ x.7)) (sym same)
+      (stand.numbered n i (ap (λ x. x.0 n) (sym same) ∙ at));
 }
+
+-- what stands somewhere is of an export that is numbered
+numbered-put : (m : State) (at : Addr → Option Object) (number : ℕ) (new : Inode) →
+    ((n : ℕ) (i : Inode) → at (addresses.Inode n) ≡ Some (objects.Inode i) →
+    (lives_in m.exports i.export ≡ true) ⊎ (i.export ≤ m.last_export)) → lives_in m.exports new.export ≡ true
+    → (n : ℕ) (i : Inode) → put_at at (addresses.Inode number) (Some (objects.Inode new)) (addresses.Inode n) ≡ Some
+    (objects.Inode i) → (lives_in m.exports i.export ≡ true) ⊎ (i.export ≤ m.last_export)
+numbered-put m at number new numbered here n i is =
+    elim (number == n) as (λ b. cond b (Some (objects.Inode new)) (at (addresses.Inode n)) ≡ Some (objects.Inode i) →
+    (lives_in m.exports i.export ≡ true) ⊎ (i.export ≤ m.last_export)) [
+      | true ↦ λ there. (let e : new ≡ i = cc in inl (subst (λ (x : Inode). lives_in m.exports x.export ≡ true) e here))
+      | false ↦ λ there. numbered n i there
+    ] is
 
 -- the files of the store where an inode was put
 put-files : (s : Store) (k : Kept) (n : ℕ) (i : Inode) (beside : Beside) (last : ℕ → ℕ) → RepresentsBut n s k
@@ -262,6 +278,7 @@ put-stands s k n i beside stands filed content listing within fits lives keeps =
         (λ q. (let e = last-kept s.last n i.generation q within in omega (arith, e)))
         (let e = last-kept s.last n i.generation n within in omega (arith, e, within));
     fits = fits-put s.at n i stands.objects.fits fits;
+    numbered = numbered-put k.state s.at n i stands.objects.numbered lives;
     spent = λ q g.
         stands.objects.spent q g ∙ ap (λ l. nat_le g l) (sym (last-kept s.last n i.generation q within));
   };
@@ -298,6 +315,9 @@ free-stands s k n stands filed emptied unlocked = record {
         i.generation ≤ s.last q) [ true ↦ λ e. cc | false ↦ λ e. stands.objects.given q i e ] at;
     fits = λ q i at. elim (n == q) as (λ b. cond b None (s.at (addresses.Inode q)) ≡ Some (objects.Inode i) →
         IsFitting q i) [ true ↦ λ e. cc | false ↦ λ e. stands.objects.fits q i e ] at;
+    numbered = λ q i at. elim (n == q) as (λ b. cond b None (s.at (addresses.Inode q)) ≡ Some (objects.Inode i) →
+        (lives_in k.state.exports i.export ≡ true) ⊎ (i.export ≤ k.state.last_export))
+        [ true ↦ λ e. cc | false ↦ λ e. stands.objects.numbered q i e ] at;
     spent = stands.objects.spent;
   };
   files = files-put s k n None s.last stands.files filed (freed k n) refl
@@ -402,6 +422,7 @@ new-stands s k n i stands vacant none bare fits lives = subst (λ (o : Living).
             (subst (λ b. i.generation ≤ cond b (max (s.last n) i.generation) (s.last n))
             (sym ((unsigned_Decides n n).1 refl)) (le-max_right (s.last n) i.generation));
         fits = fits-put s.at n i stands.objects.fits fits;
+        numbered = numbered-put k.state s.at n i stands.objects.numbered lives;
         spent = λ q g.
             ap (λ b. b || ((q == n) && nat_le g i.generation)) (stands.objects.spent q g)
             ∙ ap (λ b. nat_le g (s.last q) || (b && nat_le g i.generation)) (nat_eq_equiv.symm q n)
@@ -516,7 +537,7 @@ usage-stored u =
 
 -- what a group's objects use
 module _ (s : Store) (k : Kept) (e n : ℕ) (before after written : Usage)
-    (is : lives_in k.state.exports e ≡ true → written ≡ exchanged before after (k.usage e (group_of n)))
+    (is : counts k.state e ≡ true → written ≡ exchanged before after (k.usage e (group_of n)))
     (stands : Represents s k) where
   abbrev share : Usage → ℕ → Usage
   share u = in_export e u
@@ -524,7 +545,7 @@ module _ (s : Store) (k : Kept) (e n : ℕ) (before after written : Usage)
   abbrev now : Kept
   now = recounted n (share before) (share after) k
 
-  usage-put : (p q : ℕ) → lives_in k.state.exports p ≡ true
+  usage-put : (p q : ℕ) → counts k.state p ≡ true
       → put_at s.at (addresses.Usage e (group_of n)) (stored_usage written) (addresses.Usage p q) ≡
       stored_usage (now.usage p q)
   usage-put p q lives =
@@ -536,7 +557,7 @@ module _ (s : Store) (k : Kept) (e n : ℕ) (before after written : Usage)
             ≡ stored_usage (exchanged (cond b before no_usage) (cond b after no_usage) (k.usage p q))) [
               | true ↦ λ export.
                   let same : e ≡ p = (unsigned_Decides e p).0 export in
-                  ap stored_usage (is (ap (lives_in k.state.exports) same ∙ lives))
+                  ap stored_usage (is (ap (counts k.state) same ∙ lives))
                   ∙ ap (λ u. stored_usage (exchanged before after u))
                   (ap (λ x. k.usage x (group_of n)) same
                   ∙ ap (k.usage p) ((unsigned_Decides (group_of n) q).0 group))
@@ -600,7 +621,7 @@ module _ (d : DraftValue) where
   -- what stands for a group of a living export is what is known of it
   pub usage-known : (e g : ℕ) (u : Usage) → option_map usage_of (known_at d (addresses.Usage e g)) ≡ Some u
       → (s : Store) (k : Kept) → Fits d.view s → Represents (with_writes s d.writes) k
-      → lives_in k.state.exports e ≡ true → k.usage e g ≡ u
+      → counts k.state e ≡ true → k.usage e g ≡ u
   usage-known e g u known s k fits stands lives =
       by (known_at d (addresses.Usage e g)) refl known
     where

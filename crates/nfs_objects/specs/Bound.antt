@@ -85,3 +85,12 @@ pub record StillNames (call : Call) (view later : ViewValue) : Type 0 where
 -- so it is once a round was given
 abbrev pub NamesStay : Type 0
 NamesStay = (call : Call) (view : ViewValue) (round : Round) → StillNames call view (with_round view round)
+
+-- no number was given yet, or as many as the call wants
+abbrev pub HasNumbers : Call → ViewValue → Type 0
+HasNumbers call view = (view.reserved ≡ []) ⊎ (new_numbers call view ≤ length view.reserved)
+
+-- so it is of each view that grew by rounds
+abbrev pub GrownHaveNumbers : Type 0
+GrownHaveNumbers = (call : Call) (ctx : Ctx) (rounds : List Round) → Grows call ctx rounds
+    → HasNumbers call (view_after rounds)

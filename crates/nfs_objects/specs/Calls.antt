@@ -1,6 +1,6 @@
 -- What calls name.
 use Rattle.std.specs.Prelude.{◌≡◌, ℕ, zero, suc, Bool, true, false, List, [], ◌∷◌, ◌++◌, Some, None}
-use Rattle.std.specs.Prelude.{◌⊎◌, ◌/◌, ◌%◌, ◌==◌, Option, if◌then◌else◌, length}
+use Rattle.std.specs.Prelude.{◌⊎◌, ◌/◌, ◌%◌, ◌==◌, Option, if◌then◌else◌, length, min, option_map, take}
 use Rattle.std.specs.Int.{w64, from_be_bytes}
 use Rattle.nfs_wire.specs.declared.calls.NfsCall.{NfsCall}
 use Rattle.nfs_wire.specs.declared.calls.NfsCall.TheVariants as nfs
@@ -9,6 +9,8 @@ use Rattle.side_wire.specs.declared.mount.MountCall.TheVariants as mount
 use Rattle.side_wire.specs.declared.nlm.NlmCall.{NlmCall}
 use Rattle.side_wire.specs.declared.nlm.NlmCall.TheVariants as nlm
 use Rattle.nfs_machine.specs.Handles.{handle_of}
+use Rattle.nfs_machine.specs.Exports.{ExportValue}
+use Rattle.nfs_machine.specs.Replacing.{is_exhausted, new_count}
 use Rattle.nfs_machine.specs.declared.calls.Call.{Call}
 use Rattle.nfs_machine.specs.declared.calls.Call.TheVariants as calls
 use Rattle.nfs_objects.specs.declared.address.Addr.{Addr}
@@ -17,9 +19,12 @@ use Rattle.nfs_objects.specs.declared.directory.Directory.{Directory}
 use Rattle.nfs_objects.specs.declared.entry_map.EntryMap.{EntryMap}
 use Rattle.nlm_ranges.specs.Buckets.{bucket_count}
 use Rattle.nfs_objects.specs.Directories.{bucket_of, width_in}
+use Rattle.nfs_objects.specs.ExportTables.{ExportTableValue}
 use Rattle.nfs_objects.specs.Modes.{led_at}
-use Rattle.nfs_objects.specs.Stands.{header_of}
+use Rattle.nfs_objects.specs.Stands.{export_table_of, header_of}
+use Rattle.nfs_objects.specs.Sums.{group_of}
 use Rattle.nfs_objects.specs.Values.{ViewValue, shown_at}
+use Rattle.nfs_objects.specs.declared.view.Reserved.{Reserved}
 
 -- the handles of a call of NFS, in the order in which they are judged (RFC 1813, 3.3)
 abbrev pub nfs_handles : NfsCall → List (List ℕ)
@@ -66,6 +71,7 @@ abbrev pub handles_of : Call → List (List ℕ)
 handles_of (calls.Nfs call) = nfs_handles call
 handles_of (calls.Mount call) = []
 handles_of (calls.Nlm call) = nlm_handles call
+handles_of (calls.Replace exports) = []
 
 -- the procedure NULL of each program reads nothing
 abbrev pub is_null : Call → Bool
@@ -185,14 +191,38 @@ locks_named (nlm.GrantedRes r) = if length r.cookie == 8 then locks_at (from_be_
 locks_named (nlm.FreeAll a) = buckets_below bucket_count
 locks_named call = locks_of (nlm_handles call)
 
+-- ---- other exports
+-- the table of exports, as a view shows it
+abbrev pub exports_shown : ViewValue → Option ExportTableValue
+exports_shown view = option_map export_table_of (shown_at view.entries addresses.Exports)
+
+-- what the groups of new roots use, of exports that are numbered behind the last
+abbrev pub root_usages : (last : ℕ) → List Reserved → List Addr
+root_usages last [] = []
+root_usages last (r ∷ reserved) = addresses.Usage (suc last) (group_of r.number) ∷ root_usages (suc last) reserved
+
+abbrev pub roots_named : ViewValue → List Addr
+roots_named view = elim (exports_shown view) [ None ↦ [] | Some table ↦ root_usages table.last (take 64 view.reserved) ]
+
+-- how many roots these exports want beside a table: one for each new path, and none where a number would not fit
+abbrev pub roots_for : List ExportValue → ExportTableValue → ℕ
+roots_for exports table =
+    if is_exhausted table.exports table.last exports then 0 else min (new_count table.exports exports) 64
+
+-- and so many once the table is read
+abbrev pub roots_wanted : ViewValue → List ExportValue → ℕ
+roots_wanted view exports = elim (exports_shown view) [ None ↦ 0 | Some table ↦ roots_for exports table ]
+
 -- The addresses that a call names, whether anything stands there or not, once it has read so much: the exports, the
 -- objects of its handles with what their exports use, where its data lies, where a name goes that it may add, the locks
--- that it may change, and those that are its program's alone. What it named it names still as it reads more.
+-- that it may change, and those that are its program's alone; or, of the roots that it makes, what their groups use.
+-- What it named it names still as it reads more.
 abbrev pub named_by : Call → ViewValue → List Addr
 named_by (calls.Nfs call) view = addresses.Exports ∷ objects_at view (nfs_handles call) ++
     (data_of call ++ (added_by view call ++ locks_lost view call))
 named_by (calls.Mount call) view = addresses.Exports ∷ addresses.Mounts ∷ []
 named_by (calls.Nlm call) view = addresses.Exports ∷ objects_at view (nlm_handles call) ++ locks_named call
+named_by (calls.Replace exports) view = addresses.Exports ∷ roots_named view
 
 -- the address is one of these
 abbrev pub IsAmong : List Addr → Addr → Type 0
@@ -212,4 +242,5 @@ made_by call = 0
 -- makes none.
 abbrev pub new_numbers : Call → ViewValue → ℕ
 new_numbers (calls.Nfs call) view = made_by call
+new_numbers (calls.Replace exports) view = roots_wanted view exports
 new_numbers call view = 0

@@ -1,8 +1,9 @@
 -- The table of exports: which live, and how far numbers were used.
-use Rattle.std.specs.Prelude.{◌≤◌, ℕ, List, length}
+use Rattle.std.specs.Prelude.{◌≡◌, ◌≤◌, ◌==◌, ℕ, false, List, [], ◌∷◌, length}
 use Rattle.std.specs.List.{AllByRecursion}
 use Rattle.nfs_machine.specs.Exports.{LivingExport}
-use Rattle.nfs_machine.specs.WellFormed.{AllApart, IsNumbered}
+use Rattle.nfs_machine.specs.Paths.{parts}
+use Rattle.nfs_machine.specs.WellFormed.{IsNumbered}
 
 pub record ExportTableValue : Type 0 where
   -- the living exports in the order given
@@ -10,8 +11,17 @@ pub record ExportTableValue : Type 0 where
   -- the greatest number that an export ever had
   pub last : ℕ
 
--- what is true of every table: at most 64 exports, and no two have the same number, root or path
+-- two exports have not the same number or path (parts between slashes); that no two have one root the state tells
+pub record AreNamedApart (a b : LivingExport) : Type 0 where
+  pub numbers : (a.number == b.number) ≡ false
+  pub paths : parts a.path ≡ parts b.path → ⊥
+
+abbrev pub AllNamedApart : List LivingExport → Type 0
+AllNamedApart [] = Unit {0}
+AllNamedApart (e ∷ exports) = AllByRecursion (AreNamedApart e) exports × AllNamedApart exports
+
+-- what is true of every table: at most 64 exports, and no two have the same number or path
 pub record IsExportTable (t : ExportTableValue) : Type 0 where
   pub few : length t.exports ≤ 64
   pub numbered : AllByRecursion (IsNumbered t.last) t.exports
-  pub apart : AllApart t.exports
+  pub apart : AllNamedApart t.exports

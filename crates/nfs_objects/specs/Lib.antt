@@ -20,6 +20,7 @@ pub mod MountTables
 pub mod Only
 pub mod PageRuns
 pub mod Promise
+pub mod Replaced
 pub mod Rooms
 pub mod Same
 pub mod SameLaws

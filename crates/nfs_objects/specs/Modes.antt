@@ -81,10 +81,10 @@ only_reads None view n = false
 only_reads (Some a) view n = is_apart view a.from n && is_apart view a.to n
 
 -- ---- modes
--- the mode in which an address is wanted: a call never changes the exports, and holds the maps and blocks of a file and
--- the pages and parts of a directory as it holds the inode
+-- the mode in which an address is wanted: a call holds the maps and blocks of a file and the pages and parts of a
+-- directory as it holds the inode
 abbrev pub held_mode : ModesValue → ViewValue → Addr → Mode
-held_mode modes view addresses.Exports = Shared
+held_mode modes view addresses.Exports = modes.exports
 held_mode modes view (addresses.Inode n) = if only_reads modes.renames view n then Shared else modes.inodes
 held_mode modes view (addresses.Map n page) = if only_reads modes.renames view n then Shared else modes.inodes
 held_mode modes view (addresses.Block n i) = if only_reads modes.renames view n then Shared else modes.inodes
@@ -119,31 +119,37 @@ changes_locks (nlm.NmLock a) = true
 changes_locks (nlm.FreeAll a) = true
 changes_locks call = false
 
+-- those of the call that replaces the exports: it makes roots, and changes nothing else
+abbrev pub replacing : ModesValue
+replacing = record { exports = Exclusive; inodes = Exclusive; mounts = Shared; locks = Shared; renames = None }
+
 -- A call of NFS may change objects, and with the last name of a file go its locks. MNT reads directories and changes
 -- the mounts, as UMNT and UMNTALL do. NLM reads the file.
 abbrev pub modes_of : Call → ModesValue
 modes_of (calls.Nfs call) = record {
+  exports = Shared;
   inodes = mode_for (is_changing_nfs call);
   mounts = Shared;
   locks = mode_for (is_changing_nfs call);
   renames = renames_of call;
 }
 modes_of (calls.Mount call) = record
-    { inodes = Shared; mounts = mode_for (is_changing_mount call); locks = Shared; renames = None }
+    { exports = Shared; inodes = Shared; mounts = mode_for (is_changing_mount call); locks = Shared; renames = None }
 modes_of (calls.Nlm call) = record
-    { inodes = Shared; mounts = Shared; locks = mode_for (changes_locks call); renames = None }
+    { exports = Shared; inodes = Shared; mounts = Shared; locks = mode_for (changes_locks call); renames = None }
+modes_of (calls.Replace exports) = replacing
 
 -- those of calls that change nothing
 abbrev pub reading : ModesValue
-reading = record { inodes = Shared; mounts = Shared; locks = Shared; renames = None }
+reading = record { exports = Shared; inodes = Shared; mounts = Shared; locks = Shared; renames = None }
 
 -- those of calls that may change each object that they read
 abbrev pub changing : ModesValue
-changing = record { inodes = Exclusive; mounts = Shared; locks = Exclusive; renames = None }
+changing = record { exports = Shared; inodes = Exclusive; mounts = Shared; locks = Exclusive; renames = None }
 
 -- those of calls that read files and change what they have of locks
 abbrev pub locking : ModesValue
-locking = record { inodes = Shared; mounts = Shared; locks = Exclusive; renames = None }
+locking = record { exports = Shared; inodes = Shared; mounts = Shared; locks = Exclusive; renames = None }
 
 -- all that the view has is held as it is wanted, or alone
 abbrev pub Suits : ModesValue → ViewValue → Type 0

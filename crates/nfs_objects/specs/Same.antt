@@ -1,7 +1,6 @@
 -- When two values are the same: tests by parts, as `==` makes them. Of what is shared the value is compared.
 use Rattle.std.specs.Prelude.{Bool, true, false, ◌==◌, ◌&&◌, Option, option_map}
 use Rattle.std.specs.Arc.{arc_value}
-use Rattle.std.specs.Bool.{beq}
 use Rattle.std.specs.Cmp.Lexicographic.{pointwise}
 use Rattle.std.specs.Option.{option_eq}
 use Rattle.nfs_wire.specs.declared.attributes.DeviceNumber.{DeviceNumber}
@@ -9,7 +8,8 @@ use Rattle.nfs_wire.specs.declared.attributes.Time.{Time}
 use Rattle.nfs_wire.specs.declared.calls.Verifier.{Verifier}
 use Rattle.side_wire.specs.declared.mount.lists.MountBody.{MountBody}
 use Rattle.nfs_machine.specs.Bytes.{same_bytes}
-use Rattle.nfs_machine.specs.Exports.{ExportValue, LivingExport}
+use Rattle.nfs_machine.specs.Exports.{LivingExport}
+use Rattle.nfs_machine.specs.SameExports.{same_export}
 use Rattle.nfs_machine.specs.State.{Entry}
 use Rattle.nlm_ranges.specs.Same.{same_bucket}
 use Rattle.nfs_objects.specs.Bits.{same_bits}
@@ -78,10 +78,6 @@ abbrev pub same_inode : Inode → Inode → Bool
 same_inode a b =
     a.export == b.export && (a.generation == b.generation && (same_ownership a b && (same_times a b &&
     (option_eq same_verifier a.verifier b.verifier && same_content a.content b.content))))
-
-abbrev pub same_export : ExportValue → ExportValue → Bool
-same_export a b =
-    same_bytes a.path b.path && (beq a.read_only b.read_only && pointwise same_bytes a.hosts b.hosts)
 
 abbrev pub same_living : LivingExport → LivingExport → Bool
 same_living a b = a.number == b.number && (a.root == b.root && same_export a.value b.value)

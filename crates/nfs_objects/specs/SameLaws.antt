@@ -1,8 +1,8 @@
 -- The tests of `Same` tell values apart: they pass where the two are one, and nowhere else.
-use Rattle.std.specs.Prelude.{◌≡◌, ℕ, Bool, true, false, ◌==◌, ◌&&◌, List, Option, Some, None}
+use Rattle.std.specs.Prelude.{◌≡◌, ℕ, Bool, true, ◌==◌, ◌&&◌, List, Option, Some, None}
 use Rattle.std.specs.Prelude.{option_map}
 use Rattle.std.specs.Arc.{arc_value}
-use Rattle.std.specs.Bool.{Decides, beq}
+use Rattle.std.specs.Bool.{Decides}
 use Rattle.std.specs.Cmp.{IsEquivalence, decided, first_so, on_equiv, second_so, unsigned_Decides}
 use Rattle.std.specs.Cmp.Lexicographic.{bytes_decides, pointwise, pointwise_decides}
 use Rattle.std.specs.Option.{option_eq}
@@ -12,14 +12,15 @@ use Rattle.nfs_wire.specs.declared.attributes.Time.{Time}
 use Rattle.nfs_wire.specs.declared.calls.Verifier.{Verifier}
 use Rattle.side_wire.specs.declared.mount.lists.MountBody.{MountBody}
 use Rattle.nfs_machine.specs.Bytes.{same_bytes}
-use Rattle.nfs_machine.specs.Exports.{ExportValue, LivingExport}
+use Rattle.nfs_machine.specs.Exports.{LivingExport}
+use Rattle.nfs_machine.specs.SameExports.{export_decides}
 use Rattle.nfs_machine.specs.State.{Entry}
 use Rattle.nlm_ranges.specs.SameLaws.{bucket_decides}
 use Rattle.nfs_objects.specs.Bits.{same_bits}
 use Rattle.nfs_objects.specs.ExportTables.{ExportTableValue}
 use Rattle.nfs_objects.specs.FileMaps.{FileMapValue}
 use Rattle.nfs_objects.specs.Same.{same_file_map}
-use Rattle.nfs_objects.specs.Same.{same_content, same_device, same_directory, same_entry, same_entry_map, same_export}
+use Rattle.nfs_objects.specs.Same.{same_content, same_device, same_directory, same_entry, same_entry_map}
 use Rattle.nfs_objects.specs.Same.{same_exports}
 use Rattle.nfs_objects.specs.Same.{same_inode, same_living, same_mode, same_mount, same_number, same_object, same_run}
 use Rattle.nfs_objects.specs.Same.{held_value, same_held, same_ownership, same_pair, same_seen, same_time, same_times}
@@ -66,12 +67,6 @@ nat_own n = (unsigned_Decides n n).1 refl
 
 pub bytes_own : (bs : List ℕ) → same_bytes bs bs ≡ true
 bytes_own bs = (bytes_decides bs bs).1 refl
-
-pub bool_decides : (a b : Bool) → Decides (beq a b) (a ≡ b)
-bool_decides true true = (λ e. refl, λ e. refl)
-bool_decides true false = (λ e. cc, λ e. cc)
-bool_decides false true = (λ e. cc, λ e. cc)
-bool_decides false false = (λ e. refl, λ e. refl)
 
 pub option_decides : {X : Type 0} {test : X → X → Bool} → ((a b : X) → Decides (test a b) (a ≡ b)) →
     (a b : Option X) → Decides (option_eq test a b) (a ≡ b)
@@ -253,20 +248,6 @@ pub inode_decides : (a b : Inode) → Decides (same_inode a b) (a ≡ b)
 inode_decides = from_self same_inode inode_same inode_own
 
 -- ---- exports and mounts
-export_same : (a b : ExportValue) → same_export a b ≡ true → a ≡ b
-export_same a b e =
-    let rest = second_so (same_bytes a.path b.path) _ e in
-    λ i. record {
-      path = (bytes_decides a.path b.path).0 (first_so (same_bytes a.path b.path) _ e) i;
-      read_only = (bool_decides a.read_only b.read_only).0 (first_so (beq a.read_only b.read_only) _ rest) i;
-      hosts = (pointwise_decides bytes_decides a.hosts b.hosts).0 (second_so (beq a.read_only b.read_only) _ rest) i;
-    }
-
-pub export_decides : (a b : ExportValue) → Decides (same_export a b) (a ≡ b)
-export_decides = from_self same_export export_same
-    (λ a. both _ _ (bytes_own a.path) (both _ _ ((bool_decides a.read_only a.read_only).1 refl)
-    ((pointwise_decides bytes_decides a.hosts a.hosts).1 refl)))
-
 living_same : (a b : LivingExport) → same_living a b ≡ true → a ≡ b
 living_same a b e =
     let rest = second_so (a.number == b.number) _ e in

@@ -1,5 +1,5 @@
 -- The state that a store stands for.
-use Rattle.std.specs.Prelude.{◌≡◌, ◌<◌, ◌≤◌, ◌^◌, ◌↔◌, ℕ, Bool, false, true, Contains, List}
+use Rattle.std.specs.Prelude.{◌≡◌, ◌<◌, ◌≤◌, ◌^◌, ◌↔◌, ◌⊎◌, ◌||◌, ℕ, Bool, false, true, Contains, List}
 use Rattle.std.specs.Prelude.{[], length}
 use Rattle.std.specs.Prelude.{Option, Some, None, IsSome, is_some, option_map, unwrap_or}
 use Rattle.std.specs.Prelude.{nat_le, nat_lt, if◌then◌else◌, replicate, ◌/◌, ◌%◌, ◌==◌}
@@ -257,6 +257,9 @@ pub record StandObjects (s : Store) (k : Kept) : Type 0 where
   pub given : (n : ℕ) (i : Inode) → s.at (addresses.Inode n) ≡ Some (stored.Inode i) → i.generation ≤ s.last n
   pub fits : (n : ℕ) (i : Inode) → s.at (addresses.Inode n) ≡ Some (stored.Inode i) → IsFitting n i
   pub spent : (n g : ℕ) → k.state.spent n g ≡ nat_le g (s.last n)
+  -- its export lives, or has a number that was used
+  pub numbered : (n : ℕ) (i : Inode) → s.at (addresses.Inode n) ≡ Some (stored.Inode i) →
+      (lives_in k.state.exports i.export ≡ true) ⊎ (i.export ≤ k.state.last_export)
 
 -- a map stands there, or nothing
 abbrev pub IsMapped : (mapped : Bool) → Option Object → Type 0
@@ -317,9 +320,14 @@ pub record StandEntries (s : Store) (k : Kept) (n : ℕ) : Type 0 where
 abbrev pub StandDirectories : Store → Kept → Type 0
 StandDirectories s k = (n : ℕ) → StandEntries s k n
 
--- of each living export each group's usage stands for it, but for that of no object
+-- whether an export with this number lives, or none was ever numbered so
+abbrev pub counts : State → ℕ → Bool
+counts m e = lives_in m.exports e || nat_lt m.last_export e
+
+-- of each living export each group's usage stands for it, but for that of no object; of each number that no export had
+-- yet too
 pub record StandUsages (s : Store) (k : Kept) : Type 0 where
-  pub usage : (e g : ℕ) → lives_in k.state.exports e ≡ true →
+  pub usage : (e g : ℕ) → counts k.state e ≡ true →
       s.at (addresses.Usage e g) ≡ stored_usage (k.usage e g)
 
 -- ---- locks, shares, requests and grants

@@ -31,9 +31,10 @@ pub record ViewValue : Type 0 where
   pub entries : List Seen
   pub reserved : List Reserved
 
--- how a call holds what it reads: inodes with the maps and blocks of files, the pages and parts of directories and what
--- groups of inodes use; the mounts; what files have of locks; and which names it moves, if any
+-- how a call holds what it reads: the exports; inodes with the maps and blocks of files, the pages and parts of
+-- directories and what groups of inodes use; the mounts; what files have of locks; and which names it moves, if any
 pub record ModesValue : Type 0 where
+  pub exports : Mode
   pub inodes : Mode
   pub mounts : Mode
   pub locks : Mode
@@ -77,8 +78,13 @@ abbrev pub done_value : Call → Ctx → ViewValue → ChangeValue → DoneValue
 done_value call ctx view change = record { call = call; ctx = ctx; view = view; change = change }
 
 abbrev pub modes_value : Modes → ModesValue
-modes_value modes = record
-    { inodes = modes.inodes; mounts = modes.mounts; locks = modes.locks; renames = option_copied modes.renames }
+modes_value modes = record {
+  exports = modes.exports;
+  inodes = modes.inodes;
+  mounts = modes.mounts;
+  locks = modes.locks;
+  renames = option_copied modes.renames;
+}
 
 -- a draft with no write
 abbrev pub new_draft : Ctx → ViewValue → ModesValue → DraftValue

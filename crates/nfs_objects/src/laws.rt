@@ -1,6 +1,6 @@
 //! The laws of attempts, and of comparisons.
 
-ghost use Rattle.nfs_objects.specs.Bound.{AsksFew, NamesFew, NamesStay};
+ghost use Rattle.nfs_objects.specs.Bound.{AsksFew, GrownHaveNumbers, NamesFew, NamesStay};
 ghost use Rattle.nfs_objects.specs.Derived.{TellsApart, address_test, context_test, leaf_test, mode_test};
 ghost use Rattle.nfs_objects.specs.Derived.{mount_test, number_test};
 ghost use Rattle.nfs_objects.specs.ModeLaws.{GrowsSuitably, RenamesHoldTheirs, RenamesShareOthers, StartsSuitably};
@@ -38,4 +38,9 @@ pub fn comparisons_decide()
     ensures leaves { TellsApart leaf_test }
     ensures mounts { TellsApart mount_test }
     ensures contexts { TellsApart context_test }
+{}
+
+/// A view that grew by rounds has no new number yet, or all that its call wants.
+pub fn grown_views_have_numbers()
+    ensures { GrownHaveNumbers }
 {}

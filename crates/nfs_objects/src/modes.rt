@@ -25,10 +25,10 @@ pub enum Mode {
     Exclusive,
 }
 
-/// How a call holds what it reads: alone what it may change, and shared what it only reads. The exports are always
-/// shared.
+/// How a call holds what it reads: alone what it may change, and shared what it only reads.
 #[derive(Clone, Copy)]
 pub struct Modes<'a> {
+    pub exports: Mode,
     /// Of inodes, of the maps and blocks of files and the pages and parts of directories, and of what groups of inodes
     /// use.
     pub inodes: Mode,
@@ -41,6 +41,7 @@ pub struct Modes<'a> {
 
 /// The modes of a call that changes nothing.
 pub const READING: Modes<'static> = Modes {
+    exports: Mode::Shared,
     inodes: Mode::Shared,
     mounts: Mode::Shared,
     locks: Mode::Shared,
@@ -49,6 +50,7 @@ pub const READING: Modes<'static> = Modes {
 
 /// The modes of a call that may change each object that it reads. What files have of locks goes with them.
 pub const CHANGING: Modes<'static> = Modes {
+    exports: Mode::Shared,
     inodes: Mode::Exclusive,
     mounts: Mode::Shared,
     locks: Mode::Exclusive,
@@ -57,6 +59,7 @@ pub const CHANGING: Modes<'static> = Modes {
 
 /// The modes of a call that reads directories and changes the mounts.
 pub const MOUNTING: Modes<'static> = Modes {
+    exports: Mode::Shared,
     inodes: Mode::Shared,
     mounts: Mode::Exclusive,
     locks: Mode::Shared,
@@ -65,17 +68,32 @@ pub const MOUNTING: Modes<'static> = Modes {
 
 /// The modes of a call that reads files and changes what they have of locks.
 pub const LOCKING: Modes<'static> = Modes {
+    exports: Mode::Shared,
     inodes: Mode::Shared,
     mounts: Mode::Shared,
     locks: Mode::Exclusive,
     renames: None,
 };
 
+/// The modes of the call that replaces the exports: it makes roots, and changes nothing else beside.
+pub const REPLACING: Modes<'static> = Modes {
+    exports: Mode::Exclusive,
+    inodes: Mode::Exclusive,
+    mounts: Mode::Shared,
+    locks: Mode::Shared,
+    renames: None,
+};
+
 impl<'a> Modes<'a> {
     /// The modes of RENAME, which reads the directories above its target and does not change them.
     pub fn renaming(arguments: &'a RenameArguments) -> Modes<'a>
-        ensures { modes_value result ≡ record
-            { inodes = Mode.Exclusive; mounts = Mode.Shared; locks = Mode.Exclusive; renames = Some arguments.now } }
+        ensures { modes_value result ≡ record {
+          exports = Mode.Shared;
+          inodes = Mode.Exclusive;
+          mounts = Mode.Shared;
+          locks = Mode.Exclusive;
+          renames = Some arguments.now;
+        } }
     {
         Modes {
             renames: Some(arguments),
@@ -88,7 +106,7 @@ impl<'a> Modes<'a> {
         ensures { result ≡ held_mode (modes_value self.entry) view.now address }
     {
         match address {
-            Addr::Exports => Mode::Shared,
+            Addr::Exports => self.exports,
             Addr::Inode(number) => self.inode_mode(view, number),
             Addr::Map { file, page: _ } | Addr::Block { file, index: _ } => {
                 self.inode_mode(view, file)
@@ -134,6 +152,7 @@ impl<'a> Modes<'a> {
                 locks: nlm_mode(call),
                 ..READING
             },
+            Call::Replace(_) => REPLACING,
         }
     }
 }

@@ -10,7 +10,7 @@ use Rattle.std.proofs.lemmas.List.Sorted.{IsPermutation-append_comm, IsPermutati
 use Rattle.std.proofs.lemmas.List.Sorted.{IsPermutation-append_right, IsPermutation-cons, IsPermutation-middle}
 use Rattle.std.proofs.lemmas.List.Sorted.{IsPermutation-refl, IsPermutation-sym, IsPermutation-to_front}
 use Rattle.std.proofs.lemmas.List.Sorted.{IsPermutation-trans}
-use Rattle.nfs_machine.specs.Run.{Arrival, FromHost, Received, Record}
+use Rattle.nfs_machine.specs.Run.{Arrival, FromHost, NewExports, Received, Record}
 use Rattle.nfs_objects.specs.declared.address.Addr.{Addr}
 use Rattle.nfs_objects.specs.declared.modes.Mode.{Mode}
 use Rattle.nfs_engine.specs.Arrivals.{ArrivalValue, received_value}
@@ -215,9 +215,10 @@ unanswered_answered received (answers.Refused declined) is = absurd is
 unanswered_answered received (answers.Early faulted) is = absurd is
 unanswered_answered received (answers.Unanswered unanswered) is = is
 
--- what came in of a record
+-- what came in of a record: exports have no host and no bytes
 abbrev pub arrived : Arrival → Received
 arrived (FromHost received) = received
+arrived (NewExports exports moment) = record { host = []; bytes = []; moment = moment }
 
 -- ---- the oldest arrival
 module _ (e f : EngineValue) (a : ArrivalValue) (later : List Received) where

@@ -203,6 +203,7 @@ may_ask_first (calls.Nfs call) a is =
     })
 may_ask_first (calls.Mount call) a is = absurd (let no : Some a ≡ None = is in cc)
 may_ask_first (calls.Nlm call) a is = absurd (let no : Some a ≡ None = is in cc)
+may_ask_first (calls.Replace exports) a is = absurd (let no : Some a ≡ None = is in cc)
 
 -- two addresses as a vector
 abbrev two : Global → (a b : Addr × Mode) → Vec (Addr × Mode) Global

@@ -25,6 +25,7 @@ pub fn attempt(alloc: Global, call: &Call, ctx: &Ctx, view: &View) -> Result<Out
         Call::Nfs(call) => attempt_nfs(alloc, call, ctx, view),
         Call::Mount(call) => nfs_mount::attempt(alloc, call, ctx, view),
         Call::Nlm(call) => nlm_daemon::attempt(alloc, call, ctx, view),
+        Call::Replace(_) => unreachable!(),
     }
 }
 

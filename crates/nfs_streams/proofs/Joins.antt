@@ -1,7 +1,7 @@
 -- Answering one list of records and then another answers both: arrivals, moments, answers and runs follow one another.
 use Rattle.std.proofs.Common.{ℕ, List, [], ◌∷◌, ◌++◌, Option, inl, inr, refl, sym, ◌∙◌, ap, subst, append_assoc, append-nil}
 use Rattle.std.proofs.KnownBytes.{Appends-nil, Appends-trans}
-use Rattle.nfs_machine.specs.Run.{Setting, Arrival, FromHost, Record, Run}
+use Rattle.nfs_machine.specs.Run.{Setting, Arrival, FromHost, NewExports, Record, Run}
 use Rattle.nfs_machine.specs.declared.moment.Moment.{Moment}
 use Rattle.nfs_machine.proofs.Runs.{run-append}
 use Rattle.nfs_engine.specs.Engine.{EngineValue}
@@ -29,6 +29,7 @@ answer_run setting old new (FromHost received) answer records (inr (inr (inr exe
       record { ctx = executed.ctx; call = executed.call; asks = executed.asks; step = executed.step },
       refl,
     )
+answer_run setting old new (NewExports exports moment) answer records none = absurd none
 
 pub served_run : (setting : Setting) (old new : Standing) (arrivals : List Arrival) (written : List ℕ)
     (records : List Record) → Serves setting old arrivals written records new →

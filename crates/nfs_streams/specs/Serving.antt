@@ -5,7 +5,7 @@ use Rattle.nfs_rpc.specs.declared.faults.Early.{Early}
 use Rattle.nfs_machine.specs.Changing.{is_changing}
 use Rattle.nfs_machine.specs.Refusal.{refusal_of}
 use Rattle.nfs_machine.specs.RpcReplies.{FirstFault, fault_message, refusal_message, success_message}
-use Rattle.nfs_machine.specs.Run.{Setting, Arrival, FromHost, Received, ReceivedAsks, Record}
+use Rattle.nfs_machine.specs.Run.{Setting, Arrival, FromHost, NewExports, Received, ReceivedAsks, Record, moment_in}
 use Rattle.nfs_machine.specs.State.{State}
 use Rattle.nfs_machine.specs.Step.{Step}
 use Rattle.nfs_machine.specs.declared.calls.Call.{Call}
@@ -80,6 +80,8 @@ abbrev pub AnswersArrival : Setting → Standing → Arrival → List ℕ → Li
 AnswersArrival setting old (FromHost received) answer records new =
     IsEarly old received answer records new ⊎ LacksMemory setting old received answer records new ⊎
     IsRepeated setting old received answer records new ⊎ IsExecuted setting old received answer records new
+-- no stream brings exports
+AnswersArrival setting old (NewExports exports moment) answer records new = ⊥
 
 -- The arrivals are answered one after the other, and the records are those of the executed ones.
 abbrev pub Serves : Setting → Standing → List Arrival → List ℕ → List Record → Standing → Type 0
@@ -89,20 +91,17 @@ Serves setting old (arrival ∷ arrivals) written records new =
     × (written ≡ answer ++ others) × (records ≡ first ++ later)
     × AnswersArrival setting old arrival answer first mid × Serves setting mid arrivals others later new
 
--- the moment of an arrival
-abbrev pub moment_of : Arrival → Moment
-moment_of (FromHost received) = received.moment
-
 -- the arrivals have the moments that a clock gives, one after the other
 abbrev pub Ticks : {Clock : Type 0}
     → (Clock → Moment → Clock → Type 0) → Clock → List Arrival → Clock → Type 0
 Ticks gives old [] new = new ≡ old
-Ticks gives old (arrival ∷ arrivals) new = (mid : _) × gives old (moment_of arrival) mid ×
+Ticks gives old (arrival ∷ arrivals) new = (mid : _) × gives old (moment_in arrival) mid ×
     Ticks gives mid arrivals new
 
 -- the arrival is a record of these bytes from this host
 abbrev pub IsFrom : (host bytes : List ℕ) → Arrival → Type 0
 IsFrom host bytes (FromHost received) = (received.host ≡ host) × (received.bytes ≡ bytes)
+IsFrom host bytes (NewExports exports moment) = ⊥
 
 -- these records came from this host
 abbrev pub AreFrom : List ℕ → List (List ℕ) → List Arrival → Type 0

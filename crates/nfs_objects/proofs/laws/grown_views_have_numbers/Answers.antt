@@ -1,0 +1,5 @@
+use Rattle.nfs_objects.proofs.Numbers.{grown-have-numbers}
+use Rattle.nfs_objects.proofs.laws.grown_views_have_numbers.Goals as goal
+
+pub returns : goal.returns
+returns c = grown-have-numbers
