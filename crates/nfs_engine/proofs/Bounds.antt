@@ -1,100 +1,36 @@
 -- What a server is started with, and what its calls mount, is within the bounds of MOUNT; and so its replies have a
 -- form, which one fragment holds.
-use Rattle.std.proofs.Common.{◌≡◌, ℕ, ◌+◌, ◌*◌, ◌≤◌, Bool, true, false, cond, not, ◌&&◌, nat_le, nat_lt, List, []}
-use Rattle.std.proofs.Common.{◌∷◌, ◌++◌, length, map, Option, Some, None, refl, sym, subst, arith}
-use Rattle.std.proofs.lemmas.Bool.{and_parts, leb-true}
+use Rattle.std.proofs.Common.{ℕ, ◌+◌, ◌*◌, ◌≤◌, true, false, cond, List, [], ◌∷◌, length, sym, subst, arith}
 use Rattle.std.proofs.lemmas.List.Sums.{sum_by-cons}
-use Rattle.std.specs.List.{AllByRecursion, list_all, list_any, sum_by}
-use Rattle.std.specs.Option.{option_or}
-use Rattle.side_wire.specs.Mount.{IsDirpath, IsHostName}
+use Rattle.std.specs.List.{AllByRecursion, list_any, sum_by}
 use Rattle.side_wire.specs.declared.message.Message.{Message}
-use Rattle.side_wire.specs.declared.mount.MountCall.{MountCall}
 use Rattle.side_wire.specs.declared.mount.MountCall.TheVariants as mount
+use Rattle.side_wire.specs.declared.mount.MountCall.{MountCall}
 use Rattle.side_wire.specs.declared.mount.MountReply.{MountReply}
-use Rattle.nfs_machine.proofs.Bounds.{locks_stay_fit, mounts_stay_fit, opening_fits}
-use Rattle.nfs_machine.proofs.Kept.{steps_keep_exports}
-use Rattle.nfs_machine.proofs.MountSizes.{mount_replies_bounded}
-use Rattle.nfs_machine.proofs.SideReplies.{mount_replies_form}
 use Rattle.nfs_machine.specs.Bytes.{same_bytes}
-use Rattle.nfs_machine.specs.ExportFaults.{AreFaultless, are_export_hosts, export_of, fault_of, first_fault}
-use Rattle.nfs_machine.specs.ExportFaults.{has_length, is_export_mode, is_export_path}
+use Rattle.nfs_machine.specs.ExportFaults.{AreFaultless}
 use Rattle.nfs_machine.specs.Exports.{ExportValue, LivingExport, every_host, numbered_exports}
 use Rattle.nfs_machine.specs.MountLaws.{exported_bytes, most_bytes}
 use Rattle.nfs_machine.specs.MountSteps.{MountStep, listed_exports}
 use Rattle.nfs_machine.specs.Opening.{opening}
-use Rattle.nfs_machine.specs.Paths.{begins_with_slash}
 use Rattle.nfs_machine.specs.SideLaws.{AskedFits, ExportsFit}
 use Rattle.nfs_machine.specs.State.{State}
 use Rattle.nfs_machine.specs.Step.{Step}
 use Rattle.nfs_machine.specs.WellFormed.{WellFormed}
 use Rattle.nfs_machine.specs.declared.calls.Call.{Call}
-use Rattle.nfs_machine.specs.declared.calls.Reply.{Reply}
 use Rattle.nfs_machine.specs.declared.calls.Reply.TheVariants as replies
+use Rattle.nfs_machine.specs.declared.calls.Reply.{Reply}
 use Rattle.nfs_machine.specs.declared.context.Ctx.{Ctx}
-use Rattle.nfs_machine.specs.declared.exports.ExportError.TheVariants.{BadPath, BadMode, NoHost, DoublePath, TooMany}
-use Rattle.nfs_machine.specs.declared.exports.ExportText.{ExportText}
 use Rattle.nfs_machine.specs.declared.moment.Moment.{Moment}
-use Rattle.nfs_engine.specs.Forms.{HasForm}
+use Rattle.nfs_machine.proofs.Bounded.{HasBounds, faultless-bound}
+use Rattle.nfs_machine.proofs.Bounds.{locks_stay_fit, mounts_stay_fit, opening_fits}
+use Rattle.nfs_machine.proofs.Kept.{steps_keep_within}
+use Rattle.nfs_machine.proofs.MountSizes.{mount_replies_bounded}
+use Rattle.nfs_machine.proofs.SideReplies.{mount_replies_form}
 use Rattle.nfs_engine.specs.Bounds.{IsWithinBounds}
+use Rattle.nfs_engine.specs.Forms.{HasForm}
 
 -- ---- exports without fault
-abbrev HasBounds : ExportValue → Type 0
-HasBounds e = IsDirpath e.path × AllByRecursion IsHostName e.hosts × (length e.hosts ≤ 1024)
-
-names-bound : (hosts : List (List ℕ)) → list_all (has_length 255) hosts ≡ true → AllByRecursion IsHostName hosts
-names-bound [] all = tt
-names-bound (host ∷ hosts) all =
-    let both = and_parts (has_length 255 host) (list_all (has_length 255) hosts) all in
-    let fits = and_parts (nat_le 1 (length host)) (nat_le (length host) 255) both.0 in
-    (leb-true (length host) 255 fits.1, names-bound hosts both.1)
-
-text-bound : (earlier : List ExportText) (text : ExportText) → fault_of earlier text ≡ None →
-    HasBounds (export_of text)
-text-bound earlier text none =
-    judged (is_export_path text.path) (is_export_mode text.mode) (are_export_hosts text.hosts.items) refl refl none
-  where
-    judged : (a b c : Bool) → is_export_path text.path ≡ a → are_export_hosts text.hosts.items ≡ c
-        → cond (not a) (Some (BadPath (length earlier + 1)))
-        (cond (not b) (Some (BadMode (length earlier + 1)))
-        (cond (not c) (Some (NoHost (length earlier + 1)))
-        (cond (list_any (λ (e : ExportText). same_bytes e.path text.path) earlier)
-        (Some (DoublePath (length earlier + 1))) None)))
-        ≡ None → HasBounds (export_of text)
-    judged false b c path hosts is = cc
-    judged true false c path hosts is = cc
-    judged true true false path hosts is = cc
-    judged true true true path hosts is =
-        let count = length text.hosts.items in
-        let begins = and_parts (nat_le (length text.path) 1024 && begins_with_slash text.path) _ path in
-        let long = and_parts (nat_le (length text.path) 1024) (begins_with_slash text.path) begins.0 in
-        let named =
-        and_parts (nat_le 1 count && nat_le count 1024) (list_all (has_length 255) text.hosts.items) hosts in
-        let few = and_parts (nat_le 1 count) (nat_le count 1024) named.0 in (
-          leb-true (length text.path) 1024 long.0,
-          names-bound text.hosts.items named.1,
-          leb-true count 1024 few.1,
-        )
-
-both-none : {A : Type 0} (a b : Option A) → option_or a b ≡ None → (a ≡ None) × (b ≡ None)
-both-none None b none = (refl, none)
-both-none (Some x) b none = cc
-
-texts-bound : (earlier list : List ExportText) → first_fault earlier list ≡ None →
-    AllByRecursion HasBounds (map export_of list)
-texts-bound earlier [] none = tt
-texts-bound earlier (text ∷ list) none =
-    let both = both-none (fault_of earlier text) (first_fault (earlier ++ text ∷ []) list) none in
-    (text-bound earlier text both.0, texts-bound (earlier ++ text ∷ []) list both.1)
-
-faultless-bound : (es : List ExportValue) → AreFaultless es → AllByRecursion HasBounds es
-faultless-bound es (list, none, is) =
-    subst (AllByRecursion HasBounds) (sym is)
-    (elim (nat_lt 64 (length list)) as
-    (λ b. cond b (Some TooMany) (first_fault [] list) ≡ None → AllByRecursion HasBounds (map export_of list)) [
-      | true ↦ λ many. cc
-      | false ↦ λ few. texts-bound [] list few
-    ] none)
-
 abbrev FewHosts : List LivingExport → Type 0
 FewHosts exports = AllByRecursion (λ (e : LivingExport). length e.hosts ≤ 1024) exports
 
@@ -115,12 +51,12 @@ opening-within es moment faultless =
 pub step-within : (old : State) (ctx : Ctx) (call : Call) (reply : Reply) (messages : List Message) (new : State) →
     Step old ctx call reply messages new → AskedFits ctx call → IsWithinBounds old → IsWithinBounds new
 step-within old ctx call reply messages new step asked within =
-    let keeps = steps_keep_exports old ctx call reply messages new step in
+    let listed = steps_keep_within old ctx call reply messages new step (within.exports, within.hosts) in
     record {
       mounts = mounts_stay_fit old ctx call reply messages new step asked within.mounts;
       locks = locks_stay_fit old ctx call reply messages new step asked within.locks;
-      exports = subst ExportsFit (sym keeps.exports) within.exports;
-      hosts = subst FewHosts (sym keeps.exports) within.hosts;
+      exports = listed.0;
+      hosts = listed.1;
     }
 
 -- ---- replies

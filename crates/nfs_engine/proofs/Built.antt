@@ -38,6 +38,7 @@ of-built program procedure bytes (calls.Mount call) (of, number, spelled) built 
     subst (λ (n : ℕ). is_built programs.Mount n ≡ true) (sym number) (subst (λ (p : Program). is_built p procedure ≡ true) of built)
 of-built program procedure bytes (calls.Nlm call) (of, number, spelled) built =
     subst (λ (n : ℕ). is_built programs.Nlm n ≡ true) (sym number) (subst (λ (p : Program). is_built p procedure ≡ true) of built)
+of-built program procedure bytes (calls.Replace exports) is built = absurd is
 
 pub asked-built : (bytes : List ℕ) (asked : Asked) → IsAsked bytes asked → IsBuilt asked.call
 asked-built bytes asked is =

@@ -27,7 +27,7 @@ use Rattle.nfs_machine.specs.declared.calls.Reply.TheVariants as replies
 use Rattle.nfs_machine.specs.declared.context.Ctx.{Ctx}
 use Rattle.nfs_engine.proofs.Bounds.{mount-form}
 use Rattle.nfs_engine.proofs.NlmSizes.{nlm-size}
-use Rattle.nfs_engine.proofs.Quiet.{mount-quiet, nfs-quiet}
+use Rattle.nfs_engine.proofs.Quiet.{mount-quiet, nfs-quiet, replace-quiet}
 use Rattle.nfs_engine.proofs.Sizes.{mount_refused_size}
 use Rattle.nfs_engine.specs.Asked.{IsAsked}
 use Rattle.nfs_engine.specs.Bounds.{IsWithinBounds}
@@ -44,23 +44,20 @@ pub within-asked : (ctx : Ctx) (call : Call) → AskedFits ctx call → IsWithin
 within-asked ctx (calls.Nfs call) fits = tt
 within-asked ctx (calls.Mount call) fits = tt
 within-asked ctx (calls.Nlm call) fits = fits
+within-asked ctx (calls.Replace exports) fits = tt
 
 pub step_form : (old : State) (ctx : Ctx) (call : Call) (reply : Reply) (messages : List Message) (new : State) →
     IsWithin call → IsWithinBounds old → WellFormed old → Step old ctx call reply messages new → HasForm reply
 step_form old ctx (calls.Nfs call) (replies.Nfs reply) messages new fits within formed step =
     replies_short old ctx call reply messages new formed step
-step_form old ctx (calls.Nfs call) (replies.Mount reply) messages new fits within formed step = absurd step
-step_form old ctx (calls.Nfs call) (replies.Nlm reply) messages new fits within formed step = absurd step
-step_form old ctx (calls.Mount call) (replies.Nfs reply) messages new fits within formed step = absurd step
 step_form old ctx (calls.Mount call) (replies.Mount reply) messages new fits within formed step =
     mount-form old ctx call reply messages new within formed step
-step_form old ctx (calls.Mount call) (replies.Nlm reply) messages new fits within formed step = absurd step
-step_form old ctx (calls.Nlm call) (replies.Nfs reply) messages new fits within formed step = absurd step
-step_form old ctx (calls.Nlm call) (replies.Mount reply) messages new fits within formed step = absurd step
 step_form old ctx (calls.Nlm call) (replies.Nlm reply) messages new fits within formed step =
     let form : HasNlmForm reply =
     nlm_replies_form old ctx call reply messages new (λ file. (within.locks file).0) fits step in
     (form, nlm-size reply form)
+step_form old ctx (calls.Replace exports) replies.Replaced messages new fits within formed step = tt
+step_form old ctx call reply messages new fits within formed step = absurd step
 
 -- the messages that a step puts can be spelled: those of NLM by its law, and the others put none
 pub step_messages : NlmMessagesHaveForm → (old : State) (ctx : Ctx) (call : Call) (reply : Reply)
@@ -68,16 +65,13 @@ pub step_messages : NlmMessagesHaveForm → (old : State) (ctx : Ctx) (call : Ca
     Step old ctx call reply messages new → HaveForms messages
 step_messages law old ctx (calls.Nfs call) (replies.Nfs reply) messages new fits within step =
     subst HaveForms (sym (nfs-quiet old ctx call reply messages new step)) tt
-step_messages law old ctx (calls.Nfs call) (replies.Mount reply) messages new fits within step = absurd step
-step_messages law old ctx (calls.Nfs call) (replies.Nlm reply) messages new fits within step = absurd step
-step_messages law old ctx (calls.Mount call) (replies.Nfs reply) messages new fits within step = absurd step
 step_messages law old ctx (calls.Mount call) (replies.Mount reply) messages new fits within step =
     subst HaveForms (sym (mount-quiet old ctx call reply messages new step)) tt
-step_messages law old ctx (calls.Mount call) (replies.Nlm reply) messages new fits within step = absurd step
-step_messages law old ctx (calls.Nlm call) (replies.Nfs reply) messages new fits within step = absurd step
-step_messages law old ctx (calls.Nlm call) (replies.Mount reply) messages new fits within step = absurd step
 step_messages law old ctx (calls.Nlm call) (replies.Nlm reply) messages new fits within step =
     (law old ctx call reply messages new within.locks fits step).0
+step_messages law old ctx (calls.Replace exports) replies.Replaced messages new fits within step =
+    subst HaveForms (sym (replace-quiet old ctx exports messages new step)) tt
+step_messages law old ctx call reply messages new fits within step = absurd step
 
 by_status : (call : NfsCall) (r : Option NfsReply) → nfs_refusal call ≡ r → RefusalHasForm (elim r [ None ↦ refusals.SystemError | Some reply ↦ refusals.Reply (replies.Nfs reply) ])
 by_status call None is = tt
@@ -118,6 +112,7 @@ refusal_form (calls.Nfs call) fits = by_status call (nfs_refusal call) refl
 refusal_form (calls.Mount (mount.Mnt path)) fits = (tt, omega (arith, mount_refused_size mount_status.ServerFault))
 refusal_form (calls.Mount call) fits = tt
 refusal_form (calls.Nlm call) fits = by_reply (nlm_refusal call) (by_cookie call fits)
+refusal_form (calls.Replace exports) fits = tt
 
 -- what a record asks is within its bounds, whoever sent it
 asked-within : (bytes : List ℕ) (asked : Asked) → IsAsked bytes asked → IsWithin asked.call

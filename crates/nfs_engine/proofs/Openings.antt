@@ -37,7 +37,7 @@ use Rattle.nfs_objects.specs.Bits.{has, no_bits}
 use Rattle.nfs_objects.specs.FileMaps.{FileMapValue}
 use Rattle.nfs_objects.specs.Stands.{Beside, HoldsEntries, IsMapped, IsStored, StandDirectories, StandFiles, bytes_at}
 use Rattle.nfs_objects.specs.Stands.{directory_entries, entry_map_of, file_of, living_in, living_of_inode, map_in, map_of}
-use Rattle.nfs_objects.specs.Stands.{mounts_of, parent_kept}
+use Rattle.nfs_objects.specs.Stands.{lives_in, mounts_of, parent_kept}
 use Rattle.nfs_objects.specs.Store.{Store, with_write, with_writes}
 use Rattle.nfs_objects.specs.Sums.{group_of, no_usage, one_using, stored_usage, usage_in}
 use Rattle.nfs_objects.specs.declared.address.Addr.{Addr}
@@ -393,6 +393,13 @@ module _ (es : List ExportValue) (moment : Moment) where
       let o = only n i is in
       subst (IsFitting n) o.2 (omega (arith, o.1, few), omega arith)
 
+  -- and is of an export that is numbered
+  numbered : (n : ℕ) (i : Stored) → store.at (Inode n) ≡ Some (objects.Inode i) →
+      (lives_in (opening_exports es) i.export ≡ true) ⊎ (i.export ≤ length es)
+  numbered n i is =
+      let o = only n i is in
+      inr (subst (λ (j : Stored). j.export ≤ length es) o.2 o.1)
+
   abbrev kept : Kept
   kept = record {
     state = opening es moment;
@@ -492,6 +499,7 @@ module _ (es : List ExportValue) (moment : Moment) where
         given = given;
         fits = fitting (opened-apart es faultless).0;
         spent = λ n g. ap (nat_le g) (lasts n);
+        numbered = numbered;
       };
       files = files;
       directories = directories;

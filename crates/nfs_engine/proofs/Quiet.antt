@@ -1,4 +1,4 @@
--- Calls of NFS and of MOUNT put no message.
+-- Calls of NFS and of MOUNT put no message, and what replaces the exports puts none.
 use Rattle.std.proofs.Common.{◌≡◌, List, []}
 use Rattle.side_wire.specs.declared.message.Message.{Message}
 use Rattle.side_wire.specs.declared.mount.MountCall.{MountCall}
@@ -7,8 +7,10 @@ use Rattle.side_wire.specs.declared.mount.MountReply.{MountReply}
 use Rattle.nfs_wire.specs.declared.calls.NfsCall.{NfsCall}
 use Rattle.nfs_wire.specs.declared.calls.NfsCall.TheVariants as nfs
 use Rattle.nfs_wire.specs.declared.replies.NfsReply.{NfsReply}
+use Rattle.nfs_machine.specs.Exports.{ExportValue}
 use Rattle.nfs_machine.specs.MountSteps.{MountStep}
 use Rattle.nfs_machine.specs.NfsSteps.{NfsStep}
+use Rattle.nfs_machine.specs.Replacing.{ReplaceStep}
 use Rattle.nfs_machine.specs.State.{State}
 use Rattle.nfs_machine.specs.declared.context.Ctx.{Ctx}
 
@@ -47,3 +49,8 @@ mount-quiet old ctx mount.Dump reply messages new step = step.no_message
 mount-quiet old ctx (mount.Unmount path) reply messages new step = step.no_message
 mount-quiet old ctx mount.UnmountAll reply messages new step = step.no_message
 mount-quiet old ctx mount.Export reply messages new step = step.no_message
+
+pub replace-quiet : (old : State) (ctx : Ctx) (exports : List ExportValue) (messages : List Message) (new : State) →
+    ReplaceStep old ctx exports messages new → messages ≡ []
+unfolding ReplaceStep
+replace-quiet old ctx exports messages new (faultless, none, step) = none

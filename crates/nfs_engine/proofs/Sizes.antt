@@ -22,6 +22,7 @@ pub results_size : (reply : Reply) → HasForm reply → length (results_of repl
 results_size (replies.Nfs reply) form = omega (arith, form.short)
 results_size (replies.Mount reply) form = form.1
 results_size (replies.Nlm reply) form = omega (arith, form.1)
+results_size replies.Replaced form = omega arith
 
 pub answer_size : (start header whole : List ℕ) (xid : ℕ) (reply : Reply) → HasForm reply → start ≡ to_be_bytes w32 0 → header ≡ start ++ reply_of xid Success → whole ≡ header ++ results_of reply
     → length whole < 2147483652

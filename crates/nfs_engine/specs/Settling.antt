@@ -18,6 +18,10 @@ AreHeldIn s which writes = AllByRecursion (λ w. shard_of w.0 ≡ which → IsHe
 abbrev pub HoldsWritten : ShardValue → (id : ℕ) → Addr × Option Object → Type 0
 HoldsWritten s id w = shard_of w.0 ≡ s.index → IsSome (hold_at s w.0 id)
 
+-- if this write is in the shard and puts an object, it puts it where something stands
+abbrev pub ReplacesWritten : ShardValue → Addr × Option Object → Type 0
+ReplacesWritten s w = shard_of w.0 ≡ s.index → IsSome w.1 → IsSome (slot_at s w.0).object
+
 -- a write whose object is put already, if it is in the shard of this index
 abbrev pub spent_in : (which : ℕ) → Addr × Option Object → Addr × Option Object
 spent_in which w = (w.0, if shard_of w.0 == which then None else w.1)

@@ -1,6 +1,8 @@
 //! The bytes of answers, each one fragment.
 
-ghost use Rattle.std.specs.Prelude.{◌≡◌, ◌≢◌, ◌++◌, IfOk, IfSome, OnErr, OnOk};
+ghost use Rattle.std.specs.Prelude.{◌≡◌, ◌≢◌, ◌++◌, IfOk, IfSome, OnErr, OnOk, true};
+ghost use Rattle.nfs_rpc.specs.Messages.{reply_of};
+ghost use Rattle.nfs_rpc.specs.Records.{fragment};
 ghost use Rattle.nfs_engine.specs.Forms.{HasForm, RefusalHasForm};
 ghost use Rattle.nfs_engine.specs.Answers.{answer_of, fault_answer};
 ghost use Rattle.nfs_wire.specs.Replies.{HasNfsForm};
@@ -28,7 +30,7 @@ const ATTRIBUTES: usize = NOTHING + 4 + 84;
 /// The most bytes of a reply that are spelled before its call is committed.
 const MAX_LENGTH: usize = 1 << 30;
 
-/// The bytes of the reply to a call that was executed: its results.
+/// The bytes of the reply to a call that was executed: its results; none where nobody is answered.
 ///
 /// # Errors
 ///
@@ -37,12 +39,18 @@ pub fn success(alloc: Global, xid: u32, reply: &Reply) -> Result<Vec<u8>, AllocE
     requires { HasForm reply.now }
     ensures { IfOk result (λ bytes. bytes.items ≡ success_message xid reply.now) }
 {
-    write_success(alloc, xid, reply).map_err(|_| AllocError)
+    match reply {
+        Reply::Nfs(_) | Reply::Mount(_) | Reply::Nlm(_) => {
+            write_success(alloc, xid, reply).map_err(|_| AllocError)
+        }
+        Reply::Replaced => Ok(Vec::new(alloc)),
+    }
 }
 
+/// A reply with SUCCESS, and the results behind it.
 fn write_success(alloc: Global, xid: u32, reply: &Reply) -> Result<Vec<u8>, XdrError>
     requires { HasForm reply.now }
-    ensures { IfOk result (λ bytes. bytes.items ≡ success_message xid reply.now) }
+    ensures { IfOk result (λ bytes. bytes.items ≡ fragment true (reply_of xid Answer.Success ++ results_of reply.now)) }
 {
     let mut writer = start_record(alloc, CAPACITY)?;
     write_reply(&mut writer, xid, Answer::Success)?;
@@ -51,7 +59,7 @@ fn write_success(alloc: Global, xid: u32, reply: &Reply) -> Result<Vec<u8>, XdrE
 }
 
 /// The bytes of the reply to a call, where its form is seen in the reply alone: one of NFS or NLM whose parts are
-/// within their bounds. None for any other.
+/// within their bounds, or none that is sent. None for any other.
 ///
 /// # Errors
 ///
@@ -67,6 +75,7 @@ pub(crate) fn spell(alloc: Global, xid: u32, reply: &Reply) -> Result<Option<Vec
             spell_nfs(alloc, xid, nfs).map_err(|_| AllocError)
         }
         Reply::Mount(_) => Ok(None),
+        Reply::Replaced => Ok(Some(Vec::new(alloc))),
         Reply::Nlm(nlm) => {
             if !nlm_is_formed(nlm) {
                 return Ok(None);
@@ -159,6 +168,7 @@ pub fn refuse(alloc: Global, xid: u32, refusal: &Refusal) -> Result<Vec<u8>, All
     match refusal {
         Refusal::Reply(reply) => success(alloc, xid, reply),
         Refusal::SystemError => failure(alloc, xid, Fault::SystemError),
+        Refusal::Silent => Ok(Vec::new(alloc)),
     }
 }
 
@@ -171,5 +181,6 @@ fn write_results(writer: &mut Writer, reply: &Reply) -> Result<(), XdrError>
         Reply::Nfs(reply) => nfs_wire::write_result(writer, reply),
         Reply::Mount(reply) => mount::write_result(writer, reply),
         Reply::Nlm(reply) => nlm::write_result(writer, reply),
+        Reply::Replaced => Ok(()),
     }
 }

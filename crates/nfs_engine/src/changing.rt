@@ -16,6 +16,7 @@ pub fn is_changing(call: &Call) -> bool
         Call::Nfs(_) => Modes::of(call).inodes == Mode::Exclusive,
         Call::Mount(_) => Modes::of(call).mounts == Mode::Exclusive,
         Call::Nlm(call) => is_changing_nlm(call),
+        Call::Replace(_) => false,
     }
 }
 

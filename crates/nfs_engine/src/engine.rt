@@ -182,6 +182,9 @@ impl Engine {
         // They bring the promise, and that no reply is kept for a call in progress.
         finished.is_finished();
         self.book.run();
+        if make_room(&mut self.shards, &finished).is_err() {
+            return Err(finished);
+        }
         let Committed {
             receipt,
             release,
@@ -363,6 +366,23 @@ fn written_shards(writes: &[Write]) -> [bool; SHARDS]
         written[shard_index(write.address)] = true;
     }
     written
+}
+
+/// Makes room in each shard to which a call adds an address.
+///
+/// # Errors
+///
+/// There is no memory for it. Nothing is changed.
+fn make_room(shards: &mut [Shard; SHARDS], finished: &Finished) -> Result<(), AllocError>
+    ensures { shards.new ≡ shards.old }
+{
+    let written = written_shards(&finished.writes);
+    for index in 0..SHARDS {
+        if written[index] {
+            finished.make_room_in(&mut shards[index])?;
+        }
+    }
+    Ok(())
 }
 
 /// Makes writes in the shards, each at an address that somebody holds, and lets go all that a call has read in those

@@ -1,17 +1,18 @@
 //! What a call that was executed leaves in a shard: its writes are made, and what it has read there is let go.
 
-ghost use Rattle.std.specs.Prelude.{◌≡◌, map};
+ghost use Rattle.std.specs.Prelude.{◌≡◌, OnErr, map};
 ghost use Rattle.std.specs.Bool.{Decides};
 ghost use Rattle.std.specs.List.{AllByRecursion};
 ghost use Rattle.nfs_objects.specs.Values.{write_value};
 ghost use Rattle.nfs_engine.specs.Engine.{freed_more};
-ghost use Rattle.nfs_engine.specs.Settling.{AreHeldIn, HoldsWritten, Makes, Settles, spent_in};
+ghost use Rattle.nfs_engine.specs.Settling.{AreHeldIn, HoldsWritten, Makes, ReplacesWritten, Settles, spent_in};
 
 use crate::calls::Finished;
 use crate::journal::Committed;
 use crate::shard::{Shard, shard_index};
 use crate::taking::let_go;
 use nfs_objects::{View, Write};
+use std::alloc::AllocError;
 
 impl Finished {
     /// Whether the call holds, in this shard, all that it is to write there.
@@ -19,6 +20,29 @@ impl Finished {
         ensures { Decides result (AllByRecursion (HoldsWritten shard.now self.now.id) self.now.done.change.writes) }
     {
         hold_written(shard, self.id, &self.writes)
+    }
+
+    /// Makes room in this shard, where the call adds an address to it: so calls that take away find room there when
+    /// memory is full.
+    ///
+    /// # Errors
+    ///
+    /// The call adds an address, and there is no memory for the room. Nothing is changed.
+    pub fn make_room_in(&self, shard: &mut Shard) -> Result<(), AllocError>
+        ensures same { shard.new ≡ shard.old }
+        ensures err { OnErr result (AllByRecursion (ReplacesWritten shard.old) self.now.done.change.writes → ⊥) }
+    {
+        if self.replaces_written(shard) {
+            return Ok(());
+        }
+        shard.make_room()
+    }
+
+    /// Whether something stands wherever the call puts an object, in this shard.
+    fn replaces_written(&self, shard: &Shard) -> bool
+        ensures { Decides result (AllByRecursion (ReplacesWritten shard.now) self.now.done.change.writes) }
+    {
+        replace_written(shard, &self.writes)
     }
 }
 
@@ -92,6 +116,28 @@ fn hold_written(shard: &Shard, id: u64, writes: &[Write]) -> bool
         }
     }
     true
+}
+
+/// Whether something stands wherever one of these writes puts an object, in this shard.
+fn replace_written(shard: &Shard, writes: &[Write]) -> bool
+    ensures { Decides result (AllByRecursion (λ w. ReplacesWritten shard.now (write_value w)) writes.now) }
+{
+    for write in writes {
+        if !replaces_one(shard, write) {
+            return false;
+        }
+    }
+    true
+}
+
+/// Whether something stands where this write puts an object, if that is in this shard.
+fn replaces_one(shard: &Shard, write: &Write) -> bool
+    ensures { Decides result (ReplacesWritten shard.now (write_value write.now)) }
+{
+    if write.object.is_none() || shard_index(write.address) != shard.index() {
+        return true;
+    }
+    shard.stands_at(write.address)
 }
 
 /// Whether the call with this number holds this write's address, if it is in this shard.

@@ -26,6 +26,9 @@ use thiserror::Error;
 /// How many shards there are.
 pub const SHARDS: usize = 16;
 
+/// A shard's map has so many free slots more than it has others, once a commit has added to it.
+const FREE_SLOTS: usize = 8;
+
 /// The generation that a shard gives first. Those of the roots, 1, lie below it.
 const FIRST_GENERATION: u64 = 2;
 
@@ -320,6 +323,36 @@ impl Shard {
             return;
         };
         slot.object = object;
+    }
+
+    /// Whether something stands at an address.
+    pub(crate) fn stands_at(&self, address: Addr) -> bool
+        ensures { Decides result (IsSome (slot_at self.now address).object) }
+    {
+        if let Some(key) = self.key_of(address) {
+            return self.numbers[key].is_filled();
+        }
+        match self.others.get(&address) {
+            Some(slot) => slot.is_filled(),
+            None => false,
+        }
+    }
+
+    /// Makes room in the map until half of it is free. Then an address where nothing stands is held without memory,
+    /// since such a map does not grow: it counts anew the places that were left.
+    ///
+    /// # Errors
+    ///
+    /// There is no memory for it. Nothing is changed.
+    pub(crate) fn make_room(&mut self) -> Result<(), AllocError>
+        ensures { self.new ≡ self.old }
+    {
+        let used = self.others.len();
+        let wanted = used.saturating_add(FREE_SLOTS);
+        if self.others.capacity() - used < wanted {
+            self.others.reserve(wanted)?;
+        }
+        Ok(())
     }
 
     /// How many addresses are held; 2^64 - 1 where there are more.

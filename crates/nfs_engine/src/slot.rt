@@ -1,6 +1,6 @@
 //! What stands at an address, and who holds it.
 
-ghost use Rattle.std.specs.Prelude.{◌≡◌, ◌-◌, ◌^◌, count_by, min};
+ghost use Rattle.std.specs.Prelude.{◌≡◌, ◌-◌, ◌^◌, IsSome, count_by, min};
 ghost use Rattle.std.specs.Bool.{Decides};
 ghost use Rattle.std.specs.List.{IsDistinct};
 ghost use Rattle.indexmap.specs.IndexMap.{keys};
@@ -30,6 +30,13 @@ impl Slot {
         ensures { Decides result (slot_value self.now ≡ empty_slot) }
     {
         self.object.is_none() && self.holders.is_nobody()
+    }
+
+    /// Whether something stands there.
+    pub(crate) fn is_filled(&self) -> bool
+        ensures { Decides result (IsSome (slot_value self.now).object) }
+    {
+        self.object.is_some()
     }
 
     /// Takes the address for a holder. Taken and errors change nothing; an error comes only where nobody excludes.

@@ -58,6 +58,12 @@ impl<L: Ledger> Pool<L> {
                 reason: Reason::Stale,
             });
         }
+        if finished.make_room_in(shard).is_err() {
+            return Err(Uncommitted {
+                finished,
+                reason: Reason::Memory,
+            });
+        }
         match self.commit_from(rt, alloc, mine, last, finished, written, index + 1) {
             Ok(committed) => {
                 let committed = committed.settle_in(shard);

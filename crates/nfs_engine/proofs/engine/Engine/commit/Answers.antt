@@ -19,11 +19,11 @@ commit-requires c = may_commit (record { book = c.self.inside.book; shards = c.s
 
 pub settle_all-requires-clause-held : goal.settle_all-requires-clause-held
 settle_all-requires-clause-held c =
-    subst (λ (ws : List (Addr × Option Object)). AllByRecursion (λ (w : Addr × Option Object).
+    rw c.make_room.ensures (subst (λ (ws : List (Addr × Option Object)). AllByRecursion (λ (w : Addr × Option Object).
     IsHeldAmong c.self.inside.shards w.0) ws)
     (sym (ap (map write_value) c.deref_mut.ensures.value ∙ c.in-Ok.ensures.leaves.writes))
     (held_to_write c.self.inside.book c.self.inside.shards c.args.finished
-    (rw (← c.self.view_is) at c.requires) c.is_finished.ensures.promised)
+    (rw (← c.self.view_is) at c.requires) c.is_finished.ensures.promised))
 
 pub invariant_of-self-2 : goal.invariant_of-self-2
 invariant_of-self-2 c = settled_tied c.self.inside.book c.commit.new.self c.self.inside.shards c.settle_all.new.shards c.args.finished (record {
@@ -32,7 +32,7 @@ invariant_of-self-2 c = settled_tied c.self.inside.book c.commit.new.self c.self
   done = c.written_shards-written.result;
   after = c.release.inside.after;
 }) c.self.invariant (rw (← c.self.view_is) at c.requires) c.is_finished.ensures.promised c.run.ensures.run
-    c.in-Ok.ensures.commits (map write_value c.deref_mut.result.now) c.settle_all.ensures
+    c.in-Ok.ensures.commits (map write_value c.deref_mut.result.now) (rw c.make_room.ensures at c.settle_all.ensures)
     (ap (map write_value) c.deref_mut.ensures.value ∙ c.in-Ok.ensures.leaves.writes) (ap (λ (r : ReleaseValue). r.id) (c.release.view_is ∙ c.in-Ok.ensures.leaves.release))
     (ap (λ (r : ReleaseValue). r.view) (c.release.view_is ∙ c.in-Ok.ensures.leaves.release))
     (ap (λ (r : ReleaseValue). r.after) (c.release.view_is ∙ c.in-Ok.ensures.leaves.release))
@@ -51,7 +51,7 @@ returns-clause-others c = rw (← c.self.view_is) (settled_others c.self.inside.
       done = c.written_shards-written.result;
       after = c.release.inside.after;
     }) c.self.invariant (rw (← c.self.view_is) at c.requires) c.is_finished.ensures.promised c.run.ensures.run
-    c.in-Ok.ensures.commits (map write_value c.deref_mut.result.now) c.settle_all.ensures
+    c.in-Ok.ensures.commits (map write_value c.deref_mut.result.now) (rw c.make_room.ensures at c.settle_all.ensures)
     (ap (map write_value) c.deref_mut.ensures.value ∙ c.in-Ok.ensures.leaves.writes) (ap (λ (r : ReleaseValue). r.id) (c.release.view_is ∙ c.in-Ok.ensures.leaves.release))
     (ap (λ (r : ReleaseValue). r.view) (c.release.view_is ∙ c.in-Ok.ensures.leaves.release))
     (ap (λ (r : ReleaseValue). r.after) (c.release.view_is ∙ c.in-Ok.ensures.leaves.release)))
@@ -64,7 +64,7 @@ returns-clause-counters c = rw (← c.self.view_is) (settled_counters c.self.ins
       done = c.written_shards-written.result;
       after = c.release.inside.after;
     }) c.self.invariant (rw (← c.self.view_is) at c.requires) c.is_finished.ensures.promised c.run.ensures.run
-    c.in-Ok.ensures.commits (map write_value c.deref_mut.result.now) c.settle_all.ensures
+    c.in-Ok.ensures.commits (map write_value c.deref_mut.result.now) (rw c.make_room.ensures at c.settle_all.ensures)
     (ap (map write_value) c.deref_mut.ensures.value ∙ c.in-Ok.ensures.leaves.writes) (ap (λ (r : ReleaseValue). r.id) (c.release.view_is ∙ c.in-Ok.ensures.leaves.release))
     (ap (λ (r : ReleaseValue). r.view) (c.release.view_is ∙ c.in-Ok.ensures.leaves.release))
     (ap (λ (r : ReleaseValue). r.after) (c.release.view_is ∙ c.in-Ok.ensures.leaves.release)))
@@ -77,7 +77,7 @@ returns-clause-leaving c = settled_leaving c.self.inside.book c.commit.new.self 
       done = c.written_shards-written.result;
       after = c.release.inside.after;
     }) c.self.invariant (rw (← c.self.view_is) at c.requires) c.is_finished.ensures.promised c.run.ensures.run
-    c.in-Ok.ensures.commits (map write_value c.deref_mut.result.now) c.settle_all.ensures
+    c.in-Ok.ensures.commits (map write_value c.deref_mut.result.now) (rw c.make_room.ensures at c.settle_all.ensures)
     (ap (map write_value) c.deref_mut.ensures.value ∙ c.in-Ok.ensures.leaves.writes) (ap (λ (r : ReleaseValue). r.id) (c.release.view_is ∙ c.in-Ok.ensures.leaves.release))
     (ap (λ (r : ReleaseValue). r.view) (c.release.view_is ∙ c.in-Ok.ensures.leaves.release))
     (ap (λ (r : ReleaseValue). r.after) (c.release.view_is ∙ c.in-Ok.ensures.leaves.release))
