@@ -34,12 +34,14 @@ abbrev pub ComesTo : Received → (last before after : ℕ) → Passed → Type 
 ComesTo r last before after (passed.Executed receipt) = IsNext r last before after receipt
 ComesTo r last before after (passed.Again p) = (p.received ≡ r) × (after ≡ before)
 ComesTo r last before after (passed.Failed p) = (p.received ≡ r) × (after ≡ before)
+ComesTo r last before after (passed.Taken p a m) = (p.received ≡ r) × (after ≡ before)
 
 -- in progress still, as it came
 abbrev pub Retreats : Received → Passed → Type 0
 Retreats r (passed.Executed receipt) = ⊥
 Retreats r (passed.Again p) = p.received ≡ r
 Retreats r (passed.Failed p) = p.received ≡ r
+Retreats r (passed.Taken p a m) = p.received ≡ r
 
 -- all passes: it is executed, or given up
 abbrev pub EndsWith : Received → (last before after : ℕ) → Ended → Type 0

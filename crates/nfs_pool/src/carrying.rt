@@ -56,6 +56,8 @@ enum Passed {
     Again(Pending),
     /// There was no memory, or no number.
     Failed(Pending),
+    /// It begins anew when nobody holds this address in a mode that excludes this one.
+    Taken(Pending, Addr, Mode),
 }
 
 /// Brings a record that came in to its answer by these steps. The gate is called before each.
@@ -153,14 +155,56 @@ fn carry_out<L: Ledger, R: Wait, S: Steps<L>, G: Gate>(
     ensures ended { EndsWith txn.received means.now.last mine.old.amount mine.new.amount result }
 {
     let mut txn = txn;
+    let mut first = true;
+    let mut awaited = None;
     'passes: for _ in means.rt.forever() {
-        match pass(means, mine, txn) {
-            Passed::Executed(receipt) => return Ended::Executed(receipt),
-            Passed::Failed(pending) => return Ended::Refused(give_up(means, pending)),
+        match pass(means, mine, first, txn) {
+            Passed::Executed(receipt) => {
+                withdraw(means, awaited);
+                return Ended::Executed(receipt);
+            }
+            Passed::Failed(pending) => {
+                withdraw(means, awaited);
+                return Ended::Refused(give_up(means, pending));
+            }
             Passed::Again(pending) => txn = pending.again(means.alloc),
+            Passed::Taken(pending, address, mode) => {
+                awaited = wait_for(means, awaited, address, mode);
+                txn = pending.again(means.alloc);
+            }
         }
+        first = false;
     }
     unreachable!()
+}
+
+/// Waits for an address that was taken. Where it is wanted alone others give way there from then on; it is handed out,
+/// and takes the place of what was waited for so before.
+fn wait_for<L: Ledger, R: Wait, S: Steps<L>, G: Gate>(
+    means: &Means<R, S, G>,
+    before: Option<Addr>,
+    address: Addr,
+    mode: Mode,
+) -> Option<Addr> {
+    let awaited = match mode {
+        Mode::Shared => None,
+        Mode::Exclusive => Some(address),
+    };
+    if before != awaited {
+        withdraw(means, before);
+    }
+    means.steps.wait_for(means.rt, address, mode);
+    awaited
+}
+
+/// Nobody need give way any more to a call that waited for this address alone.
+fn withdraw<L: Ledger, R: Wait, S: Steps<L>, G: Gate>(
+    means: &Means<R, S, G>,
+    awaited: Option<Addr>,
+) {
+    if let Some(address) = awaited {
+        means.steps.withdraw(address);
+    }
 }
 
 /// Gives a call up.
@@ -174,10 +218,11 @@ fn give_up<L: Ledger, R: Wait, S: Steps<L>, G: Gate>(
     means.steps.give_up(means.rt, pending)
 }
 
-/// One pass of a call that has read nothing: to its commit, or until it has to let go.
+/// One pass of a call that has read nothing: to its commit, or until it has to let go. In its first it gives way.
 fn pass<L: Ledger, R: Wait, S: Steps<L>, G: Gate>(
     means: &Means<R, S, G>,
     mine: &mut Share<L>,
+    first: bool,
     txn: Txn,
 ) -> Passed
     requires part { mine.old.parts ≡ 1 }
@@ -187,7 +232,7 @@ fn pass<L: Ledger, R: Wait, S: Steps<L>, G: Gate>(
     ensures comes { ComesTo txn.received means.now.last mine.old.amount mine.new.amount result }
 {
     let mut txn = txn;
-    match run(means, &mut txn) {
+    match run(means, first, &mut txn) {
         Ok(change) => match txn.done(means.alloc, change) {
             Ok(finished) => commit(means, mine, finished),
             Err(txn) => retreat(means, txn, Reason::Memory),
@@ -219,7 +264,7 @@ fn commit<L: Ledger, R: Wait, S: Steps<L>, G: Gate>(
     }
 }
 
-/// Gives a pass up: lets go all that the call holds. Where an address was taken it waits for that.
+/// Gives a pass up: lets go all that the call holds.
 fn retreat<L: Ledger, R: Wait, S: Steps<L>, G: Gate>(
     means: &Means<R, S, G>,
     txn: Txn,
@@ -231,10 +276,7 @@ fn retreat<L: Ledger, R: Wait, S: Steps<L>, G: Gate>(
         Some(pending) => match reason {
             Reason::Memory => Passed::Failed(pending),
             Reason::Stale => Passed::Again(pending),
-            Reason::Taken(address, mode) => {
-                means.steps.wait_for(means.rt, address, mode);
-                Passed::Again(pending)
-            }
+            Reason::Taken(address, mode) => Passed::Taken(pending, address, mode),
         },
         None => unreachable!(),
     }
@@ -262,6 +304,7 @@ fn let_go<L: Ledger, R: Wait, S: Steps<L>, G: Gate>(
 /// Makes the steps of a call that has read nothing, on its course, until it is done.
 fn run<L: Ledger, R: Wait, S: Steps<L>, G: Gate>(
     means: &Means<R, S, G>,
+    first: bool,
     txn: &mut Txn,
 ) -> Result<Change, Reason>
     requires shard { means.now.shard < SHARDS }
@@ -274,9 +317,10 @@ fn run<L: Ledger, R: Wait, S: Steps<L>, G: Gate>(
     let mut course = Course::Begun;
     'steps: loop {
         // Each step adds to the view, which is shorter than 2^64: so they come to an end.
-        let _known = txn.view().len();
+        let known = txn.view().len();
         match next_step(means.alloc, txn, course) {
             NextStep::Acquire(address, mode, after) => {
+                give_way(means, first && known == 0, address, mode, &after);
                 acquire(means, txn, address, mode)?;
                 course = after;
             }
@@ -287,6 +331,26 @@ fn run<L: Ledger, R: Wait, S: Steps<L>, G: Gate>(
             NextStep::Commit(change) => return Ok(change),
             NextStep::Fail => return Err(Reason::Memory),
         }
+    }
+}
+
+/// Where a call holds nothing yet it gives way to those who wait alone for what it wants to share: this address, and
+/// the one that is foreseen.
+fn give_way<L: Ledger, R: Wait, S: Steps<L>, G: Gate>(
+    means: &Means<R, S, G>,
+    holds_nothing: bool,
+    address: Addr,
+    mode: Mode,
+    after: &Course,
+) {
+    if !holds_nothing {
+        return;
+    }
+    if mode == Mode::Shared {
+        means.steps.give_way(means.rt, address);
+    }
+    if let Course::Foreseen(next, Mode::Shared) = after {
+        means.steps.give_way(means.rt, *next);
     }
 }
 

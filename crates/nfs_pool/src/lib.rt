@@ -21,6 +21,7 @@ mod room;
 pub mod seat;
 pub mod sent;
 pub mod steps;
+mod waiting;
 
 pub use carrying::run_call;
 pub use desk::Desk;

@@ -1,6 +1,8 @@
 //! Locks that are waited for awake, and the places of the shards.
 
+use crate::waiting::Awaited;
 use nfs_engine::Shard;
+use nfs_objects::{Addr, Mode};
 use std::hint::spin_loop;
 use std::sync::{Condvar, Mutex, MutexGuard, Wait};
 
@@ -17,6 +19,10 @@ pub(crate) struct Place {
     pub(crate) shard: Mutex<Shard>,
     /// Notified when a call lets go in the shard.
     pub(crate) released: Condvar,
+    /// It keeps what calls only read off the lines that each hold writes.
+    _between: [u64; LINE],
+    /// Which of its addresses somebody waits for alone.
+    pub(crate) awaited: Awaited,
     /// It keeps the next place off this one's lines, so that threads in two shards don't wait for each other's writes.
     _apart: [u64; LINE],
 }
@@ -27,8 +33,19 @@ impl Place {
         Place {
             shard: Mutex::new(shard),
             released: Condvar::new(),
+            _between: [0; LINE],
+            awaited: Awaited::new(),
             _apart: [0; LINE],
         }
+    }
+
+    /// Whether somebody holds an address of this shard in a mode that excludes this one. Who wants it alone is told.
+    pub(crate) fn is_taken(&self, shard: &Shard, address: Addr, mode: Mode) -> bool {
+        let taken = shard.excluder(address, mode).is_some();
+        if taken && mode == Mode::Exclusive {
+            self.awaited.note(address);
+        }
+        taken
     }
 }
 

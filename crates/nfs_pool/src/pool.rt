@@ -128,12 +128,22 @@ impl<L: Ledger> Steps<L> for Pool<L> {
     }
 
     fn wait_for<R: Wait>(&self, rt: &R, address: Addr, mode: Mode) {
-        let index = shard_index(address);
-        let guard = take(rt, &self.places[index].shard);
-        let free = self.places[index]
+        let place = &self.places[shard_index(address)];
+        let guard = take(rt, &place.shard);
+        let free = place
             .released
-            .wait_while(rt, guard, |shard| shard.excluder(address, mode).is_some());
+            .wait_while(rt, guard, |shard| place.is_taken(shard, address, mode));
         drop(free);
+    }
+
+    fn give_way<R: Wait>(&self, rt: &R, address: Addr) {
+        self.places[shard_index(address)]
+            .awaited
+            .give_way(rt, address);
+    }
+
+    fn withdraw(&self, address: Addr) {
+        self.places[shard_index(address)].awaited.forget(address);
     }
 
     fn reserve<R: Wait>(&self, rt: &R, txn: &mut Txn, shard: usize) -> Result<bool, ReserveError> {

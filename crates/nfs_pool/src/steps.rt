@@ -51,8 +51,15 @@ pub trait Steps<L: Ledger> {
         requires { seen_at txn.old.view.entries address ≡ None }
         ensures { TakesAny txn.old txn.new address mode result };
 
-    /// Waits until nobody holds an address in a mode that excludes this one.
+    /// Waits until nobody holds an address in a mode that excludes this one. Where it is waited for alone others may
+    /// give way there, until that is withdrawn.
     fn wait_for<R: Wait>(&self, rt: &R, address: Addr, mode: Mode);
+
+    /// Waits a moment at most, where somebody waits for this address alone.
+    fn give_way<R: Wait>(&self, rt: &R, address: Addr);
+
+    /// Nobody need give way at this address any more.
+    fn withdraw(&self, address: Addr);
 
     /// Gets a new number of this shard. No where the call has to begin anew.
     ///

@@ -9,7 +9,7 @@ use nfs_engine::{
     Admission, Arrival, Finished, Got, Next, Pending, Receipt, Refused, Release, ReserveError, Txn,
 };
 use nfs_objects::{Addr, Mode};
-use nfs_pool::{Gate, Pool, Step, Steps, Unadmitted, Uncommitted, run_call};
+use nfs_pool::{Gate, Open, Pool, Step, Steps, Unadmitted, Uncommitted, run_call};
 use std::alloc::{AllocError, Global};
 use std::sync::Wait;
 use std::sync::atomic::{AtomicU64, Ordering};
@@ -25,6 +25,12 @@ const HELD: u32 = 3;
 
 /// Whose call goes on.
 const FREE: u32 = 4;
+
+/// Whose call waits for the root alone.
+const ALONE: u32 = 1;
+
+/// How many calls share the root meanwhile.
+const SHARING: u32 = 10;
 
 /// Where a call is held up.
 #[derive(Clone, Copy, PartialEq, Eq)]
@@ -52,6 +58,8 @@ struct Meeting {
     answered: AtomicU64,
     /// 1 where the first call was let go before.
     late: AtomicU64,
+    /// 1 once a call that is counted waits for an address.
+    waits: AtomicU64,
     /// Of the first call, where its steps are counted.
     acquired: AtomicU64,
     committed: AtomicU64,
@@ -66,6 +74,7 @@ impl Meeting {
             held: AtomicU64::new(0),
             answered: AtomicU64::new(0),
             late: AtomicU64::new(0),
+            waits: AtomicU64::new(0),
             acquired: AtomicU64::new(0),
             committed: AtomicU64::new(0),
             acquired_then: AtomicU64::new(0),
@@ -159,7 +168,16 @@ impl<'a, L: Ledger> Steps<L> for Counting<'a, L> {
     }
 
     fn wait_for<R: Wait>(&self, rt: &R, address: Addr, mode: Mode) {
+        self.meeting.waits.store(1, Ordering::SeqCst);
         self.pool.wait_for(rt, address, mode);
+    }
+
+    fn give_way<R: Wait>(&self, rt: &R, address: Addr) {
+        self.pool.give_way(rt, address);
+    }
+
+    fn withdraw(&self, address: Addr) {
+        self.pool.withdraw(address);
     }
 
     fn reserve<R: Wait>(&self, rt: &R, txn: &mut Txn, shard: usize) -> Result<bool, ReserveError> {
@@ -272,6 +290,81 @@ fn holds_up<R: Runs + Sync>(rt: &R, held_up: &HeldUp) -> Result<(), AllocError> 
     in_pool(rt, course, held_up)?;
     assert_eq!(rt; count(&held_up.meeting.held), 1);
     assert_eq!(rt; count(&held_up.meeting.late), 0);
+    Ok(())
+}
+
+/// A call that shares the root is held up before its commit, and another waits for the root alone, until calls that
+/// share it too are answered.
+#[derive(Drop)]
+struct Beside {
+    held: HeldUp,
+}
+
+impl Beside {
+    /// Makes the call that waits.
+    fn call_alone<L: Ledger, R: Runs>(&self, caller: &mut Caller<L, R>) -> Told {
+        let meeting = &self.held.meeting;
+        if !comes(caller.rt, &meeting.held) {
+            return Told::Other;
+        }
+        let Ok(arrival) = caller.arrival(1, Ask::Create(X)) else {
+            return Told::Refused;
+        };
+        let steps = Counting {
+            pool: caller.pool,
+            meeting,
+        };
+        let alloc = caller.rt.alloc();
+        let sent = run_call(caller.rt, alloc, &steps, &Open, &mut *caller.seat, arrival);
+        caller.told(sent)
+    }
+
+    /// Makes the calls that are answered meanwhile. How many of them are.
+    fn call_sharing<L: Ledger, R: Runs>(&self, caller: &mut Caller<L, R>) -> u64 {
+        let meeting = &self.held.meeting;
+        let mut answered = 0u64;
+        if comes(caller.rt, &meeting.waits) {
+            for number in 0..SHARING {
+                let told = caller.call(number.wrapping_add(10), Ask::Getattr);
+                answered = answered.wrapping_add(u64::from(told == OK));
+            }
+        }
+        meeting.answered.store(1, Ordering::SeqCst);
+        answered
+    }
+}
+
+impl Part for Beside {
+    fn acts<L: Ledger, R: Runs>(&self, caller: &mut Caller<L, R>, number: u32) -> u64 {
+        if number == FREE {
+            return self.call_sharing(caller);
+        }
+        let told = if number == HELD {
+            self.held.call_held(caller)
+        } else if number == ALONE {
+            self.call_alone(caller)
+        } else {
+            return 0;
+        };
+        u64::from(told == OK)
+    }
+}
+
+/// Who waits for an address alone holds up for a moment at most who shares it, and gets it when nobody has it.
+#[test]
+fn calls_go_on_beside_one_that_waits_alone(rt: HostRuntime) -> Result<(), AllocError> {
+    let beside = Beside {
+        held: HeldUp::new(Way::Submitted, Place::BeforeCommit, Ask::Getattr),
+    };
+    let course = Course {
+        seats: 5,
+        era_records: 65_536,
+        calls: 12,
+        end: End::Finished,
+    };
+    in_pool(&rt, course, &beside)?;
+    assert_eq!(rt; count(&beside.held.meeting.waits), 1);
+    assert_eq!(rt; count(&beside.held.meeting.late), 0);
     Ok(())
 }
 
