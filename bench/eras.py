@@ -31,11 +31,6 @@ def setattr_of(xid):
     return nfsd.touch(xid), nfsd.TAKEN
 
 
-def used(server):
-    """The seconds of a processor that the server has used, by its process's clock."""
-    return time.clock_gettime(~server.process.pid << 3 | 2)
-
-
 class Filler:
     """A client that fills eras."""
 
@@ -64,10 +59,10 @@ class Filler:
         first of the next, and the processor's time behind it."""
         self.fill(RECORDS - 1 - SINGLE)
         waits = [self.wait() for _ in range(SINGLE)]
-        before = used(self.server)
+        before = self.server.used()
         at_the_end = self.wait()
         time.sleep(SETTLES)
-        cost = used(self.server) - before
+        cost = self.server.used() - before
         return waits, at_the_end, cost
 
 

@@ -28,10 +28,10 @@ def run(*words, **how):
     return subprocess.run(words, check=True, stdout=subprocess.PIPE, text=True, **how).stdout
 
 
-def fetch(folder):
-    """Unpacks kernel, modules and mount.nfs of Debian into the folder."""
+def fetch(folder, *more):
+    """Unpacks kernel, modules and mount.nfs of Debian into the folder, and these packages too."""
     kernel = re.search(r"Depends: (linux-image-\S+)", run("apt-cache", "depends", "linux-image-cloud-amd64"))[1]
-    run("apt-get", "download", kernel, *PACKAGES, cwd=folder, stderr=subprocess.DEVNULL)
+    run("apt-get", "download", kernel, *PACKAGES, *more, cwd=folder, stderr=subprocess.DEVNULL)
     for package in folder.glob("*.deb"):
         run("dpkg", "-x", package, folder)
 
@@ -63,19 +63,21 @@ def libraries(program, folder):
     return re.findall(r"(/\S+) \(0x", run("ldd", program, env=searched))
 
 
-def build(folder, root):
-    """Puts the root file system together: BusyBox, mount.nfs, the modules in the order in which they are loaded."""
+def build(folder, root, init, more=()):
+    """Puts the root file system together: BusyBox, mount.nfs, the modules in the order in which they are loaded, and
+    more programs from the folder. `init` is what it starts."""
     for name in ("bin", "sbin", "etc", "lib/x86_64-linux-gnu", "lib64", "modules", "mnt", "proc", "sys", "dev", "tmp"):
         (root / name).mkdir(parents=True)
     shutil.copy("/bin/busybox", root / "bin/busybox")
-    shutil.copy(HERE / "linux_init.sh", root / "init")
+    shutil.copy(HERE / init, root / "init")
     programs = [("/bin/mount", "bin/mount.linux"), ("/bin/umount", "bin/umount.linux")]
-    for program, name in [*programs, (folder / "sbin/mount.nfs", "sbin/mount.nfs")]:
+    for program, name in [*programs, *((folder / name, name) for name in ("sbin/mount.nfs", *more))]:
         shutil.copy(program, root / name)
         for library in libraries(program, folder):
             shutil.copy(library, root / ("lib64" if "ld-linux" in library else "lib/x86_64-linux-gnu"))
     (root / "etc/protocols").write_text("tcp 6 TCP\nudp 17 UDP\n")
-    (root / "etc/netconfig").write_text("udp tpi_clts v inet udp - -\ntcp tpi_cots_ord v inet tcp - -\n")
+    transports = ("udp tpi_clts v inet udp", "tcp tpi_cots_ord v inet tcp", "local tpi_cots_ord - loopback -")
+    (root / "etc/netconfig").write_text("".join(f"{each} - -\n" for each in transports))
     modules = {path.stem.replace("-", "_"): path for path in folder.glob("lib/modules/**/*.ko")}
     order = in_order(modules, MODULES)
     for name in order:
@@ -90,6 +92,17 @@ def archive(root, name):
         subprocess.run(["cpio", "--quiet", "-o", "-H", "newc"], cwd=root, input=files.encode(), stdout=out, check=True)
 
 
+def machine(folder, port, network="", **more):
+    """The words that start the machine, which is told the server's port, and what else is named."""
+    told = "".join(f" {name}={value}" for name, value in more.items())
+    return (
+        "qemu-system-x86_64", "-m", "512", "-nographic", "-no-reboot",
+        "-kernel", next(folder.glob("boot/vmlinuz-*")), "-initrd", folder / "root.cpio",
+        "-append", f"console=ttyS0 quiet panic=1 rdinit=/init nfs_port={port}{told}",
+        "-netdev", f"user,id=net{network}", "-device", "virtio-net-pci,netdev=net",
+    )  # fmt: skip
+
+
 def main():
     words = nfsd.parser(__doc__)
     words.add_argument("program", metavar="PROGRAM", nargs="?", default=nfsd.PROGRAM, help="the program (this one)")
@@ -97,14 +110,9 @@ def main():
     with network.Server(program) as server, tempfile.TemporaryDirectory() as folder:
         folder = pathlib.Path(folder)
         fetch(folder)
-        build(folder, folder / "root")
+        build(folder, folder / "root", "linux_init.sh")
         archive(folder / "root", folder / "root.cpio")
-        said = run(
-            "qemu-system-x86_64", "-m", "512", "-nographic", "-no-reboot",
-            "-kernel", next(folder.glob("boot/vmlinuz-*")), "-initrd", folder / "root.cpio",
-            "-append", f"console=ttyS0 quiet panic=1 rdinit=/init nfs_port={server.port}",
-            "-netdev", "user,id=net", "-device", "virtio-net-pci,netdev=net", timeout=600,
-        )
+        said = run(*machine(folder, server.port), timeout=600)
     told = re.findall(r"linux: .*\w", said)
     print("\n".join(told))
     assert told and told[-1].endswith(", 0 failed"), "each check holds"

@@ -53,9 +53,9 @@ def status(reply):
 class Host:
     """A host that is called back: it listens, and answers each GRANTED with the next of these statuses, the last for ever."""
 
-    def __init__(self, *statuses):
+    def __init__(self, *statuses, address="127.0.0.1"):
         self.statuses = list(statuses)
-        self.listener = socket.create_server(("127.0.0.1", 0))
+        self.listener = socket.create_server((address, 0))
         self.port = self.listener.getsockname()[1]
         self.came = threading.Semaphore(0)
         self.calls = []

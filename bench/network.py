@@ -18,8 +18,8 @@ BODY = 116  # where that of READ and READDIR goes on, behind the attributes
 class Server:
     """A run of nfsd that listens."""
 
-    def __init__(self, program, *options):
-        words = [program, "--tcp", "127.0.0.1:0", "--export", "/data,rw,*", "--start", "7", *options]
+    def __init__(self, program, *options, export="/data,rw,*"):
+        words = [program, "--tcp", "127.0.0.1:0", "--export", export, "--start", "7", *options]
         self.process = subprocess.Popen(words, stderr=subprocess.PIPE)
         said = self.process.stderr.readline().decode()
         port = re.search(r":(\d+) \(TCP\)", said)
@@ -41,6 +41,10 @@ class Server:
         """The bytes of memory that it has at present."""
         status = pathlib.Path(f"/proc/{self.process.pid}/status").read_text()
         return int(re.search(rf"{of}:\s+(\d+)", status)[1]) * 1024
+
+    def used(self):
+        """The seconds of a processor that it has used, by its process's clock."""
+        return time.clock_gettime(~self.process.pid << 3 | 2)
 
 
 class Connection:
@@ -79,7 +83,10 @@ class Connection:
         left = reply_bytes - len(self.came)
         self.came.clear()
         while left > 0:
-            left -= len(self.socket.recv(min(left, 1 << 18)))
+            piece = self.socket.recv(min(left, 1 << 18))
+            if not piece:
+                raise ConnectionError("the server closed the connection")
+            left -= len(piece)
         return time.perf_counter() - begin
 
     def make(self, name):

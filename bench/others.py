@@ -1,0 +1,514 @@
+#!/usr/bin/env python3
+"""Measures what one peer can do to others: a fixed list of hostile and of large uses, each over TCP with a server of
+its own. For each it prints what a call takes of a processor, and how long a GETATTR of another client waits beside
+it: the median and the longest, in milliseconds. With a second program it prints the same of that one in further
+columns.
+
+The other client is a process of its own and another host (127.0.0.2). It asks for the root's attributes, one call
+after the other with a millisecond between; those of its calls count that were in progress while the use was. What
+they take of a processor by themselves is told first for each use, and taken off. Where making what a use is about
+takes longer than --patience, the use is measured with what was made by then, and the line says so.
+
+Names that are chosen to lie in one part of a directory are not among the uses: they can't be found without the server's
+own hash. Other work on the machine makes all of it dearer: compare what stands in one line. A dash stands where no call
+of the other client was in progress.
+
+usage: bench/others.py [--only WORD] [--quick] [--seconds S] [--patience S] [PROGRAM [OTHER]]
+"""
+import collections
+import concurrent.futures
+import contextlib
+import itertools
+import math
+import multiprocessing
+import statistics
+import struct
+import sys
+import time
+
+import data
+import locking
+import mounts
+import network
+import nfsd
+
+NEIGHBOUR = "127.0.0.2"  # the other client
+PACE = 0.001  # seconds between its calls
+SETTLE = 0.2  # seconds for which its calls are measured alone
+BATCH = 200  # calls that are sent at once while a use is prepared
+READDIR = 16
+GIBIBYTE, BLOCK = 1 << 30, 4096
+LOADED, LOADERS = 48, 2  # the connections that load the server, and the processes that hold them
+PIECE = 16  # calls that are sent at once while they are measured
+FEW = 50  # the last of those that wait, which are counted
+SHORT = 100  # the records of an era where one call is long, so that an era ends meanwhile
+LATE = 12  # a client that is not let in by then gives up
+
+
+def root(xid):
+    """GETATTR of the root."""
+    return nfsd.call(xid, nfsd.GETATTR, nfsd.ROOT)
+
+
+def named(directory, name):
+    """A name in a directory whose handle has its length (RFC 1813, 3.3.3: diropargs3)."""
+    return directory + nfsd.place(name)[len(nfsd.ROOT) :]
+
+
+def resized(xid, file, size):
+    """SETATTR of a file's size (RFC 1813, 3.3.2)."""
+    return nfsd.call(xid, nfsd.SETATTR, file + struct.pack(">IIIIQIII", 0, 0, 0, 1, size, 0, 0, 0))
+
+
+def handle(reply):
+    """The handle, with its length, in the reply of CREATE or MKDIR, which has to be a good one."""
+    assert network.status(reply) == 0, "it is made"
+    return reply[network.FILE : network.FILE + network.NODE]
+
+
+class Asker:
+    """Asks one call after the other over one connection."""
+
+    def __init__(self, port, make):
+        self.connection, self.make = network.Connection(port, NEIGHBOUR), make
+
+    def ask(self, xid):
+        return self.connection.ask(self.make(xid))
+
+
+class Comer:
+    """Comes anew for each call, and again after a while where it is not let in. A call for which it is not let in at
+    all has no end."""
+
+    def __init__(self, port, make):
+        self.port, self.make = port, make
+
+    def ask(self, xid):
+        until = time.monotonic() + LATE
+        while time.monotonic() < until:
+            try:
+                connection = network.Connection(self.port, NEIGHBOUR)
+                with connection.socket:
+                    return connection.ask(self.make(xid))
+            except OSError:
+                time.sleep(0.05)
+        return None
+
+
+def neighbour(port, kind, make, orders):
+    """The other client: asks from one order to the next, and then tells when each call was begun and answered."""
+    asker = kind(port, make)
+    xids = itertools.count(1)
+    with contextlib.suppress(EOFError):
+        while orders.recv():
+            told = []
+            while not orders.poll():
+                begin = time.monotonic()
+                told.append((begin, math.inf if asker.ask(next(xids)) is None else time.monotonic()))
+                time.sleep(PACE)
+            orders.recv()
+            orders.send(told)
+
+
+class Tally:
+    """What was counted of a use."""
+
+    def __init__(self):
+        self.calls, self.used, self.waits = 0, 0.0, []
+
+    def cells(self):
+        """The milliseconds of a processor for a call, and the median and the longest wait."""
+        waits = self.waits or [math.nan]
+        return [1e3 * figure for figure in (self.used / self.calls, statistics.median(waits), max(waits))]
+
+
+class Peer:
+    """One who uses the server, beside the other client."""
+
+    def __init__(self, server, use, given):
+        self.server, self.given = server, given
+        self.connection = network.Connection(server.port)
+        self.xids = itertools.count(1)
+        self.notes = []
+        self.orders, other_end = multiprocessing.Pipe()
+        words = (server.port, use.kind, use.asked, other_end)
+        self.neighbour = multiprocessing.Process(target=neighbour, args=words, daemon=True)
+        self.neighbour.start()
+        self.alone = 0.0
+        with self.counted() as tally:
+            time.sleep(SETTLE)
+        self.alone = tally.used / max(1, len(tally.waits))
+
+    def close(self):
+        self.neighbour.terminate()
+        self.neighbour.join()
+
+    def ask(self, record):
+        return self.connection.ask(record)
+
+    @contextlib.contextmanager
+    def counted(self, tally=None):
+        """Counts what is done within, while the other client asks."""
+        tally = tally or Tally()
+        self.orders.send(True)
+        time.sleep(10 * PACE)
+        begin, before = time.monotonic(), self.server.used()
+        yield tally
+        end, after = time.monotonic(), self.server.used()
+        self.orders.send(True)
+        told = [(first, last) for first, last in self.orders.recv() if first < end and last > begin]
+        tally.waits += [last - first for first, last in told]
+        tally.used += max(0.0, after - before - self.alone * len(told))
+
+    def repeat(self, turn):
+        """Takes turns of calls until some time has passed. A turn tells how many calls it made."""
+        with self.counted() as tally:
+            until = time.monotonic() + self.given.seconds
+            while time.monotonic() < until:
+                tally.calls += turn()
+        return tally
+
+    def once(self, record, tally=None):
+        """Makes one call."""
+        with self.counted(tally) as tally:
+            self.ask(record)
+            tally.calls += 1
+        return tally
+
+    def prepare(self, records, at=network.STATUS, good=0):
+        """Makes these calls, until they end or patience does. How many. Their replies have their status there."""
+        until = time.monotonic() + self.given.patience
+        statuses = collections.Counter()
+        records = iter(records)
+        while batch := list(itertools.islice(records, BATCH)):
+            self.connection.socket.sendall(b"".join(batch))
+            statuses.update(struct.unpack_from(">I", self.connection.reply(), at)[0] for _ in batch)
+            if time.monotonic() > until and next(records, None):
+                self.notes.append(f"{statuses.total():,} were made in {self.given.patience:g} s")
+                break
+        if statuses[good] < statuses.total():
+            self.notes.append(f"{statuses.total() - statuses[good]:,} of {statuses.total():,} were refused")
+        return statuses.total()
+
+    def made(self, names):
+        """The handles of files that are made."""
+        return [handle(self.ask(nfsd.create(next(self.xids), name))) for name in names]
+
+    def descend(self, depth):
+        """The handle of a directory that lies so deep: each is named `d`."""
+        at = nfsd.ROOT
+        for _ in range(depth):
+            at = handle(self.ask(nfsd.call(next(self.xids), nfsd.MKDIR, named(at, b"d") + bytes(24))))
+        return at
+
+
+def getattrs(peer):
+    """GETATTRs in pieces."""
+
+    def turn():
+        records = b"".join(root(next(peer.xids)) for _ in range(PIECE))
+        peer.connection.answer(records, PIECE * nfsd.SHOWN)
+        return PIECE
+
+    return [peer.repeat(turn)]
+
+
+def locks(others):
+    """LOCK and UNLOCK of a free range of a file of which others have so many."""
+
+    def play(peer):
+        file = peer.connection.make(b"file")
+        held = (locking.locking(next(peer.xids), file, 2 + n % 2, 2 * n, 1) for n in range(others))
+        peer.prepare(held, locking.STATUS)
+
+        def turn():
+            for make in (locking.locking, locking.unlocking):
+                peer.ask(make(next(peer.xids), file, 1, 2 * others + 10, 5))
+            return 2
+
+        return [peer.repeat(turn)]
+
+    return play
+
+
+def waits(count):
+    """LOCKs that wait beside so many, and the UNLOCK that grants all."""
+
+    def play(peer):
+        file = peer.connection.make(b"file")
+        peer.ask(locking.locking(next(peer.xids), file, 1, 0, 100))
+        numbers = itertools.count(2)
+
+        def waiting():
+            return locking.locking(next(peer.xids), file, next(numbers), 0, 100, exclusive=False, block=True)
+
+        peer.prepare((waiting() for _ in range(count - FEW)), locking.STATUS, locking.IS_BLOCKED)
+        with peer.counted() as asked:
+            asked.calls = peer.prepare((waiting() for _ in range(FEW)), locking.STATUS, locking.IS_BLOCKED)
+        return [asked, peer.once(locking.unlocking(next(peer.xids), file, 1, 0, 100))]
+
+    return play
+
+
+def frees(count):
+    """FREE_ALL of a caller who has a range of each of so many files."""
+
+    def play(peer):
+        files = peer.made(b"file%d" % number for number in range(count))
+        tally = Tally()
+        for _ in range(3):
+            peer.prepare((locking.locking(next(peer.xids), file, 1, 0, 100) for file in files), locking.STATUS)
+            peer.once(locking.freeing(next(peer.xids), 1), tally)
+        return [tally]
+
+    return play
+
+
+def spelled():
+    """Spellings of `/data`, no two alike, the shorter ones first."""
+    for length in range(5, 1025):
+        for front in range(1, length - 3):
+            yield b"/" * front + b"data" + b"/" * (length - 4 - front)
+
+
+def mounted(count):
+    """MNT beside so many mounts, and DUMP of them."""
+
+    def play(peer):
+        paths = itertools.islice(spelled(), count)
+        made = peer.prepare(mounts.named(next(peer.xids), mounts.MNT, path) for path in paths)
+        again = itertools.cycle(itertools.islice(spelled(), made))
+
+        def turn():
+            peer.ask(mounts.named(next(peer.xids), mounts.MNT, next(again)))
+            return 1
+
+        def dump():
+            peer.ask(nfsd.call(next(peer.xids), mounts.DUMP, b"", mounts.MOUNT))
+            return 1
+
+        return [peer.repeat(turn), peer.repeat(dump)]
+
+    return play
+
+
+def deep_mount(depth):
+    """MNT of a directory that lies so deep."""
+
+    def play(peer):
+        peer.descend(depth)
+        path = b"/data" + b"/d" * depth
+
+        def turn():
+            assert network.status(peer.ask(mounts.named(next(peer.xids), mounts.MNT, path))) == 0, "it is mounted"
+            return 1
+
+        return [peer.repeat(turn)]
+
+    return play
+
+
+def thin(pages):
+    """READDIR of a directory of which so many pages keep one name each."""
+
+    def play(peer):
+        names = [b"name%08d" % number for number in range(64 * pages)]
+        peer.prepare(nfsd.create(next(peer.xids), name) for name in names)
+        peer.prepare(nfsd.remove(next(peer.xids), name) for place, name in enumerate(names) if place % 64)
+
+        def turn():
+            peer.ask(nfsd.call(next(peer.xids), READDIR, nfsd.ROOT + struct.pack(">QQI", 0, 0, 65_536)))
+            return 1
+
+        return [peer.repeat(turn)]
+
+    return play
+
+
+def loses(blocks, ends):
+    """A file that has so many blocks of four bytes each, and the call that ends them."""
+
+    def play(peer):
+        file = peer.connection.make(b"file")
+        peer.prepare(data.write(file, next(peer.xids), BLOCK * block, b"xxxx") for block in range(blocks))
+        return [peer.once(ends(next(peer.xids), file))]
+
+    return play
+
+
+def removes(xid, _):
+    return nfsd.remove(xid, b"file")
+
+
+def cuts(xid, file):
+    return resized(xid, file, 0)
+
+
+def deep_rename(depth):
+    """RENAME of a directory to one that lies so deep, and back."""
+
+    def play(peer):
+        below = peer.descend(depth)
+        peer.ask(nfsd.mkdir(next(peer.xids), b"moved"))
+
+        def turn():
+            for words in (nfsd.place(b"moved") + named(below, b"moved"), named(below, b"moved") + nfsd.place(b"moved")):
+                reply = peer.ask(nfsd.call(next(peer.xids), nfsd.RENAME, words))
+                assert network.status(reply) == 0, "it is moved"
+            return 2
+
+        return [peer.repeat(turn)]
+
+    return play
+
+
+def load(port, connections, until):
+    """GETATTRs of the root over so many connections, until then. How many."""
+    connections = [network.Connection(port) for _ in range(connections)]
+    piece = b"".join(root(xid) for xid in range(PIECE))
+    calls = 0
+    while time.monotonic() < until:
+        for connection in connections:
+            connection.socket.sendall(piece)
+        for connection in connections:
+            connection.answer(b"", PIECE * nfsd.SHOWN)
+        calls += PIECE * len(connections)
+    return calls
+
+
+def crowd(peer):
+    """Many connections that ask for the root's attributes."""
+    with concurrent.futures.ProcessPoolExecutor(LOADERS) as processes, peer.counted() as tally:
+        until = time.monotonic() + 2 * peer.given.seconds
+        loads = [processes.submit(load, peer.server.port, LOADED // LOADERS, until) for _ in range(LOADERS)]
+        tally.calls = sum(each.result() for each in loads)
+    return [tally]
+
+
+def reads(peer):
+    """READs of 64 KiB, many at once."""
+    file = peer.connection.make(b"file")
+    peer.prepare([data.write(file, next(peer.xids), 0, bytes(65_536))])
+
+    def turn():
+        records = b"".join(data.read(file, next(peer.xids), 0, 65_536) for _ in range(PIECE))
+        peer.connection.answer(records, PIECE * (data.DATA + 65_536))
+        return PIECE
+
+    return [peer.repeat(turn)]
+
+
+def idles(count):
+    """Connections over which nothing comes."""
+
+    def play(peer):
+        idle = [network.Connection(peer.server.port) for _ in range(count)]
+        with peer.counted() as tally:
+            time.sleep(peer.given.seconds)
+            tally.calls = count
+        for connection in idle:
+            connection.socket.close()
+        return [tally]
+
+    return play
+
+
+class Use:
+    """A use: a line for each thing that is counted, how it is played, and the server and the other client for it."""
+
+    def __init__(self, lines, play, export="/data,rw,*", era=65_536, asked=root, kind=Asker):
+        self.lines, self.play = lines, play
+        self.export, self.era, self.asked, self.kind = export, era, asked, kind
+
+    def tallies(self, program, given):
+        """What was counted of this program, and what there is to say of it."""
+        with network.Server(program, "--era", str(self.era), export=self.export) as server:
+            peer = Peer(server, self, given)
+            try:
+                return self.play(peer), peer.notes
+            finally:
+                peer.close()
+
+
+def hosts(count):
+    """An export that lets in so many hosts, those of this machine last."""
+    others = [f"10.0.{number // 256}.{number % 256}" for number in range(count - 2)]
+    return ",".join(["/data", "rw", *others, "127.0.0.1", NEIGHBOUR])
+
+
+def uses(part):
+    """All uses, or with this part of their sizes."""
+    yield Use(["GETATTR, one host in the export"], getattrs)
+    yield Use([f"GETATTR, {1024 // part:,} hosts in the export"], getattrs, export=hosts(1024 // part))
+    for others in (1, 8_000 // part, 20_000 // part):
+        yield Use([f"LOCK or UNLOCK beside {others:,} ranges of others"], locks(others))
+    for count in (3_000 // part, 10_000 // part):
+        yield Use([f"LOCK that waits beside {count:,}", f"UNLOCK that grants {count:,}"], waits(count), era=SHORT)
+    yield Use([f"FREE_ALL of {5_000 // part:,} files"], frees(5_000 // part), era=SHORT)
+    for count in (20_000 // part, 65_536 // part):
+        yield Use([f"MNT beside {count:,} mounts", f"DUMP of {count:,} mounts"], mounted(count))
+    yield Use([f"MNT of a path of {509 // part} names"], deep_mount(509 // part))
+    yield Use([f"READDIR of {2_800 // part:,} names, one in a page"], thin(2_800 // part))
+    blocks = GIBIBYTE // BLOCK // part
+    for told, ends in (("REMOVE", removes), ("cut", cuts)):
+        yield Use([f"{told} of {blocks * BLOCK >> 20:,} MiB in {blocks:,} blocks"], loses(blocks, ends), era=SHORT)
+    yield Use([f"RENAME of a directory to a depth of {4_000 // part:,}"], deep_rename(4_000 // part))
+    yield Use(["READ of 64 KiB, 16 at once"], reads)
+    yield Use([f"GETATTR over {LOADED} connections"], crowd)
+    yield Use(["the same, and SETATTR of the root waits"], crowd, asked=nfsd.touch)
+    yield Use(["64 idle connections, and a client comes"], idles(64), kind=Comer)
+
+
+def milliseconds(figure):
+    """A figure with as many digits as tell something."""
+    if math.isnan(figure):
+        return "-"
+    if math.isinf(figure):
+        return "no end"
+    return f"{figure:,.3f}" if figure < 10 else f"{figure:,.1f}" if figure < 1000 else f"{figure:,.0f}"
+
+
+def print_line(line, cells, notes=()):
+    """A line of the table: three cells for each program."""
+    groups = [" ".join(f"{cell:>9}" for cell in cells[first : first + 3]) for first in range(0, len(cells), 3)]
+    print("   ".join([f"{line:48}", *groups, *notes]), flush=True)
+
+
+def options():
+    """What the command line says."""
+    words = nfsd.parser(__doc__)
+    words.add_argument("--only", metavar="WORD", default="", help="only those uses in whose lines this word is")
+    words.add_argument("--quick", action="store_true", help="with a tenth of the sizes, for a try")
+    words.add_argument("--seconds", metavar="S", type=float, help="how long calls are made again (1; quick: 0.3)")
+    words.add_argument("--patience", metavar="S", type=float, default=60, help="how long a use is made at most (60)")
+    words.add_argument("programs", metavar="PROGRAM", nargs="*", help="this one, and another (the proved one alone)")
+    given = words.parse_args()
+    given.programs = given.programs or [nfsd.PROGRAM]
+    given.seconds = given.seconds or (0.3 if given.quick else 1.0)
+    if len(given.programs) > 2:
+        words.error("there are two programs at most")
+    if given.seconds <= 0 or given.patience <= 0:
+        words.error("a time has no length")
+    return given
+
+
+def main():
+    given = options()
+    chosen = [use for use in uses(10 if given.quick else 1) if any(given.only in line for line in use.lines)]
+    if not chosen:
+        sys.exit(f"no use has {given.only} in its line")
+    for letter, program in zip("AB", given.programs):
+        print(f"{letter}: {program}")
+    print("milliseconds: of a processor for a call; that another client's GETATTR waits, in the median and at most\n")
+    letters = "AB"[: len(given.programs)]
+    print_line("", [f"{letter}: {cell}" for letter in letters for cell in ("a call", "waits", "most")])
+    for use in chosen:
+        played = [use.tallies(program, given) for program in given.programs]
+        for place, line in enumerate(use.lines):
+            cells = [milliseconds(cell) for tallies, _ in played for cell in tallies[place].cells()]
+            notes = [f"({letter}: {'; '.join(said)})" for letter, (_, said) in zip("AB", played) if said]
+            print_line(line, cells, notes)
+
+
+if __name__ == "__main__":
+    main()
