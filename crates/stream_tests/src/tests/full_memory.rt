@@ -16,6 +16,14 @@ const LEFT_BELOW_A_TABLE: usize = 33 << 19;
 /// How many bytes are left to it, so that names take them to the brim.
 const LEFT_TO_THE_BRIM: usize = 24 << 20;
 
+/// The least that is left to it where it is filled in steps, and how far apart these are, so that in some of them a
+/// table is just full: an address that is asked for and at which nothing stands would make it grow.
+const LEAST_LEFT: usize = 15 << 19;
+
+const STEP: usize = 1 << 17;
+
+const STEPS: usize = 6;
+
 /// How many bytes the largest vectors have that are tried. The system refuses those above the machine's memory.
 const LARGEST: usize = 1 << 40;
 
@@ -219,8 +227,8 @@ fn is_before(clock: &impl Clock, until: Duration) -> bool {
 }
 
 /// Names were made, removed and made again, first a few of them where memory was there, so that the stack was as deep as
-/// it gets before the address space was taken; then where it was full: each was removed, and nine tenths came again.
-fn is_emptied(rt: &impl Abort, few: Progress, full: Progress) -> Result<(), Fail> {
+/// it gets before the address space was taken; then where it was full: each was removed, so many tenths came again.
+fn is_emptied(rt: &impl Abort, few: Progress, full: Progress, tenths: u32) -> Result<(), Fail> {
     assert_eq!(rt; (few.made, few.removed, few.made_again), (FEW, FEW, FEW));
     assert!(rt;
         1000 < full.made && full.made < MOST,
@@ -234,7 +242,7 @@ fn is_emptied(rt: &impl Abort, few: Progress, full: Progress) -> Result<(), Fail
         full.made
     );
     assert!(rt;
-        full.made_again >= full.made / 10 * 9,
+        full.made_again >= (full.made / 10).saturating_mul(tenths),
         "{} made again",
         full.made_again
     );

@@ -77,18 +77,32 @@ fn played_in_full_memory(
     Ok(progress)
 }
 
-/// No REMOVE and no RMDIR is refused.
-fn is_emptied_of(rt: &(impl Abort + Clock + AllocGlobal), bytes: usize) -> Result<(), Fail> {
+/// No REMOVE and no RMDIR is refused, and at least so many tenths of the names come again: what is free then lies in
+/// pieces, so a table that grows anew may be refused.
+fn is_emptied_of(
+    rt: &(impl Abort + Clock + AllocGlobal),
+    bytes: usize,
+    tenths: u32,
+) -> Result<(), Fail> {
     let few = played(rt.alloc(), FEW);
-    is_emptied(rt, few, played_in_full_memory(rt, rt.alloc(), bytes)?)
+    let full = played_in_full_memory(rt, rt.alloc(), bytes)?;
+    is_emptied(rt, few, full, tenths)
 }
 
 #[test]
 fn a_memory_in_which_no_table_grows_is_emptied(rt: HostRuntime) -> Result<(), Fail> {
-    is_emptied_of(&rt, LEFT_BELOW_A_TABLE)
+    is_emptied_of(&rt, LEFT_BELOW_A_TABLE, 5)
 }
 
 #[test]
 fn a_memory_that_is_full_to_the_brim_is_emptied(rt: HostRuntime) -> Result<(), Fail> {
-    is_emptied_of(&rt, LEFT_TO_THE_BRIM)
+    is_emptied_of(&rt, LEFT_TO_THE_BRIM, 5)
+}
+
+#[test]
+fn a_memory_is_emptied_at_each_fill(rt: HostRuntime) -> Result<(), Fail> {
+    for step in 0..STEPS {
+        is_emptied_of(&rt, LEAST_LEFT + step * STEP, 0)?;
+    }
+    Ok(())
 }
