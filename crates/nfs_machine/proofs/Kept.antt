@@ -470,19 +470,18 @@ always now old new k = record {
 }
 
 -- other exports
-room : (m : State) (exports : List ExportValue) → is_exhausted m.exports m.last_export exports ≡ false
-    → m.last_export < m.last_export + new_count m.exports exports → m.last_export + new_count m.exports exports < 2 ^ 32
-room m exports free more =
-    by (nat_le 1 (new_count m.exports exports)) (nat_le (2 ^ 32) (m.last_export + new_count m.exports exports))
-    refl refl free
+pub room : (living : List LivingExport) (last : ℕ) (exports : List ExportValue) →
+    is_exhausted living last exports ≡ false
+    → last < last + new_count living exports → last + new_count living exports < 2 ^ 32
+room living last exports free more =
+    by (nat_le 1 (new_count living exports)) (nat_le (2 ^ 32) (last + new_count living exports)) refl refl free
   where
-    by : (a b : Bool) → nat_le 1 (new_count m.exports exports) ≡ a
-        → nat_le (2 ^ 32) (m.last_export + new_count m.exports exports) ≡ b
-        → (a && b) ≡ false → m.last_export + new_count m.exports exports < 2 ^ 32
+    by : (a b : Bool) → nat_le 1 (new_count living exports) ≡ a → nat_le (2 ^ 32) (last + new_count living exports) ≡ b
+        → (a && b) ≡ false → last + new_count living exports < 2 ^ 32
     by true true some many is = absurd (never is)
     by true false some few is = grind (arith, nat_tests)
     by false b none few is =
-        absurd (let less : new_count m.exports exports < 1 = grind (arith, nat_tests) in omega (arith, less, more))
+        absurd (let less : new_count living exports < 1 = grind (arith, nat_tests) in omega (arith, less, more))
 
 replaced-within : (living : List LivingExport) (root : ℕ → ℕ) (last : ℕ) (es : List ExportValue)
     → AllByRecursion HasBounds es
@@ -504,24 +503,28 @@ module _ (old : State) (exports : List ExportValue) (choose : ℕ → RootChoice
     (fresh : AreFreshRoots old choose spent old.last_export (new_count old.exports exports))
     (faultless : AreFaultless exports)
     (free : is_exhausted old.exports old.last_export exports ≡ false) where
+  fits : old.last_export < old.last_export + new_count old.exports exports →
+      old.last_export + new_count old.exports exports < 2 ^ 32
+  fits = room old.exports old.last_export exports free
+
   replaced-always : Always time old (replaced old exports choose spent time)
   replaced-always = record {
     gives = gives-once old exports choose spent time fresh;
     touches = λ n was is at there. inl (same-object old exports choose spent time fresh n was is at there);
     cookies = cookies-kept old exports choose spent time fresh;
-    formed = λ w. formed old exports choose spent time fresh w faultless (room old exports free);
+    formed = λ w. formed old exports choose spent time fresh w faultless fits;
     counts = λ w. record {
       kinds = λ n was is at there. ap (λ (x : Living). is_directory x.content)
           (same-object old exports choose spent time fresh n was is at there);
       names = λ n was is at there. inl
-          (names-kept old exports choose spent time fresh w faultless (room old exports free) n was is at there);
+          (names-kept old exports choose spent time fresh w faultless fits n was is at there);
     };
     locks = record {
       apart = apart-kept old exports choose spent time fresh;
       waits = waits-kept old exports choose spent time fresh;
       firm = firm-kept old exports choose spent time fresh;
     };
-    numbers = λ w. numbers-once old exports choose spent time fresh w faultless (room old exports free);
+    numbers = λ w. numbers-once old exports choose spent time fresh w faultless fits;
     within = λ was. replaced-within old.exports (λ e. (choose e).number) old.last_export exports
         (faultless-bound exports faultless);
   }

@@ -39,8 +39,8 @@ pub mod Loose
 pub mod Planned
 mod Refused
 pub mod Renamed
-mod Replaced
-mod ReplacedState
+pub mod Replaced
+pub mod ReplacedState
 mod ReplySizes
 pub mod Roots
 pub mod Runs

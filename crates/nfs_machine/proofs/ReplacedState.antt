@@ -58,7 +58,7 @@ own-number (x ∷ xs) all = (
     AreOther : LivingExport → Type 0
     AreOther e = (x.number == e.number) ≡ false
 
-some-number : (xs : List LivingExport)
+pub some-number : (xs : List LivingExport)
     → AllByRecursion (λ (e : LivingExport). is_some (export_at xs e.number) ≡ true) xs
 some-number [] = tt
 some-number (x ∷ xs) = (
@@ -260,31 +260,32 @@ module _ (m : State) (exports : List ExportValue) (choose : ℕ → RootChoice) 
   abbrev new : State
   new = replaced m exports choose spent time
 
-  abbrev Within : ℕ → Type 0
+  abbrev pub Within : ℕ → Type 0
   Within e = InRange choose time m.last_export stay count e
 
   -- a number that is chosen is that of nothing that lived
-  free : (e : ℕ) → Within e → get m.objects (root e) ≡ None
+  pub free : (e : ℕ) → Within e → get m.objects (root e) ≡ None
   free e within = (fresh.fresh e within.0 within.1).free
 
-  lived-elsewhere : (n : ℕ) (o : Living) → get m.objects n ≡ Some o → Elsewhere choose time m.last_export stay count n
+  pub lived-elsewhere : (n : ℕ) (o : Living) → get m.objects n ≡ Some o
+      → Elsewhere choose time m.last_export stay count n
   lived-elsewhere n o at e within = apart (root e) n (λ same.
       (let both : None ≡ Some o = sym (free e within) ∙ ap (get m.objects) same ∙ at in cc))
 
   abbrev stays : Option Living → Bool
   stays o = option_map_or (λ (x : Living). is_some (export_at living x.export)) o false
 
-  got : (n : ℕ) → get stay n ≡ cond (stays (get m.objects n)) (get m.objects n) None
+  pub got : (n : ℕ) → get stay n ≡ cond (stays (get m.objects n)) (get m.objects n) None
   got n = get-retain_keys m.objects (λ q. stays (get m.objects q)) n
       (λ x tied. ap (λ q. stays (get m.objects q)) (sym (nat_cmp-IsAntisymmetric n x tied)))
 
   -- what lives on
-  on : (n : ℕ) (o : Living) → get m.objects n ≡ Some o → is_some (export_at living o.export) ≡ true
+  pub on : (n : ℕ) (o : Living) → get m.objects n ≡ Some o → is_some (export_at living o.export) ≡ true
       → get new.objects n ≡ Some o
   on n o at lives = elsewhere-get choose time m.last_export stay count n (lived-elsewhere n o at)
       ∙ got n ∙ ap (λ b. cond b (get m.objects n) None) (ap stays at ∙ lives) ∙ at
 
-  rooted : (e : ℕ) → Within e → get new.objects (root e) ≡ Some (new_root e (choose e).generation time)
+  pub rooted : (e : ℕ) → Within e → get new.objects (root e) ≡ Some (new_root e (choose e).generation time)
   rooted e within = root-get choose time m.last_export stay count fresh.apart e within
 
   pub record IsOld (n : ℕ) (o : Living) : Type 0 where
@@ -640,7 +641,7 @@ module _ (m : State) (exports : List ExportValue) (choose : ℕ → RootChoice) 
         by (Some y) found some =
             from y found (export-all (Comes m.exports root m.last_export top) living e.number y all-come found)
 
-    still-root : (n : ℕ) (o : Living) → get m.objects n ≡ Some o → is_some (export_at living o.export) ≡ true
+    pub still-root : (n : ℕ) (o : Living) → get m.objects n ≡ Some o → is_some (export_at living o.export) ≡ true
         → is_root m n ≡ true
         → is_root new n ≡ true
     still-root n o at lives is =
@@ -653,7 +654,7 @@ module _ (m : State) (exports : List ExportValue) (choose : ℕ → RootChoice) 
     new-numbered : (e : ℕ) → Within e → is_some (export_at living e) ≡ true
     new-numbered e within = is-numbered m.exports root e m.last_export exports within.0 within.1
 
-    is-new-root : (e : ℕ) → Within e → is_root new (root e) ≡ true
+    pub is-new-root : (e : ℕ) → Within e → is_root new (root e) ≡ true
     is-new-root e within = by (export_at living e) refl (new-numbered e within)
       where
         from : (y : LivingExport) → export_at living e ≡ Some y → Comes m.exports root m.last_export top y
