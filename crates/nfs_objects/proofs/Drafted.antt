@@ -1,10 +1,12 @@
 -- What a draft keeps with each write: it suits its modes, and holds and gives what it writes.
 use Rattle.std.specs.Prelude.{◌≡◌, ◌++◌, ℕ, true, false, List, [], ◌∷◌, Option, Some, None, IsSome}
-use Rattle.std.specs.Prelude.{option_map, slice_get, refl}
+use Rattle.std.specs.Prelude.{◌==◌, ◌≤◌, length, option_map, slice_get, suc, take, refl, zero}
 use Rattle.std.proofs.Common.{cond, sym, ◌∙◌, ap, subst, inl, inr}
-use Rattle.nfs_objects.proofs.Seen.{all-append, is_addr-same, seen-address, seen-all}
-use Rattle.nfs_objects.specs.Asks.{IsFirst}
-use Rattle.nfs_objects.specs.Fits.{vacant}
+use Rattle.std.proofs.lemmas.List.{length-take-le}
+use Rattle.std.specs.List.{AllByRecursion}
+use Rattle.nfs_objects.proofs.Seen.{all-append, all-map, is_addr-same, seen-address, seen-all}
+use Rattle.nfs_objects.specs.Asks.{AreFirst, IsFirst}
+use Rattle.nfs_objects.specs.Fits.{IsView, NumbersApart, vacant}
 use Rattle.nfs_objects.specs.Drafts.{IsDraft, MayWrite}
 use Rattle.nfs_objects.specs.Modes.{Suits, covers, held_mode}
 use Rattle.nfs_objects.specs.Promise.{Given, Held, IsGeneration, IsGiven}
@@ -26,15 +28,44 @@ written-some (w ∷ ws) o a =
     elim (is_addr w.0 a) as (λ b. IsSome (written_at (cond b (Some w.1) (Some o)) ws a))
     [ true ↦ written-some ws w.1 a | false ↦ written-some ws o a ]
 
+number-known : (d : DraftValue) (r : Reserved) → seen_at d.view.entries (addresses.Inode r.number) ≡ Some (vacant r) →
+    IsSome (known_at d (addresses.Inode r.number))
+number-known d r seen =
+    subst
+    (λ (s : Option Seen). IsSome (written_at (option_map (λ (e : Seen). e.object) s) d.writes
+    (addresses.Inode r.number))) (sym seen)
+    (written-some d.writes None (addresses.Inode r.number))
+
 pub is-first : (d : DraftValue) (r : Reserved) → Some r ≡ slice_get d.view.reserved 0
     → seen_at d.view.entries (addresses.Inode r.number) ≡ Some (vacant r) → IsFirst d r
 is-first d r is seen = record {
   first = sym is;
-  known =
-      subst
-      (λ (s : Option Seen). IsSome (written_at (option_map (λ (e : Seen). e.object) s) d.writes
-      (addresses.Inode r.number))) (sym seen)
-      (written-some d.writes None (addresses.Inode r.number));
+  known = number-known d r seen;
+}
+
+-- so are the first so many numbers
+all-before : {X : Type 0} (P : X → Type 0) (n : ℕ) (xs : List X) → AllByRecursion P xs → AllByRecursion P (take n xs)
+all-before P zero xs all = tt
+all-before P (suc n) [] all = tt
+all-before P (suc n) (x ∷ xs) all = (all.0, all-before P n xs all.1)
+
+apart-before : (n : ℕ) (rs : List Reserved) → NumbersApart rs → NumbersApart (take n rs)
+apart-before zero rs all = tt
+apart-before (suc n) [] all = tt
+apart-before (suc n) (r ∷ rs) all = (
+  all-before (λ (q : Reserved). (r.number == q.number) ≡ false) n rs all.0,
+  apart-before n rs all.1,
+)
+
+pub are-first : (d : DraftValue) (count : ℕ) → IsView d.view → count ≤ length d.view.reserved →
+    AreFirst d count (take count d.view.reserved)
+are-first d count is enough = record {
+  first = refl;
+  counted = length-take-le count d.view.reserved enough;
+  known = all-before (λ (r : Reserved). IsSome (known_at d (addresses.Inode r.number))) count d.view.reserved
+      (all-map (λ (r : Reserved). seen_at d.view.entries (addresses.Inode r.number) ≡ Some (vacant r))
+      (λ (r : Reserved). IsSome (known_at d (addresses.Inode r.number))) (number-known d) d.view.reserved is.held);
+  apart = apart-before count d.view.reserved is.apart;
 }
 
 -- what may be used alone is held alone

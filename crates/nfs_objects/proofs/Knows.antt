@@ -12,7 +12,7 @@ use Rattle.nfs_machine.specs.declared.calls.Call.{Call}
 use Rattle.nfs_machine.specs.declared.calls.Call.TheVariants as calls
 use Rattle.nfs_machine.specs.declared.handle.Handle.{Handle}
 use Rattle.nfs_objects.proofs.Seen.{all-map, unknown-unseen}
-use Rattle.nfs_objects.specs.Asks.{Asks, WantsNumber, Lacks, IsThere, MayAsk}
+use Rattle.nfs_objects.specs.Asks.{Asks, WantsNumber, WantsNumbers, Lacks, IsThere, MayAsk}
 use Rattle.nfs_objects.specs.Attempt.{StopsCall}
 use Rattle.nfs_wire.specs.declared.calls.NfsCall.{NfsCall}
 use Rattle.side_wire.specs.declared.nlm.NlmCall.{NlmCall}
@@ -50,12 +50,16 @@ lacks-stops d named numbers a (Need asked) l bounded = asks-one d.modes named d.
 lacks-stops d named numbers a (Fresh count) l bounded = absurd l.asked
 lacks-stops d named numbers a Memory l bounded = tt
 
--- and so does a number that is wanted
+-- and so do numbers that are wanted
+pub numbers-stop : (d : DraftValue) (named : List Addr) (numbers : ℕ) (halt : Halt) → WantsNumbers d numbers halt →
+    StopsCall d.modes named numbers d.view halt
+numbers-stop d named numbers (Fresh count) wants = wants
+numbers-stop d named numbers (Need asked) wants = absurd wants
+numbers-stop d named numbers Memory wants = absurd wants
+
 pub fresh-stops : (d : DraftValue) (named : List Addr) (halt : Halt) → WantsNumber d halt →
     StopsCall d.modes named 1 d.view halt
-fresh-stops d named (Fresh count) fresh = fresh
-fresh-stops d named (Need asked) fresh = absurd fresh
-fresh-stops d named Memory fresh = absurd fresh
+fresh-stops d named halt wants = numbers-stop d named 1 halt wants
 
 -- what stops the call with a changed draft stops it
 pub turned-stops : (d new : DraftValue) (op : Kept → Kept) (named : List Addr) (numbers : ℕ) (halt : Halt) →

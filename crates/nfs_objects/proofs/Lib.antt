@@ -23,6 +23,7 @@ pub mod PageRuns
 pub mod Parting
 pub mod Placed
 pub mod Promised
+pub mod Renumbering
 pub mod Replaced
 pub mod Rising
 pub mod Seen

@@ -13,7 +13,8 @@ use Rattle.nfs_objects.specs.declared.object.Inode as stored
 use Rattle.nfs_objects.specs.declared.object.Object.{Object}
 use Rattle.nfs_objects.specs.declared.object.Object.TheVariants as objects
 use Rattle.nfs_objects.specs.declared.view.Reserved.{Reserved}
-use Rattle.nfs_objects.specs.Fits.{Fits, HoldsReserved, vacant}
+use Rattle.nfs_machine.proofs.Changes.{apart}
+use Rattle.nfs_objects.specs.Fits.{Fits, HoldsReserved, IsView, NumbersApart, vacant}
 use Rattle.nfs_objects.specs.Stands.{inode_of}
 use Rattle.nfs_objects.specs.Store.{Store, with_write, with_writes}
 use Rattle.nfs_objects.specs.Values.{DraftValue, Seen, ViewValue, is_addr, known_at, seen_at, shown_at, written_at}
@@ -195,6 +196,30 @@ reserved-last view r all none =
     all-append (λ (q : Reserved). seen_at (view.entries ++ vacant r ∷ []) (Inode q.number) ≡ Some (vacant q))
     view.reserved r
     (reserved-more view (vacant r ∷ []) all) (seen-last view.entries (vacant r) none)
+
+-- one more number is not one of those that have their entries, where its address was not seen
+apart-last : (reserved : List Reserved) (r : Reserved) → NumbersApart reserved →
+    AllByRecursion (λ (q : Reserved). (q.number == r.number) ≡ false) reserved → NumbersApart (reserved ++ r ∷ [])
+apart-last [] r all others = (tt, tt)
+apart-last (q ∷ reserved) r all others = (
+  all-append (λ (x : Reserved). (q.number == x.number) ≡ false) reserved r all.0 others.0,
+  apart-last reserved r all.1 others.1,
+)
+
+pub view-more : (view : ViewValue) (more : List Seen) → IsView view →
+    IsView (record { entries = view.entries ++ more; reserved = view.reserved })
+view-more view more is = record { held = reserved-more view more is.held; apart = is.apart }
+
+pub view-last : (view : ViewValue) (r : Reserved) → IsView view → seen_at view.entries (Inode r.number) ≡ None →
+    IsView (record { entries = view.entries ++ vacant r ∷ []; reserved = view.reserved ++ r ∷ [] })
+view-last view r is none = record {
+  held = reserved-last view r is.held none;
+  apart = apart-last view.reserved r is.apart (all-map
+      (λ (q : Reserved). seen_at view.entries (Inode q.number) ≡ Some (vacant q))
+      (λ (q : Reserved). (q.number == r.number) ≡ false)
+      (λ q seen. apart q.number r.number (λ same. (let both : None ≡ Some (vacant q) =
+      sym none ∙ ap (λ n. seen_at view.entries (Inode n)) (sym same) ∙ seen in cc))) view.reserved is.held);
+}
 
 -- ---- what the view shows, and what was written
 pub some-shown : (es : List Seen) (a : Addr) (o : Option Object) → shown_at es a ≡ Some o →

@@ -1,10 +1,10 @@
 -- What a call may ask for.
 use Rattle.std.specs.Prelude.{◌≡◌, ◌≢◌, ◌<◌, ℕ, false, List, [], ◌∷◌, Some, None, IsSome}
-use Rattle.std.specs.Prelude.{◌⊎◌, slice_get}
+use Rattle.std.specs.Prelude.{◌⊎◌, length, slice_get, take}
 use Rattle.std.specs.List.{AllByRecursion}
 use Rattle.nfs_machine.specs.WellFormed.{WellFormed}
 use Rattle.nfs_objects.specs.Calls.{IsAmong}
-use Rattle.nfs_objects.specs.Fits.{Fits}
+use Rattle.nfs_objects.specs.Fits.{Fits, NumbersApart}
 use Rattle.nfs_objects.specs.Modes.{held_mode}
 use Rattle.nfs_objects.specs.Sound.{Sound}
 use Rattle.nfs_objects.specs.Stands.{Kept, Represents}
@@ -56,13 +56,24 @@ pub record IsFirst (d : DraftValue) (r : Reserved) : Type 0 where
   pub first : slice_get d.view.reserved 0 ≡ Some r
   pub known : IsSome (known_at d (addresses.Inode r.number))
 
+-- the numbers are the first so many that may be given, no two are the same, and the draft knows their addresses
+pub record AreFirst (d : DraftValue) (count : ℕ) (reserved : List Reserved) : Type 0 where
+  pub first : reserved ≡ take count d.view.reserved
+  pub counted : length reserved ≡ count
+  pub known : AllByRecursion (λ (r : Reserved). IsSome (known_at d (addresses.Inode r.number))) reserved
+  pub apart : NumbersApart reserved
+
 -- new numbers are asked for: as many as may be wanted, and none was reserved before
 pub record AsksNumbers (numbers : ℕ) (view : ViewValue) (count : ℕ) : Type 0 where
   pub none : view.reserved ≡ []
   pub some : 0 < count
   pub whole : count ≡ numbers
 
--- a number is asked for, since none may be given
+-- so many numbers are asked for, since none may be given
+abbrev pub WantsNumbers : DraftValue → (numbers : ℕ) → Halt → Type 0
+WantsNumbers d numbers (Fresh count) = AsksNumbers numbers d.view count
+WantsNumbers d numbers halt = ⊥
+
+-- a number is
 abbrev pub WantsNumber : DraftValue → Halt → Type 0
-WantsNumber d (Fresh count) = AsksNumbers 1 d.view count
-WantsNumber d halt = ⊥
+WantsNumber d halt = WantsNumbers d 1 halt

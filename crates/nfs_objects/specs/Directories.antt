@@ -1,7 +1,7 @@
 -- How the entries of a directory are kept: in pages by their cookies (RFC 1813, 3.3.16), and once more in parts by
 -- their names (3.3.3). The map in the inode tells which pages and which parts are there.
 use Rattle.std.specs.Prelude.{◌≡◌, ◌⊎◌, ◌<◌, ℕ, ◌+◌, ◌-◌, ◌*◌, ◌/◌, ◌%◌, ◌^◌}
-use Rattle.std.specs.Prelude.{◌==◌, ◌&&◌, ◌||◌, Bool, true, false, not}
+use Rattle.std.specs.Prelude.{◌==◌, ◌&&◌, ◌||◌, Bool, true, false}
 use Rattle.std.specs.Prelude.{List, [], ◌∷◌, Option, Some, None, filter, nat_lt, replicate}
 use Rattle.std.specs.Prelude.{if◌then◌else◌, slice_index_or, slice_set, sum_by}
 use Rattle.std.specs.Hash.DefaultHasher as sip

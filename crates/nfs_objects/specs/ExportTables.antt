@@ -1,5 +1,5 @@
 -- The table of exports: which live, and how far numbers were used.
-use Rattle.std.specs.Prelude.{◌≡◌, ◌≤◌, ◌==◌, ℕ, false, List, [], ◌∷◌, length}
+use Rattle.std.specs.Prelude.{◌≡◌, ◌≤◌, ◌==◌, ℕ, false, List, [], ◌∷◌, Option, length, unwrap_or}
 use Rattle.std.specs.List.{AllByRecursion}
 use Rattle.nfs_machine.specs.Exports.{LivingExport}
 use Rattle.nfs_machine.specs.Paths.{parts}
@@ -10,6 +10,14 @@ pub record ExportTableValue : Type 0 where
   pub exports : List LivingExport
   -- the greatest number that an export ever had
   pub last : ℕ
+
+-- a table with no export, of which no number was used
+abbrev pub no_exports : ExportTableValue
+no_exports = record { exports = []; last = 0 }
+
+-- an absent table is empty
+abbrev pub table_in : Option ExportTableValue → ExportTableValue
+table_in table = unwrap_or table no_exports
 
 -- two exports have not the same number or path (parts between slashes); that no two have one root the state tells
 pub record AreNamedApart (a b : LivingExport) : Type 0 where

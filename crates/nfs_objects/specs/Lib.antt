@@ -22,6 +22,7 @@ pub mod PageRuns
 pub mod Promise
 pub mod Replaced
 pub mod Rooms
+pub mod Roots
 pub mod Same
 pub mod SameLaws
 pub mod Sound

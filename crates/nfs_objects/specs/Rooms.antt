@@ -1,7 +1,7 @@
 -- Views with room for more.
 use Rattle.std.specs.Prelude.{ℕ, ◌≤◌, List, [], ◌∷◌, ◌++◌, Option, Some, None, Box}
 use Rattle.indexmap.specs.IndexMap.{IndexMap, spare}
-use Rattle.nfs_objects.specs.Fits.{HoldsReserved, vacant}
+use Rattle.nfs_objects.specs.Fits.{IsView, vacant}
 use Rattle.nfs_objects.specs.Values.{Seen, ViewValue}
 use Rattle.nfs_objects.specs.declared.view.Reserved.{Reserved}
 
@@ -29,7 +29,7 @@ pub record RoomyValue : Type 0 where
 
 -- so many have room, by how many more entries and numbers there is memory for
 pub record HasRoom (roomy : RoomyValue) (places free : ℕ) : Type 0 where
-  pub reserved : HoldsReserved roomy.view
+  pub reserved : IsView roomy.view
   pub entries : roomy.room ≤ places
   pub numbers : roomy.numbers ≤ free
 

@@ -27,7 +27,7 @@ use Rattle.nfs_objects.specs.declared.object.Object.TheVariants as stored
 use Rattle.nfs_objects.specs.Bits.{has, no_bits, same_bits}
 use Rattle.nfs_objects.specs.Directories.{IsCount, bucket_of, count_in, has_some, in_page, led_in_part, width_in}
 use Rattle.nfs_objects.specs.PageRuns.{lists}
-use Rattle.nfs_objects.specs.ExportTables.{ExportTableValue}
+use Rattle.nfs_objects.specs.ExportTables.{ExportTableValue, no_exports}
 use Rattle.nfs_objects.specs.FileMaps.{FileMapValue, IsContent}
 use Rattle.nfs_objects.specs.Store.{Store}
 use Rattle.nfs_objects.specs.Sums.{stored_usage}
@@ -200,7 +200,7 @@ mounts_of o = mounts_in (table_of o)
 -- the table of exports that stands there; an absent one is empty
 abbrev pub export_table_of : Option Object → ExportTableValue
 export_table_of (Some (stored.Exports table)) = table
-export_table_of o = record { exports = []; last = 0 }
+export_table_of o = no_exports
 
 -- the living exports that stand there
 abbrev pub exports_of : Option Object → List LivingExport

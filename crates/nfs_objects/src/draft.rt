@@ -1,16 +1,18 @@
 //! What a call has read, and what it would write.
 
-ghost use Rattle.std.specs.Prelude.{◌≡◌, ◌∷◌, ◌++◌, [], IsSome, MatchResult, OnErr, OnOk, option_map};
-ghost use Rattle.std.specs.Prelude.{MatchOption, option_copied};
+ghost use Rattle.std.specs.Prelude.{◌≡◌, ◌≤◌, ◌⊎◌, ◌∷◌, ◌++◌, [], IfOk, IsSome, MatchResult, OnErr, OnOk, Some, length};
+ghost use Rattle.std.specs.Prelude.{MatchOption, option_copied, option_map};
 ghost use Rattle.std.specs.Arc.{arc_value};
 ghost use Rattle.nlm_ranges.specs.Buckets.{IsBucket};
-ghost use Rattle.nfs_objects.specs.Asks.{IsFirst, WantsNumber, IsNeed, Lacks};
+ghost use Rattle.nfs_objects.specs.Asks.{AreFirst, IsFirst, WantsNumber, WantsNumbers, IsNeed, Lacks};
+ghost use Rattle.nfs_objects.specs.ExportTables.{IsExportTable, table_in};
+ghost use Rattle.nfs_objects.specs.Fits.{IsView};
 ghost use Rattle.nfs_objects.specs.Knows.{Knows};
 ghost use Rattle.nfs_objects.specs.Modes.{Suits, held_mode};
 ghost use Rattle.nfs_objects.specs.Drafts.{MayChange, MayGive, MayWrite};
 ghost use Rattle.nfs_objects.specs.Promise.{Given, Held};
-ghost use Rattle.nfs_objects.specs.Stands.{IsFitting, block_of, map_of, mounts_in, page_of, part_of, stored_map};
-ghost use Rattle.nfs_objects.specs.Stands.{stored_page};
+ghost use Rattle.nfs_objects.specs.Stands.{IsFitting, block_of, export_table_of, map_of, mounts_in, page_of, part_of};
+ghost use Rattle.nfs_objects.specs.Stands.{stored_map, stored_page};
 ghost use Rattle.nfs_objects.specs.Stands.{bucket_at, bucket_in, stored_bucket};
 ghost use Rattle.nfs_objects.specs.Sums.{stored_usage, usage_of};
 ghost use Rattle.nfs_objects.specs.Values.{change_value, known_at, modes_value, new_draft, pointed, with_written};
@@ -22,10 +24,12 @@ use crate::change::{Change, Halt, Write};
 use crate::directory::Entries;
 use crate::entry_map::NamePlace;
 use crate::entry_page::EntryPage;
+use crate::exports::ExportTable;
 use crate::modes::{Mode, Modes};
 use crate::mounts::MountTable;
 use crate::object::{
-    Inode, Object, block_known, bucket_known, map_known, mount_table, page_known, part_known,
+    Inode, Object, block_known, bucket_known, export_table_known, map_known, mount_table,
+    page_known, part_known,
 };
 use crate::usage::{Usage, usage_known};
 use crate::view::{Reserved, View};
@@ -147,6 +151,21 @@ impl<'a> Draft<'a> {
             }
         }
         last
+    }
+
+    /// The table of exports, if there is one.
+    ///
+    /// # Errors
+    ///
+    /// `Need` of it where it was not read, and `Memory`.
+    pub fn export_table(&self) -> Result<Option<&ExportTable>, Halt>
+        ensures known { MatchResult result
+            (λ table. option_map export_table_of (known_at self.now Addr.Exports)
+            ≡ Some (table_in (option_copied table)))
+            (Lacks self.now Addr.Exports) }
+        ensures table { IfOk result (λ table. IsExportTable (table_in (option_copied table))) }
+    {
+        Ok(export_table_known(self.find(Addr::Exports)?))
     }
 
     /// The table of mounts, if there is one.
@@ -385,6 +404,24 @@ impl<'a> Draft<'a> {
         self.write(Addr::Mounts, Some(object))
     }
 
+    /// Puts a table of exports in the place of the one that was read.
+    ///
+    /// # Errors
+    ///
+    /// `AllocError` where the memory was refused. It changes nothing.
+    pub fn put_exports(&mut self, table: ExportTable) -> Result<(), AllocError>
+        requires alone { self.old.modes.exports ≡ Mode.Exclusive }
+        requires known { IsSome (known_at self.old Addr.Exports) }
+        ensures ok { OnOk result (self.new ≡ with_written self.old Addr.Exports (Some (Object.Exports table))) }
+        ensures table { OnOk result (IsExportTable table) }
+        ensures err { OnErr result (self.new ≡ self.old) }
+    {
+        // The list brings what is true of every table.
+        let _list = table.list();
+        let object = Arc::new(self.alloc, Object::Exports(table))?;
+        self.write(Addr::Exports, Some(object))
+    }
+
     /// What a group of an export's objects uses.
     ///
     /// # Errors
@@ -491,6 +528,25 @@ impl<'a> Draft<'a> {
             Some(reserved) => Ok(reserved),
             None => Err(Halt::Fresh(1)),
         }
+    }
+
+    /// The first so many numbers that may be given to new objects, with their generations. There are as many, or none.
+    ///
+    /// # Errors
+    ///
+    /// `Fresh` where there are none.
+    pub fn fresh_all(&self, count: u32) -> Result<&'a [Reserved], Halt>
+        requires { (self.now.view.reserved ≡ []) ⊎ (count ≤ length self.now.view.reserved) }
+        ensures numbers { MatchResult result
+            (λ reserved. AreFirst self.now count reserved.now)
+            (WantsNumbers self.now count) }
+        ensures view { IsView self.now.view }
+    {
+        let reserved = self.view.reserved();
+        if reserved.len() < count as usize {
+            return Err(Halt::Fresh(count));
+        }
+        Ok(&reserved[..count as usize])
     }
 
     /// The end of the call: its writes and messages, and what it answers.

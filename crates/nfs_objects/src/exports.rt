@@ -1,10 +1,14 @@
 //! The exports that live.
 
-ghost use Rattle.std.specs.Prelude.{◌≡◌, IfOk, length};
+ghost use Rattle.std.specs.Prelude.{◌≡◌, ◌≤◌, ◌<◌, ◌+◌, ◌^◌, [], ◌∷◌, false, None, IfOk, length, option_copied};
 ghost use Rattle.std.specs.List.{list_any};
 ghost use Rattle.nfs_machine.specs.Bytes.{same_bytes};
 ghost use Rattle.nfs_machine.specs.Exports.{every_host, export_value};
+ghost use Rattle.nfs_machine.specs.Replacing.{export_with_path, is_exhausted, new_count, renumbered};
+ghost use Rattle.nfs_objects.specs.ExportTables.{table_in};
+ghost use Rattle.nfs_objects.specs.Roots.{root_choice};
 
+use crate::view::Reserved;
 use bytes::Bytes;
 use nfs_machine::{Export, Exports};
 use std::alloc::{AllocError, Global};
@@ -197,6 +201,120 @@ impl ExportTable {
             list: Arc::new(alloc, list)?,
             last: given.len() as u32,
         })
+    }
+
+    /// A copy of the table that stands somewhere; an absent one is empty.
+    ///
+    /// # Errors
+    ///
+    /// `AllocError` where the memory for one more owner, or for an empty table, was refused.
+    pub fn copied(alloc: Global, table: Option<&ExportTable>) -> Result<ExportTable, AllocError>
+        ensures { IfOk result (λ t. t ≡ table_in (option_copied table.entry)) }
+    {
+        match table {
+            Some(table) => table.clone(),
+            None => Ok(ExportTable {
+                list: Arc::new(alloc, Vec::new(alloc))?,
+                last: 0,
+            }),
+        }
+    }
+
+    /// The table of the exports that replace these, in the order given: a path that was exported keeps its number and
+    /// its root, and each new path has the next number above the last, and the next of these numbers for its root.
+    ///
+    /// # Errors
+    ///
+    /// `AllocError` where the memory for the table was refused.
+    pub fn replaced(
+        &self,
+        alloc: Global,
+        exports: &Exports,
+        roots: &[Reserved],
+    ) -> Result<ExportTable, AllocError>
+        requires room { is_exhausted self.now.exports self.now.last exports.now ≡ false }
+        requires roots { new_count self.now.exports exports.now ≤ length roots.now }
+        ensures exports { IfOk result (λ t. t.exports ≡ renumbered self.now.exports
+            (λ number. (root_choice roots.now self.now.last number).number) self.now.last exports.now) }
+        ensures last { IfOk result (λ t. t.last ≡ self.now.last + new_count self.now.exports exports.now) }
+    {
+        let given = exports.list();
+        let mut list = Vec::with_capacity(alloc, given.len())?;
+        let mut last = self.last();
+        for export in given {
+            let living = self.kept_or_new(export, last, roots)?;
+            last = last.max(living.number());
+            list.push(living)?;
+        }
+        Ok(ExportTable {
+            list: Arc::new(alloc, list)?,
+            last,
+        })
+    }
+
+    /// An export with the number and the root of its path; a new one with those that follow, where the last number so
+    /// far is this one.
+    fn kept_or_new(
+        &self,
+        export: &Export,
+        last: u32,
+        roots: &[Reserved],
+    ) -> Result<LivingExport, AllocError>
+        requires above { self.now.last ≤ last }
+        requires room { export_with_path self.now.exports export.now.path ≡ None → last + 1 < 2 ^ 32 }
+        requires roots { export_with_path self.now.exports export.now.path ≡ None →
+            last + 1 ≤ self.now.last + length roots.now }
+        ensures { IfOk result (λ living. living ∷ [] ≡ renumbered self.now.exports
+            (λ number. (root_choice roots.now self.now.last number).number) last (export_value export.now ∷ [])) }
+    {
+        match self.with_path(&export.path) {
+            Some(was) => Ok(LivingExport {
+                number: was.number(),
+                root: was.root(),
+                export: copy_export(export)?,
+            }),
+            None => Ok(LivingExport {
+                number: last + 1,
+                root: roots[(last - self.last()) as usize].number,
+                export: copy_export(export)?,
+            }),
+        }
+    }
+
+    /// How many of these exports have a path that is not exported.
+    pub fn new_count(&self, exports: &Exports) -> u32
+        ensures count { result ≡ new_count self.now.exports exports.now }
+        ensures few { result ≤ 64 }
+    {
+        let mut count = 0;
+        for export in exports.list() {
+            if self.with_path(&export.path).is_none() {
+                count += 1;
+            }
+        }
+        count
+    }
+
+    /// Whether the numbers of the new ones among these exports would not fit 32 bits.
+    pub fn is_exhausted(&self, exports: &Exports) -> bool
+        ensures { result ≡ is_exhausted self.now.exports self.now.last exports.now }
+    {
+        self.last().checked_add(self.new_count(exports)).is_none()
+    }
+
+    /// The living export with a path.
+    pub fn with_path(&self, path: &Bytes) -> Option<&LivingExport>
+        ensures { option_copied result ≡ export_with_path self.now.exports path.now }
+    {
+        self.list().iter().find(|export| *export.path() == *path)
+    }
+
+    /// The greatest number that an export ever had; 0 where there was none.
+    pub fn last(&self) -> u32
+        ensures last { result ≡ self.now.last }
+        ensures table { IsExportTable self.now }
+    {
+        self.last
     }
 
     /// The exports that live, in the order given.

@@ -40,7 +40,7 @@ pub use entry_page::{EntryPage, NamedLeaf, PAGE_COOKIES};
 pub use exports::{ExportTable, LivingExport};
 pub use file_map::FileMap;
 pub use hashing::BUCKETS;
-pub use modes::{CHANGING, LOCKING, MOUNTING, Mode, Modes, READING};
+pub use modes::{CHANGING, LOCKING, MOUNTING, Mode, Modes, READING, REPLACING};
 pub use mounts::{Leaving, MOUNT_LIMIT, Mount, MountTable, Mounts};
 pub use nfs_machine::Handle;
 pub use object::{Content, DIRECTORY_SIZE, Inode, Object};

@@ -3,7 +3,9 @@
 ghost use Rattle.std.specs.Prelude.{◌≡◌, false, MatchOption, option_map, option_copied};
 ghost use Rattle.std.specs.Arc.{arc_value};
 ghost use Rattle.nfs_machine.specs.Attributes.{is_directory};
-ghost use Rattle.nfs_objects.specs.Stands.{block_of, content_of, exports_of, header_of, inode_of, lock_bucket_of};
+ghost use Rattle.nfs_objects.specs.ExportTables.{IsExportTable, table_in};
+ghost use Rattle.nfs_objects.specs.Stands.{block_of, content_of, export_table_of, exports_of, header_of, inode_of};
+ghost use Rattle.nfs_objects.specs.Stands.{lock_bucket_of};
 ghost use Rattle.nfs_objects.specs.Stands.{map_of, page_of};
 ghost use Rattle.nfs_objects.specs.Stands.{part_of, table_of};
 
@@ -264,6 +266,19 @@ pub fn export_list(known: &Option<Arc<Object>>) -> &[LivingExport]
         Some(Object::Exports(table)) => table.list(),
         _ => &[],
     }
+}
+
+/// The table of exports that stands where this is known; None where nothing does, or what is no such table.
+pub fn export_table_known(known: &Option<Arc<Object>>) -> Option<&ExportTable>
+    ensures of { export_table_of (option_map arc_value known.now) ≡ table_in (option_copied result) }
+    ensures table { IsExportTable (table_in (option_copied result)) }
+{
+    let Object::Exports(table) = known.as_deref()? else {
+        return None;
+    };
+    // The list brings what is true of every table.
+    let _list = table.list();
+    Some(table)
 }
 
 /// The inode that stands where this is known; None where nothing does, or what is no inode.

@@ -5,7 +5,7 @@ ghost use Rattle.std.specs.Prelude.{OnOk, Some};
 ghost use Rattle.std.specs.Prelude.{option_map};
 ghost use Rattle.std.specs.Prelude.{slice_get, length, ◌==◌};
 ghost use Rattle.std.specs.Arc.{arc_value};
-ghost use Rattle.nfs_objects.specs.Fits.{HoldsReserved, vacant};
+ghost use Rattle.nfs_objects.specs.Fits.{HoldsReserved, NumbersApart, vacant};
 ghost use Rattle.nfs_objects.specs.Values.{pointed, seen_at, seen_of, shown_at};
 
 mod entries;
@@ -66,14 +66,14 @@ pub struct View {
 }
 
 impl Model for View {
-    ghost use Rattle.nfs_objects.specs.Fits.{HoldsReserved};
+    ghost use Rattle.nfs_objects.specs.Fits.{IsView};
     ghost use Rattle.nfs_objects.specs.Values.{ViewValue};
 
     ghost Value = { ViewValue };
 
     ghost view = { λ v. record { entries = v.entries.seen; reserved = v.reserved.items } };
 
-    ghost invariant = { λ v. HoldsReserved
+    ghost invariant = { λ v. IsView
         (record { entries = v.entries.seen; reserved = v.reserved.items }) };
 }
 
@@ -155,6 +155,7 @@ impl View {
     pub fn reserved(&self) -> &[Reserved]
         ensures reserved { result.now ≡ self.now.reserved }
         ensures kept { HoldsReserved self.now }
+        ensures apart { NumbersApart self.now.reserved }
     {
         &self.reserved
     }

@@ -1,6 +1,6 @@
 use Rattle.std.proofs.Common.{◌<◌, [], ◌∷◌, arith, subst, sym}
-use Rattle.nfs_objects.proofs.Seen.{reserved-more}
-use Rattle.nfs_objects.specs.Fits.{HoldsReserved}
+use Rattle.nfs_objects.proofs.Seen.{view-more}
+use Rattle.nfs_objects.specs.Fits.{IsView}
 use Rattle.nfs_objects.specs.Rooms.{RoomyValue}
 use Rattle.nfs_objects.specs.Values.{seen_of}
 use Rattle.nfs_objects.proofs.view.RoomyView.put.Goals as goal
@@ -9,9 +9,9 @@ pub invariant_of-self : goal.invariant_of-self
 invariant_of-self c =
     let some : 0 < c.self.inside.room = subst (λ (v : RoomyValue). 0 < v.room) (sym c.self.view_is) c.requires.room in
     record {
-      reserved = subst (λ es. HoldsReserved (record { entries = es; reserved = c.self.inside.reserved.items }))
+      reserved = subst (λ es. IsView (record { entries = es; reserved = c.self.inside.reserved.items }))
           (sym c.push.ensures.seen)
-          (reserved-more
+          (view-more
           (record { entries = c.self.inside.entries.seen; reserved = c.self.inside.reserved.items })
           (seen_of (c.args.address, record { mode = c.args.mode; object = c.args.object }) ∷ [])
           c.self.invariant.reserved);

@@ -1,7 +1,7 @@
 use Rattle.std.proofs.Common.{◌≡◌, ◌+◌, ◌<◌, [], ◌∷◌, None, length, ap, arith}
 use Rattle.std.proofs.Common.{length-append, subst, sym, ◌∙◌}
-use Rattle.nfs_objects.proofs.Seen.{reserved-last}
-use Rattle.nfs_objects.specs.Fits.{HoldsReserved}
+use Rattle.nfs_objects.proofs.Seen.{view-last}
+use Rattle.nfs_objects.specs.Fits.{IsView}
 use Rattle.nfs_objects.specs.Rooms.{RoomyValue}
 use Rattle.nfs_objects.specs.Values.{ViewValue, seen_at}
 use Rattle.nfs_objects.specs.declared.address.Addr.TheVariants.{Inode}
@@ -17,9 +17,9 @@ invariant_of-self c =
     let more : length c.push_reserved.new.self.items ≡ length old.reserved + 1 =
     ap length c.push_reserved.ensures.items ∙ length-append old.reserved (c.args.reserved ∷ []) in
     record {
-      reserved = subst HoldsReserved
+      reserved = subst IsView
           (λ i. record { entries = sym c.push.ensures.seen i; reserved = sym c.push_reserved.ensures.items i })
-          (reserved-last old c.args.reserved c.self.invariant.reserved unseen);
+          (view-last old c.args.reserved c.self.invariant.reserved unseen);
       entries = omega (arith, some, c.push.ensures.room, c.self.invariant.entries);
       numbers = omega (arith, more, c.push_reserved.ensures.capacity, c.self.invariant.numbers);
     }

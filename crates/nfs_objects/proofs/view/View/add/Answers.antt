@@ -1,14 +1,14 @@
 use Rattle.std.proofs.Common.{◌++◌, [], ◌∷◌, sym, ap, ◌∙◌, subst}
-use Rattle.nfs_objects.proofs.Seen.{reserved-more}
-use Rattle.nfs_objects.specs.Fits.{HoldsReserved}
+use Rattle.nfs_objects.proofs.Seen.{view-more}
+use Rattle.nfs_objects.specs.Fits.{IsView}
 use Rattle.nfs_objects.specs.Values.{Seen, seen_of}
 use Rattle.nfs_objects.proofs.view.View.add.Goals as goal
 
 pub invariant_of-self-2 : goal.invariant_of-self-2
 invariant_of-self-2 c =
     let one : Seen = seen_of (c.args.address, record { mode = c.args.mode; object = c.args.object }) in
-    subst (λ es. HoldsReserved (record { entries = es; reserved = c.self.inside.reserved.items }))
+    subst (λ es. IsView (record { entries = es; reserved = c.self.inside.reserved.items }))
     (sym (c.push.ensures.seen ∙ ap (λ es. es ++ one ∷ []) c.reserve.ensures.kept))
-    (reserved-more
+    (view-more
     (record { entries = c.self.inside.entries.seen; reserved = c.self.inside.reserved.items }) (one ∷ [])
     c.self.invariant)

@@ -1,6 +1,6 @@
 use Rattle.std.proofs.Common.{◌≡◌, ◌++◌, [], ◌∷◌, None, sym, ap, ◌∙◌, subst}
-use Rattle.nfs_objects.proofs.Seen.{reserved-last}
-use Rattle.nfs_objects.specs.Fits.{HoldsReserved, vacant}
+use Rattle.nfs_objects.proofs.Seen.{view-last}
+use Rattle.nfs_objects.specs.Fits.{IsView, vacant}
 use Rattle.nfs_objects.specs.Values.{ViewValue, seen_at}
 use Rattle.nfs_objects.specs.declared.address.Addr.TheVariants.{Inode}
 use Rattle.nfs_objects.proofs.view.View.add_reserved.Goals as goal
@@ -14,5 +14,5 @@ invariant_of-self-2 c =
     c.push.ensures.seen ∙ ap (λ es. es ++ vacant c.args.reserved ∷ []) c.reserve.ensures.kept in
     let pushed : c.push_reserved.new.self.items ≡ old.reserved ++ c.args.reserved ∷ [] =
     c.push_reserved.ensures.items ∙ ap (λ rs. rs ++ c.args.reserved ∷ []) c.reserve-2.ensures.items in
-    subst HoldsReserved (λ i. record { entries = sym seen i; reserved = sym pushed i })
-    (reserved-last old c.args.reserved c.self.invariant unseen)
+    subst IsView (λ i. record { entries = sym seen i; reserved = sym pushed i })
+    (view-last old c.args.reserved c.self.invariant unseen)
