@@ -38,9 +38,12 @@ pub mod Putting
 pub mod Reading
 pub mod Relinked
 pub mod Relisting
+pub mod Rooted
+pub mod RootsMade
 pub mod Showing
 pub mod SoundBut
 pub mod Standing
+pub mod Staying
 pub mod StillKnown
 pub mod TakenAsks
 pub mod Taking

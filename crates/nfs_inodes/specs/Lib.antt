@@ -14,5 +14,6 @@ pub mod Makes
 pub mod Removes
 pub mod Renames
 pub mod Rights
+pub mod Roots
 pub mod Sets
 pub mod Stops

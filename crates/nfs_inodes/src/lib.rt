@@ -20,6 +20,7 @@ pub mod making;
 pub mod names;
 pub mod permission;
 pub mod removing;
+pub mod roots;
 pub mod setting;
 pub mod times;
 pub mod tree;
@@ -48,6 +49,7 @@ pub use making::{
 pub use names::{name_checked, plain_name_checked};
 pub use permission::{Right, class_bits, is_member, may, reads, runs};
 pub use removing::take_name;
+pub use roots::{ask_roots, make_root, put_table};
 pub use setting::{Settings, set_attributes};
 pub use times::{is_client_time, is_server_time, is_time, now, time_set, touch};
 pub use tree::{above, is_within};

@@ -2,5 +2,8 @@ pub mod Best
 pub mod Fronts
 pub mod Listed
 pub mod Mounted
+pub mod NewExports
 pub mod Parts
+pub mod Replacing
+pub mod Rooting
 pub mod Walked

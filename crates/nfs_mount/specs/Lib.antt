@@ -1,4 +1,5 @@
 pub mod Changes
 pub mod Choices
 pub mod Fronts
+pub mod Replaces
 pub mod Targets

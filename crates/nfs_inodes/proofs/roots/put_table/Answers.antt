@@ -1,0 +1,8 @@
+use Rattle.nfs_inodes.proofs.Counting.{on-ok}
+use Rattle.nfs_inodes.proofs.Rooted.{table-turns}
+use Rattle.nfs_inodes.proofs.roots.put_table.Goals as goal
+
+pub returns-clause-turns : goal.returns-clause-turns
+returns-clause-turns c =
+    on-ok c.put_exports.result (table-turns c.args.draft.now c.put_exports.new.self c.args.table c.requires.follows)
+    c.put_exports.ensures.ok
