@@ -1,4 +1,4 @@
--- A call that was asked is of a procedure that is built: its header was read, and the last test of a header is that.
+-- A call that a record asks is of a procedure that is built: its header was read, and the last test of a header is that.
 use Rattle.std.proofs.Common.{◌≡◌, ℕ, Bool, true, false, List, Result, Ok, Err, IfOk, refl, sym, subst}
 use Rattle.nfs_rpc.specs.Early.{◌>>=◌, call_of, heading_of, holding}
 use Rattle.nfs_rpc.specs.Messages.{CallHeader}
@@ -6,10 +6,10 @@ use Rattle.nfs_rpc.specs.Programs.{is_built}
 use Rattle.nfs_rpc.specs.declared.faults.Early.{Early}
 use Rattle.nfs_rpc.specs.declared.programs.Program.{Program}
 use Rattle.nfs_rpc.specs.declared.programs.Program.TheVariants as programs
-use Rattle.nfs_machine.specs.Run.{IsCall}
+use Rattle.nfs_machine.specs.Run.{Arrival, FromHost, NewExports, IsCall}
 use Rattle.nfs_machine.specs.declared.calls.Call.{Call}
 use Rattle.nfs_machine.specs.declared.calls.Call.TheVariants as calls
-use Rattle.nfs_engine.specs.Asked.{IsAsked}
+use Rattle.nfs_engine.specs.Asked.{IsAsked, IsAskedBy}
 use Rattle.nfs_engine.specs.Built.{IsBuilt}
 use Rattle.nfs_engine.specs.declared.asking.Asked.{Asked}
 
@@ -44,3 +44,7 @@ pub asked-built : (bytes : List ℕ) (asked : Asked) → IsAsked bytes asked →
 asked-built bytes asked is =
     let header : HasBuilt is.header = subst (λ (r : Result CallHeader Early). IfOk r HasBuilt) is.read (record-built bytes) in
     of-built is.header.program is.header.procedure is.header.arguments asked.call is.is_call header
+
+pub arrival-built : (arrival : Arrival) (asked : Asked) → IsAskedBy arrival asked → IsBuilt asked.call
+arrival-built (FromHost received) asked is = asked-built received.bytes asked is
+arrival-built (NewExports exports moment) asked is = subst (λ (a : Asked). IsBuilt a.call) (sym is) tt

@@ -14,7 +14,7 @@ use Rattle.nfs_machine.proofs.Short.{replies_short, refusals_short}
 use Rattle.nfs_machine.proofs.SideReplies.{nlm_replies_form}
 use Rattle.nfs_machine.specs.Laws.{IsShort}
 use Rattle.nfs_machine.specs.Refusal.{nfs_refusal, nlm_refusal, refusal_of}
-use Rattle.nfs_machine.specs.Run.{FromHost, Received, Setting, context_of}
+use Rattle.nfs_machine.specs.Run.{Arrival, FromHost, NewExports, Received, Setting, context_of}
 use Rattle.nfs_machine.specs.SideLaws.{AskedFits, CallFits, NlmMessagesHaveForm}
 use Rattle.nfs_machine.specs.State.{State}
 use Rattle.nfs_machine.specs.Step.{Step}
@@ -29,7 +29,7 @@ use Rattle.nfs_engine.proofs.Bounds.{mount-form}
 use Rattle.nfs_engine.proofs.NlmSizes.{nlm-size}
 use Rattle.nfs_engine.proofs.Quiet.{mount-quiet, nfs-quiet, replace-quiet}
 use Rattle.nfs_engine.proofs.Sizes.{mount_refused_size}
-use Rattle.nfs_engine.specs.Asked.{IsAsked}
+use Rattle.nfs_engine.specs.Asked.{IsAsked, IsAskedBy}
 use Rattle.nfs_engine.specs.Bounds.{IsWithinBounds}
 use Rattle.nfs_engine.specs.Forms.{HasForm, RefusalHasForm}
 use Rattle.nfs_engine.specs.Posting.{HaveForms}
@@ -131,3 +131,9 @@ asked-within bytes asked is = within-asked ctx asked.call (spelled_calls_fit set
 -- so its refusal has its form
 pub asked-refusal : (bytes : List ℕ) (asked : Asked) → IsAsked bytes asked → RefusalHasForm (refusal_of asked.call)
 asked-refusal bytes asked is = refusal_form asked.call (asked-within bytes asked is)
+
+pub arrival-refusal : (arrival : Arrival) (asked : Asked) → IsAskedBy arrival asked →
+    RefusalHasForm (refusal_of asked.call)
+arrival-refusal (FromHost received) asked is = asked-refusal received.bytes asked is
+arrival-refusal (NewExports exports moment) asked is =
+    subst (λ (a : Asked). RefusalHasForm (refusal_of a.call)) (sym is) (refusal_form (calls.Replace exports) tt)

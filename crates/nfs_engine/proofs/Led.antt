@@ -5,8 +5,8 @@ use Rattle.nfs_machine.proofs.Bounds.{spelled_calls_fit}
 use Rattle.nfs_machine.proofs.Kept.{steps_keep_form}
 use Rattle.nfs_machine.proofs.Runs.{run-append}
 use Rattle.nfs_machine.specs.RpcReplies.{success_message}
-use Rattle.nfs_machine.specs.Run.{Executes, FromHost, Received, ReceivedAsks, Record, Run, Setting}
-use Rattle.nfs_machine.specs.SideLaws.{AskedFits, NlmMessagesHaveForm}
+use Rattle.nfs_machine.specs.Run.{Arrival, FromHost, NewExports, Asks, Executes, Record, Run, Setting}
+use Rattle.nfs_machine.specs.SideLaws.{AskedFits, HostFits, NlmMessagesHaveForm}
 use Rattle.nfs_machine.specs.State.{State}
 use Rattle.nfs_machine.specs.declared.calls.Call.{Call}
 use Rattle.nfs_machine.specs.declared.context.Ctx.{Ctx}
@@ -16,11 +16,10 @@ use Rattle.nfs_objects.specs.Store.{Store, with_writes}
 use Rattle.nfs_objects.specs.declared.address.Addr.{Addr}
 use Rattle.nfs_replies.specs.Replies.{RepliesValue}
 use Rattle.nfs_engine.proofs.Bounds.{step-within}
-use Rattle.nfs_engine.proofs.Built.{asked-built}
 use Rattle.nfs_engine.proofs.Formed.{IsWithin, step_form, step_messages, within-asked}
+use Rattle.nfs_engine.specs.Arrivals.{HostIsNamed}
 use Rattle.nfs_engine.specs.Book.{BookValue, Commits, IsRun, LeadsBook, LeadsFrom, MayCommit, Rebases, StandsFor}
 use Rattle.nfs_engine.specs.Book.{Steps, book_value, store_in}
-use Rattle.nfs_engine.specs.Built.{IsBuilt}
 use Rattle.nfs_engine.specs.Calls.{FinishedValue, IsCalled, IsUnder}
 use Rattle.nfs_engine.specs.Commits.{SameJournal, Writes, counted_bytes, record_of}
 use Rattle.nfs_engine.specs.Forms.{HasForm}
@@ -29,6 +28,7 @@ use Rattle.nfs_engine.specs.Journal.{JournalValue, OutboxValue, RecordsValue}
 use Rattle.nfs_engine.specs.Repeats.{Keeps}
 use Rattle.nfs_engine.specs.Running.{CallsValue, origin_at, without_call}
 use Rattle.nfs_engine.specs.Tables.{KeptValue, store_of}
+use Rattle.nfs_engine.specs.declared.asking.Asked.{Asked}
 
 -- ---- what changes neither records nor store
 pub same_leads : (old new : BookValue) → new.records ≡ old.records → new.objects ≡ old.objects →
@@ -74,36 +74,40 @@ begun_run b base began none l = record {
 }
 
 -- ---- what a call asks
-module _ (received : Received) (xid : ℕ) (call : Call) (ctx : Ctx) (called : IsCalled received xid call ctx) where
-  called_asks : (setting : Setting) → IsUnder setting ctx → ReceivedAsks setting received ctx call
-  called_asks setting under = record {
-    header = called.header;
-    read = called.read;
-    is_call = called.is_call;
-    made_under = λ i. record {
-      host = called.host i;
-      ids = sym called.ids i;
-      moment = called.moment i;
-      start = under.start i;
-      limits = under.limits i;
-    };
-  }
+called_asks : (received : Arrival) (xid : ℕ) (call : Call) (ctx : Ctx) → IsCalled received xid call ctx →
+    (setting : Setting) → IsUnder setting ctx → Asks setting received ctx call
+called_asks (FromHost received) xid call ctx called setting under = record {
+  header = called.asked.header;
+  read = called.asked.read;
+  is_call = called.asked.is_call;
+  made_under = λ i. record {
+    host = called.host i;
+    ids = sym called.asked.ids i;
+    moment = called.moment i;
+    start = under.start i;
+    limits = under.limits i;
+  };
+}
+called_asks (NewExports exports moment) xid call ctx called setting under = (
+  ap (λ (a : Asked). a.call) called.asked,
+  λ i. record {
+    host = called.host i;
+    ids = ap (λ (a : Asked). a.ids) called.asked i;
+    moment = called.moment i;
+    start = under.start i;
+    limits = under.limits i;
+  },
+)
 
-  called_fits : (setting : Setting) → IsUnder setting ctx → AskedFits ctx call
-  called_fits setting under =
-      spelled_calls_fit setting (FromHost received) ctx call called.named.1
-      (called_asks setting under)
+host_fits : (arrival : Arrival) → HostIsNamed arrival → HostFits arrival
+host_fits (FromHost received) named = named.1
+host_fits (NewExports exports moment) named = tt
 
-  called_built : IsBuilt call
-  called_built =
-      asked-built received.bytes (record { xid = xid; ids = ctx.ids; call = call })
-      (record {
-        header = called.header;
-        read = called.read;
-        is_call = called.is_call;
-        xid = called.number;
-        ids = called.ids;
-      })
+called_fits : (received : Arrival) (xid : ℕ) (call : Call) (ctx : Ctx) → IsCalled received xid call ctx →
+    (setting : Setting) → IsUnder setting ctx → AskedFits ctx call
+called_fits received xid call ctx called setting under =
+    spelled_calls_fit setting received ctx call (host_fits received called.named)
+    (called_asks received xid call ctx called setting under)
 
 -- ---- commits
 -- what the store stands for, with what is kept beside the state

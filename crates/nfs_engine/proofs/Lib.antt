@@ -5,6 +5,7 @@ pub mod Bounds
 pub mod Built
 pub mod CallSizes
 pub mod Came
+pub mod Counted
 pub mod Dropped
 pub mod Ended
 pub mod Filled

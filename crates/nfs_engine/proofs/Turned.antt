@@ -2,11 +2,12 @@
 use Rattle.std.proofs.Common.{◌≡◌, ◌≢◌, ℕ, ◌-◌, ◌^◌, Bool, true, false, cond, List, [], Option, Some, None, IfSome}
 use Rattle.std.proofs.Common.{IsSome, Ok, Err, inl, inr, refl, sym, ap, subst, ◌∙◌}
 use Rattle.nfs_machine.specs.Changing.{is_changing}
-use Rattle.nfs_machine.specs.Run.{Received, Setting, context_of}
+use Rattle.nfs_machine.specs.Run.{Arrival, FromHost, NewExports, Setting, context_of}
+use Rattle.nfs_machine.specs.declared.calls.Call.{Call}
 use Rattle.nfs_replies.specs.Kept.ReplyEvent.{Repeated}
 use Rattle.nfs_replies.specs.Replies.{IsAfter, RepliesValue}
 use Rattle.nfs_replies.specs.declared.origins.Origin.{Origin}
-use Rattle.nfs_engine.specs.Arrivals.{ArrivalValue, received_value}
+use Rattle.nfs_engine.specs.Arrivals.{ArrivalValue, incoming_value}
 use Rattle.nfs_engine.specs.Book.{Admits, AsksChange, BeginsCall, BookValue, IsNoRepeat, IsUnknown, Repeats}
 use Rattle.nfs_engine.specs.Book.{StillRuns, book_value}
 use Rattle.nfs_engine.specs.Calls.{TxnValue}
@@ -25,7 +26,7 @@ use Rattle.nfs_engine.specs.declared.running.AdmitError.TheVariants.{Memory, Spe
 asks_same : (x y : Asked) → Asks x ≡ Asks y → x ≡ y
 asks_same x y same = ap (λ (r : Reading). elim r [ Asks asked ↦ asked | Faulted answer ↦ x ]) same
 
-module _ (b : BookValue) (received : Received) (asked : Asked) where
+module _ (b : BookValue) (received : Arrival) (asked : Asked) where
   abbrev pub arrival : ArrivalValue
   arrival = record { received = received; reading = Asks asked }
 
@@ -57,7 +58,7 @@ module _ (journal : JournalValue) (replies : RepliesValue) (calls : CallsValue) 
   abbrev with_calls : CallsValue → BookValue
   with_calls later = book_value journal replies later setting limit
 
-  pub turned : (received : Received) (asked : Asked) (later : CallsValue) (origin : Option Origin)
+  pub turned : (received : Arrival) (asked : Asked) (later : CallsValue) (origin : Option Origin)
       (error : AdmitError) → IsBegun calls later origin (Err error) → origin ≡ origin_of received asked.call →
       IfSome origin (IsUnknown (with_calls calls)) →
       Admits (with_calls calls) (with_calls later) (arrival (with_calls calls) received asked)
@@ -72,13 +73,24 @@ module _ (journal : JournalValue) (replies : RepliesValue) (calls : CallsValue) 
       (sym same.0) (spent (with_calls calls) received asked origin is unknown same.1)
 
 -- ---- candidates
+-- where a repeat would come with this, the call changes something
+comes_with : (received : Arrival) (call : Call) (o : Origin) → origin_of received call ≡ Some o →
+    (is_changing call ≡ true) × (o ≡ origin_in received)
+comes_with (FromHost received) call o some = by (is_changing call) some
+  where
+    by : (t : Bool) → cond t (Some (origin_in (FromHost received))) None ≡ Some o →
+        (t ≡ true) × (o ≡ origin_in (FromHost received))
+    by true e = (refl, let same : o ≡ origin_in (FromHost received) = cc in same)
+    by false e = cc
+comes_with (NewExports exports moment) call o some = cc
+
 module _ (r : Request) (origin : Option Origin) (is : IsCandidate r origin) where
   abbrev asked_by : Asked
   asked_by = record { xid = r.xid; ids = r.ctx.ids; call = r.call }
 
   -- what one would begin is no repeat, where nothing is known of what it came with
   pub none_known : (b : BookValue) → IfSome origin (IsUnknown b) → IsNoRepeat b (candidate_value r)
-  none_known b unknown = no_repeat b (received_value r.received) asked_by origin is.origin_is unknown
+  none_known b unknown = no_repeat b (incoming_value r.received) asked_by origin is.origin_is unknown
 
   -- and the other way round
   pub known_of : (b : BookValue) → IsNoRepeat b (candidate_value r) → IfSome origin (IsUnknown b)
@@ -86,25 +98,20 @@ module _ (r : Request) (origin : Option Origin) (is : IsCandidate r origin) wher
 
   -- where a repeat would come with this, it changes something
   pub changes_with : (o : Origin) → origin ≡ Some o →
-      (is_changing r.call ≡ true) × (o ≡ origin_in (received_value r.received))
-  changes_with o some = by (is_changing r.call) (sym is.origin_is ∙ some)
-    where
-      by : (t : Bool) → cond t (Some (origin_in (received_value r.received))) None ≡ Some o →
-          (t ≡ true) × (o ≡ origin_in (received_value r.received))
-      by true e = (refl, let same : o ≡ origin_in (received_value r.received) = cc in same)
-      by false e = cc
+      (is_changing r.call ≡ true) × (o ≡ origin_in (incoming_value r.received))
+  changes_with o some = comes_with (incoming_value r.received) r.call o (sym is.origin_is ∙ some)
 
   pub asks_change : (o : Origin) → origin ≡ Some o → AsksChange (candidate_value r)
   asks_change o some = record { asked = asked_by; asks = refl; changes = (changes_with o some).0 }
 
   -- what is known of what it came with, as the book tells it
   module _ (old new : BookValue) (o x : Origin) (some : origin ≡ Some o) (same : x ≡ o) where
-    came : x ≡ origin_in (received_value r.received)
+    came : x ≡ origin_in (incoming_value r.received)
     came = same ∙ (changes_with o some).1
 
     pub recalled_kept : (reply : List ℕ) (kept : RepeatValue) → (kept_for old.replies x ≡ Some reply) ×
         IsAfter (Repeated x.host x.bytes) old.replies new.replies × (new ≡ record old { replies = new.replies }) →
-        kept ≡ record { received = received_value r.received; reply = reply } →
+        kept ≡ record { received = incoming_value r.received; reply = reply } →
         Repeats old new (candidate_value r) kept
     recalled_kept reply kept known is_kept = record {
       asks = asks_change o some;
@@ -143,7 +150,7 @@ pub entered : (journal : JournalValue) (replies : RepliesValue) (calls later : C
     IsBegun calls later origin (Ok place) → t ≡ record {
       id = place.id;
       key = place.key;
-      received = received_value r.received;
+      received = incoming_value r.received;
       xid = r.xid;
       call = r.call;
       ctx = record (r.ctx) { start = setting.start; limits = setting.limits };
@@ -156,7 +163,7 @@ entered journal replies calls later setting limit r origin t place is none began
   txn = txn ∙ (λ i. let u : TxnValue = record {
     id = began.0 i;
     key = key_is i;
-    received = received_value r.received;
+    received = incoming_value r.received;
     xid = r.xid;
     call = r.call;
     ctx = context_of setting (is.host i) r.ctx.ids (is.moment i);

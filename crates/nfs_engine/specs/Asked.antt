@@ -1,4 +1,4 @@
--- What a record asks, as it is read.
+-- What a record asks, as it is read, and what exports ask that replace those before.
 use Rattle.std.specs.Prelude.{◌≡◌, ℕ, List, Result, Ok, Err}
 use Rattle.nfs_xdr.specs.Programs.{CallHoldsBytes}
 use Rattle.nfs_xdr.specs.declared.arguments.ArgumentsError.{ArgumentsError}
@@ -10,8 +10,9 @@ use Rattle.nfs_rpc.specs.Early.{call_of}
 use Rattle.nfs_rpc.specs.Messages.{CallHeader}
 use Rattle.nfs_rpc.specs.declared.programs.Program.{Program}
 use Rattle.nfs_rpc.specs.declared.programs.Program.TheVariants.{Nfs, Mount, Nlm}
-use Rattle.nfs_machine.specs.Run.{IsCall}
+use Rattle.nfs_machine.specs.Run.{Arrival, FromHost, NewExports, IsCall, no_ids}
 use Rattle.nfs_machine.specs.declared.calls.Call.{Call}
+use Rattle.nfs_machine.specs.declared.calls.Call.TheVariants as calls
 use Rattle.nfs_machine.specs.RpcReplies.{FirstFault}
 use Rattle.nfs_engine.specs.declared.asking.Asked.{Asked}
 use Rattle.nfs_engine.specs.declared.asking.Unasked.{Unasked}
@@ -37,6 +38,12 @@ pub record IsAsked (bytes : List ℕ) (asked : Asked) : Type 0 where
   pub is_call : IsCall header.program header.procedure header.arguments asked.call
   pub xid : header.xid ≡ asked.xid
   pub ids : header.ids ≡ asked.ids
+
+-- what came in asks this call; exports ask that they replace those before, and nobody calls
+abbrev pub IsAskedBy : Arrival → Asked → Type 0
+IsAskedBy (FromHost received) asked = IsAsked received.bytes asked
+IsAskedBy (NewExports exports moment) asked =
+    asked ≡ record { xid = 0; ids = no_ids; call = calls.Replace exports }
 
 -- a record asks a call, or has a fault, or there is no memory for the arguments of the call that it is
 abbrev pub ReadsRecord : List ℕ → Result Asked Unasked → Type 0

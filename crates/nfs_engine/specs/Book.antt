@@ -6,7 +6,7 @@ use Rattle.std.specs.Prelude.{None, Result, Ok, Err, Bool, true, ◌||◌, nat_l
 use Rattle.side_wire.specs.declared.message.Message.{Message}
 use Rattle.nfs_machine.specs.Changing.{is_changing}
 use Rattle.nfs_machine.specs.RpcReplies.{success_message}
-use Rattle.nfs_machine.specs.Run.{Record, Run, Setting, context_of}
+use Rattle.nfs_machine.specs.Run.{Record, Run, Setting, bytes_in, context_of, host_in, moment_in}
 use Rattle.nfs_machine.specs.State.{State}
 use Rattle.nfs_machine.specs.Step.{Step}
 use Rattle.nfs_machine.specs.WellFormed.{WellFormed}
@@ -20,8 +20,8 @@ use Rattle.nfs_objects.specs.declared.usage.Usage.{Usage}
 use Rattle.nfs_replies.specs.Kept.ReplyEvent.{Repeated}
 use Rattle.nfs_replies.specs.Replies.{IsAfter, RepliesValue}
 use Rattle.nfs_replies.specs.declared.origins.Origin.{Origin}
-use Rattle.nfs_engine.specs.Arrivals.{ArrivalValue, received_value, shared_value}
-use Rattle.nfs_engine.specs.Asked.{IsAsked}
+use Rattle.nfs_engine.specs.Arrivals.{ArrivalValue, incoming_value, shared_value}
+use Rattle.nfs_engine.specs.Asked.{IsAskedBy}
 use Rattle.nfs_engine.specs.Bounds.{IsWithinBounds}
 use Rattle.nfs_engine.specs.Calls.{FinishedValue, IsUnder, PendingValue, TxnValue}
 use Rattle.nfs_engine.specs.Commits.{counted_bytes, record_of}
@@ -143,7 +143,7 @@ pub record Commits (old new : BookValue) (f : FinishedValue) : Type 0 where
       new.replies
 
 -- ---- admissions
--- the call that a record asks begins under the next number, and has read nothing
+-- the call that came in begins under the next number, and has read nothing
 abbrev pub new_txn : BookValue → ArrivalValue → Asked → (key : ℕ) → TxnValue
 new_txn b a asked key = record {
   id = b.next_id;
@@ -151,7 +151,7 @@ new_txn b a asked key = record {
   received = a.received;
   xid = asked.xid;
   call = asked.call;
-  ctx = context_of b.setting a.received.host asked.ids a.received.moment;
+  ctx = context_of b.setting (host_in a.received) asked.ids (moment_in a.received);
   view = record { entries = []; reserved = [] };
 }
 
@@ -169,7 +169,7 @@ pub record BeginsCall (old new : BookValue) (a : ArrivalValue) (t : TxnValue) : 
   pub joins : Joins old.living new.living t.key t.id (origin_of a.received asked.call)
   pub rest : new ≡ record old { living = new.living; next_id = old.next_id + 1 }
 
--- a record that asks a call that changes something
+-- what asks a call that changes something
 pub record AsksChange (a : ArrivalValue) : Type 0 where
   pub asked : Asked
   pub asks : a.reading ≡ readings.Asks asked
@@ -180,7 +180,7 @@ pub record Repeats (old new : BookValue) (a : ArrivalValue) (kept : RepeatValue)
   pub asks : AsksChange a
   pub received : kept.received ≡ a.received
   pub reply : kept_for old.replies (origin_in a.received) ≡ Some kept.reply
-  pub front : IsAfter (Repeated a.received.host a.received.bytes) old.replies new.replies
+  pub front : IsAfter (Repeated (host_in a.received) (bytes_in a.received)) old.replies new.replies
   pub rest : new ≡ record old { replies = new.replies }
 
 -- no reply is kept for it, and a call in progress came with the same: nothing changes
@@ -191,14 +191,14 @@ pub record StillRuns (old new : BookValue) (a back : ArrivalValue) : Type 0 wher
   pub handed : back ≡ a
   pub unchanged : new ≡ old
 
--- A record that asks a call begins, but a repeat of a call that changes something: it has the reply that is kept, or
--- nothing while that call is in progress. A record with a fault has its answer.
+-- What asks a call begins, but a repeat of a call that changes something: it has the reply that is kept, or nothing
+-- while that call is in progress. A record with a fault has its answer.
 abbrev pub IsAdmitted : BookValue → BookValue → ArrivalValue → Admission → Type 0
 IsAdmitted old new a (admission.Begin txn) = BeginsCall old new a txn
 IsAdmitted old new a (admission.Repeat kept) = Repeats old new a kept
 IsAdmitted old new a (admission.Running back) = StillRuns old new a back
 IsAdmitted old new a (admission.Early early) = (a.reading ≡ readings.Faulted early.answer) ×
-    (received_value early.received ≡ a.received) × (new ≡ old)
+    (incoming_value early.received ≡ a.received) × (new ≡ old)
 
 -- what is known of what came with this, where it asks a call that changes something; nothing changes but that a reply
 -- that is kept comes to the front; no memory only for a reply that is kept
@@ -220,7 +220,7 @@ IsWant b Spent = b.next_id ≡ 2 ^ 64 - 1
 abbrev pub Prepares : ArrivalValue → Result Prepared ArrivalValue → Type 0
 Prepares a (Ok (prepared.Call candidate)) = candidate ≡ a
 Prepares a (Ok (prepared.Early fault)) =
-    (a.reading ≡ readings.Faulted fault.answer) × (received_value fault.received ≡ a.received)
+    (a.reading ≡ readings.Faulted fault.answer) × (incoming_value fault.received ≡ a.received)
 Prepares a (Err back) = (back ≡ a) × (asked : Asked) × (a.reading ≡ readings.Asks asked)
 
 -- only what asks a call is refused, and then all is as it was
@@ -235,7 +235,7 @@ abbrev pub IsNoRepeat : BookValue → ArrivalValue → Type 0
 IsNoRepeat b a = (asked : Asked) → a.reading ≡ readings.Asks asked →
     IfSome (origin_of a.received asked.call) (IsUnknown b)
 
--- a record that asks a call that changes something, for which a reply is kept
+-- what asks a call that changes something, for which a reply is kept
 pub record IsRepeat (b : BookValue) (a : ArrivalValue) : Type 0 where
   pub asks : AsksChange a
   pub kept : IsSome (kept_for b.replies (origin_in a.received))
@@ -254,9 +254,9 @@ Admits old new a (Err (error, back)) = IsRefused old new a back × IsAdmitError 
 -- ---- what the book was asked
 -- the call is given up: it is what came in, and is no longer in progress
 pub record GivesUp (old new : BookValue) (p : PendingValue) (refused : Refused) : Type 0 where
-  pub received : received_value refused.received ≡ p.received
+  pub received : incoming_value refused.received ≡ p.received
   pub asked : refused.asked ≡ record { xid = p.xid; ids = p.ctx.ids; call = p.call }
-  pub asks : IsAsked p.received.bytes refused.asked
+  pub asks : IsAskedBy p.received refused.asked
   pub rest : new ≡ record old { living = without_call old.living p.key p.id }
 
 -- the oldest message is taken, under the next number; none only where there is none

@@ -1,19 +1,17 @@
 -- Calls in progress: what they are, and what they have read.
-use Rattle.std.specs.Prelude.{◌≡◌, ℕ, [], map, Ok}
+use Rattle.std.specs.Prelude.{◌≡◌, ℕ, [], map}
 use Rattle.std.specs.Arc.{arc_value}
 use Rattle.std.specs.declared.sync.Arc.{Arc}
 use Rattle.std.specs.declared.alloc.Global.{Global}
 use Rattle.std.specs.declared.vec.Vec.{Vec}
-use Rattle.nfs_rpc.specs.Early.{call_of}
-use Rattle.nfs_rpc.specs.Messages.{CallHeader}
-use Rattle.nfs_machine.specs.Run.{IsCall, Received, Setting}
+use Rattle.nfs_machine.specs.Run.{Arrival, Setting, host_in, moment_in}
 use Rattle.nfs_machine.specs.declared.calls.Call.{Call}
 use Rattle.nfs_machine.specs.declared.context.Ctx.{Ctx}
 use Rattle.nfs_objects.specs.Promise.{IsPromised}
 use Rattle.nfs_objects.specs.Values.{ChangeValue, DoneValue, ViewValue, done_value, write_value}
 use Rattle.nfs_objects.specs.declared.change.Write.{Write}
-use Rattle.nfs_engine.specs.Arrivals.{received_value}
-use Rattle.nfs_engine.specs.Hosts.{IsHost}
+use Rattle.nfs_engine.specs.Arrivals.{HostIsNamed, incoming_value}
+use Rattle.nfs_engine.specs.Asked.{IsAskedBy}
 use Rattle.nfs_engine.specs.declared.arrival.Executed.{Executed}
 
 -- what a call is made under was made by a server that was started so
@@ -21,23 +19,19 @@ pub record IsUnder (setting : Setting) (ctx : Ctx) : Type 0 where
   pub start : ctx.start ≡ setting.start
   pub limits : ctx.limits ≡ setting.limits
 
--- the call is what the record asks that came in, with this xid, and is made under who sent it and when
-pub record IsCalled (received : Received) (xid : ℕ) (call : Call) (ctx : Ctx) : Type 0 where
-  pub header : CallHeader
-  pub read : call_of received.bytes ≡ Ok header
-  pub is_call : IsCall header.program header.procedure header.arguments call
-  pub number : header.xid ≡ xid
-  pub ids : header.ids ≡ ctx.ids
-  pub host : ctx.host ≡ received.host
-  pub moment : ctx.moment ≡ received.moment
-  pub named : IsHost received.host
+-- the call is what asks that came in, with this xid, and is made under who sent it and when
+pub record IsCalled (received : Arrival) (xid : ℕ) (call : Call) (ctx : Ctx) : Type 0 where
+  pub asked : IsAskedBy received (record { xid = xid; ids = ctx.ids; call = call })
+  pub host : ctx.host ≡ host_in received
+  pub moment : ctx.moment ≡ moment_in received
+  pub named : HostIsNamed received
 
 pub record TxnValue : Type 0 where
   -- a number that no other call ever has
   pub id : ℕ
   -- its place among the calls in progress
   pub key : ℕ
-  pub received : Received
+  pub received : Arrival
   pub xid : ℕ
   pub call : Call
   pub ctx : Ctx
@@ -46,14 +40,14 @@ pub record TxnValue : Type 0 where
 pub record FinishedValue : Type 0 where
   pub id : ℕ
   pub key : ℕ
-  pub received : Received
+  pub received : Arrival
   pub xid : ℕ
   pub done : DoneValue
 
 pub record PendingValue : Type 0 where
   pub id : ℕ
   pub key : ℕ
-  pub received : Received
+  pub received : Arrival
   pub xid : ℕ
   pub call : Call
   pub ctx : Ctx
@@ -109,9 +103,9 @@ change_from writes executed = record {
 abbrev pub done_from : Call → Ctx → ViewValue → Vec Write Global → Arc Executed Global → DoneValue
 done_from call ctx view writes executed = done_value call ctx view (change_from writes executed)
 
--- the call is what its record asks, its end keeps the promise, and it is recorded as what came in
-pub record IsFinished (received : Received) (xid : ℕ) (done : DoneValue)
+-- the call is what came in asks, its end keeps the promise, and it is recorded with what came in
+pub record IsFinished (received : Arrival) (xid : ℕ) (done : DoneValue)
     (executed : Arc Executed Global) : Type 0 where
   pub called : IsCalled received xid done.call done.ctx
   pub promised : IsPromised done
-  pub recorded : received_value (arc_value executed).received ≡ received
+  pub recorded : incoming_value (arc_value executed).received ≡ received

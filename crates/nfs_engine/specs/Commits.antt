@@ -1,8 +1,9 @@
 -- Commits: what is made before one, and what one writes.
 use Rattle.std.specs.Prelude.{◌≡◌, ◌+◌, ◌-◌, ◌^◌, ◌<◌, ◌≤◌, ℕ, false, min, []}
-use Rattle.std.specs.Prelude.{List, ◌∷◌, ◌++◌, length, map, replicate, Option}
+use Rattle.std.specs.Prelude.{List, ◌∷◌, ◌++◌, length, map, replicate, sum_by, Option}
+use Rattle.nfs_machine.specs.Exports.{ExportValue}
 use Rattle.nfs_machine.specs.RpcReplies.{success_message}
-use Rattle.nfs_machine.specs.Run.{FromHost, Record}
+use Rattle.nfs_machine.specs.Run.{Arrival, FromHost, NewExports, Record}
 use Rattle.nfs_objects.specs.Store.{with_writes}
 use Rattle.nfs_objects.specs.Values.{write_value}
 use Rattle.nfs_objects.specs.declared.address.Addr.{Addr}
@@ -23,12 +24,21 @@ use Rattle.nfs_engine.specs.declared.release.Then.TheVariants.{Ended}
 -- what is recorded of a call
 abbrev pub record_of : FinishedValue → Record
 record_of f = record
-    { arrival = FromHost f.received; reply = f.done.change.reply; messages = f.done.change.messages }
+    { arrival = f.received; reply = f.done.change.reply; messages = f.done.change.messages }
+
+-- the bytes of an export's path and of its hosts
+abbrev pub export_bytes : ExportValue → ℕ
+export_bytes e = length e.path + sum_by length e.hosts
+
+-- how many bytes came in
+abbrev pub arrival_bytes : Arrival → ℕ
+arrival_bytes (FromHost received) = length received.bytes
+arrival_bytes (NewExports exports moment) = sum_by export_bytes exports
 
 -- what a record is counted as: the bytes that came in, those of the answer, and those of its messages
 abbrev pub counted_bytes : FinishedValue → ℕ
 counted_bytes f =
-    length f.received.bytes + length (success_message f.xid f.done.change.reply) +
+    arrival_bytes f.received + length (success_message f.xid f.done.change.reply) +
     posted_bytes f.done.change.messages
 
 -- the record and its messages have numbers up to 2^64 - 1, the record this one

@@ -1,6 +1,6 @@
-//! What admitting a record comes to.
+//! What admitting what came in comes to.
 
-use crate::arrival::{Arrival, Received};
+use crate::arrival::{Arrival, Incoming};
 use crate::asking::Asked;
 use crate::calls::Txn;
 use crate::kept::Kept;
@@ -8,12 +8,12 @@ use crate::kept::Kept;
 /// A record with a fault, and its answer.
 #[derive(Drop)]
 pub struct Faulted {
-    pub received: Received,
+    pub received: Incoming,
     /// None where the record is dropped.
     pub answer: Option<Vec<u8>>,
 }
 
-/// What admitting a record that came in comes to.
+/// What admitting what came in comes to.
 pub enum Admission {
     /// Its call is in progress.
     Begin(Txn),
@@ -28,6 +28,6 @@ pub enum Admission {
 /// A call that was given up: it is not executed.
 #[derive(Drop)]
 pub struct Refused {
-    pub received: Received,
+    pub received: Incoming,
     pub asked: Asked,
 }

@@ -17,10 +17,11 @@ ghost use Rattle.nfs_objects.specs.Store.{with_writes};
 ghost use Rattle.nfs_objects.specs.Values.{write_value};
 ghost use Rattle.nfs_machine.specs.Changing.{is_changing};
 ghost use Rattle.nfs_machine.specs.RpcReplies.{success_message};
+ghost use Rattle.nfs_machine.specs.Run.{FromHost};
 ghost use Rattle.nfs_engine.specs.declared.arrival.Reading.TheVariants as readings;
 
 use crate::admission::{Admission, Refused};
-use crate::arrival::{Arrival, Executed, Reading, Received};
+use crate::arrival::{Arrival, Executed, Incoming, Reading, Received};
 use crate::asking::Asked;
 use crate::calls::{Finished, Pending, Txn};
 use crate::candidate::{Candidate, Prepared};
@@ -122,8 +123,8 @@ impl Book {
         self.journal.objects().count()
     }
 
-    /// Admits a record that came in. Its call is in progress; or it is a repeat of a call that changes something, and
-    /// has the reply that is kept, or waits for that call; or it has a fault, which takes no memory.
+    /// Admits what came in. Its call is in progress; or it is a repeat of a call that changes something, and has the
+    /// reply that is kept, or waits for that call; or it is a record with a fault, which takes no memory.
     ///
     /// # Errors
     ///
@@ -144,8 +145,8 @@ impl Book {
         }
     }
 
-    /// Admits a record that asks a call, for which all is made: its call is in progress, or it is a repeat of a call
-    /// that changes something, and has the reply that is kept, or waits for that call.
+    /// Admits what asks a call, for which all is made: its call is in progress, or it is a repeat of a call that
+    /// changes something, and has the reply that is kept, or waits for that call.
     ///
     /// # Errors
     ///
@@ -172,25 +173,42 @@ impl Book {
         }
     }
 
-    /// Turns a record away that asks a call for which there is no memory; but a repeat has the reply that is kept, or
-    /// waits for the call that came with the same.
+    /// Turns away what asks a call for which there is no memory; but a repeat has the reply that is kept, or waits for
+    /// the call that came with the same.
     fn turn_away(&mut self, arrival: Arrival) -> Result<Admission, (AdmitError, Arrival)>
         requires { (asked : Asked) × (arrival.reading ≡ readings.Asks asked) }
         ensures { Admits self.old self.new arrival result }
     {
         let (received, reading) = arrival.into_parts();
         match reading {
-            Reading::Asks(asked) => {
-                if !is_changing(&asked.call) {
-                    return Err((self.want(), Arrival::asking(received, asked)));
-                }
-                self.turn_change_away(received, asked)
-            }
+            Reading::Asks(asked) => match received {
+                Incoming::Record(received) => self.turn_record_away(received, asked),
+                Incoming::Exports(..) => Err((self.want(), Arrival::asking(received, asked))),
+            },
             Reading::Faulted(_) => unreachable!(),
         }
     }
 
-    /// The same of one that asks a call that changes something.
+    /// The same of a record.
+    fn turn_record_away(
+        &mut self,
+        received: Received,
+        asked: Asked,
+    ) -> Result<Admission, (AdmitError, Arrival)>
+        requires { IsAsked (received_value received).bytes asked }
+        ensures { Admits self.old self.new
+            (record { received = FromHost (received_value received); reading = readings.Asks asked }) result }
+    {
+        if !is_changing(&asked.call) {
+            return Err((
+                self.want(),
+                Arrival::asking(Incoming::Record(received), asked),
+            ));
+        }
+        self.turn_change_away(received, asked)
+    }
+
+    /// The same of a record that asks a call that changes something.
     fn turn_change_away(
         &mut self,
         received: Received,
@@ -199,9 +217,11 @@ impl Book {
         requires asked { IsAsked (received_value received).bytes asked }
         requires changes { is_changing asked.call ≡ true }
         ensures { Admits self.old self.new
-            (record { received = received_value received; reading = readings.Asks asked }) result }
+            (record { received = FromHost (received_value received); reading = readings.Asks asked }) result }
     {
-        match self.recall(received.host.text(), Sought::new(&received.message)) {
+        let recalled = self.recall(received.host.text(), Sought::new(&received.message));
+        let received = Incoming::Record(received);
+        match recalled {
             Ok(Recalled::Kept(reply)) => {
                 drop(asked);
                 Ok(Admission::Repeat(Kept::new(received, reply)))
@@ -237,7 +257,7 @@ impl Book {
         Ok(Recalled::Unknown)
     }
 
-    /// Begins the call that a record asks, which is no repeat.
+    /// Begins the call that is asked, which is no repeat.
     fn enter(
         &mut self,
         alloc: Global,
@@ -294,7 +314,7 @@ impl Book {
         ensures leaves { IfOk result (Leaves finished) }
         ensures err { IfErr result (λ back. (back ≡ finished) × (self.new ≡ self.old)) }
     {
-        // They bring that this is what its record asks and keeps the promise, and that messages can be spelled.
+        // They bring that this is what came in asks and keeps the promise, and that messages can be spelled.
         finished.is_finished();
         side_replies_have_forms();
         let Some(numbered) = self.journal.make_room_for(alloc, &finished) else {
@@ -352,8 +372,8 @@ impl Book {
         self.journal.new_era(alloc)
     }
 
-    /// How many records the era has, and what they are counted as: for each the bytes that came in, those of its
-    /// answer, and those of its messages.
+    /// How many records the era has, and what they are counted as: for each the bytes that came in, of exports those
+    /// of their paths and hosts, the bytes of its answer, and those of its messages.
     pub fn era_size(&self) -> (u64, u64)
         ensures { result ≡ (length self.now.records, self.now.bytes) }
     {

@@ -29,7 +29,7 @@ pub struct Txn {
 }
 
 impl Model for Txn {
-    ghost use Rattle.nfs_engine.specs.Arrivals.{received_value};
+    ghost use Rattle.nfs_engine.specs.Arrivals.{incoming_value};
     ghost use Rattle.nfs_engine.specs.Calls.{IsCalled, TxnValue};
 
     ghost Value = { TxnValue };
@@ -37,14 +37,14 @@ impl Model for Txn {
     ghost view = { λ t. record {
       id = t.id;
       key = t.key;
-      received = received_value t.request.value.received;
+      received = incoming_value t.request.value.received;
       xid = t.request.value.xid;
       call = t.request.value.call;
       ctx = t.request.value.ctx;
       view = t.view;
     } };
 
-    ghost invariant = { λ t. IsCalled (received_value t.request.value.received) t.request.value.xid
+    ghost invariant = { λ t. IsCalled (incoming_value t.request.value.received) t.request.value.xid
         t.request.value.call t.request.value.ctx };
 }
 
@@ -70,7 +70,7 @@ impl Txn {
         &self.view
     }
 
-    /// It is what its record asks.
+    /// It is what came in asks.
     pub fn is_called(&self)
         ensures { IsCalled self.now.received self.now.xid self.now.call self.now.ctx }
     {
@@ -160,7 +160,7 @@ pub struct Finished {
 impl Model for Finished {
     ghost use Rattle.std.specs.Prelude.{map};
     ghost use Rattle.nfs_objects.specs.Values.{write_value};
-    ghost use Rattle.nfs_engine.specs.Arrivals.{received_value, shared_value};
+    ghost use Rattle.nfs_engine.specs.Arrivals.{incoming_value, shared_value};
     ghost use Rattle.nfs_engine.specs.Calls.{FinishedValue, IsFinished, done_from};
     ghost use Rattle.nfs_engine.specs.Made.{IsMade};
 
@@ -169,12 +169,12 @@ impl Model for Finished {
     ghost view = { λ f. record {
       id = f.id;
       key = f.key;
-      received = received_value f.request.value.received;
+      received = incoming_value f.request.value.received;
       xid = f.request.value.xid;
       done = done_from f.request.value.call f.request.value.ctx f.view f.writes f.executed;
     } };
 
-    ghost invariant = { λ f. IsFinished (received_value f.request.value.received) f.request.value.xid
+    ghost invariant = { λ f. IsFinished (incoming_value f.request.value.received) f.request.value.xid
         (done_from f.request.value.call f.request.value.ctx f.view f.writes f.executed) f.executed ×
         IsMade f.request.value.xid (map write_value f.writes.items) (shared_value f.executed) f.ready };
 }
@@ -222,7 +222,7 @@ impl Finished {
         }
     }
 
-    /// It is what its record asks, and keeps the promise.
+    /// It is what came in asks, and keeps the promise.
     pub fn is_finished(&self)
         ensures called { IsCalled self.now.received self.now.xid self.now.done.call self.now.done.ctx }
         ensures promised { IsPromised self.now.done }
@@ -263,7 +263,7 @@ pub struct Pending {
 }
 
 impl Model for Pending {
-    ghost use Rattle.nfs_engine.specs.Arrivals.{received_value};
+    ghost use Rattle.nfs_engine.specs.Arrivals.{incoming_value};
     ghost use Rattle.nfs_engine.specs.Calls.{IsCalled, PendingValue};
 
     ghost Value = { PendingValue };
@@ -271,13 +271,13 @@ impl Model for Pending {
     ghost view = { λ p. record {
       id = p.id;
       key = p.key;
-      received = received_value p.request.value.received;
+      received = incoming_value p.request.value.received;
       xid = p.request.value.xid;
       call = p.request.value.call;
       ctx = p.request.value.ctx;
     } };
 
-    ghost invariant = { λ p. IsCalled (received_value p.request.value.received) p.request.value.xid
+    ghost invariant = { λ p. IsCalled (incoming_value p.request.value.received) p.request.value.xid
         p.request.value.call p.request.value.ctx };
 }
 

@@ -1,15 +1,15 @@
 //! What the admission of a call wants, made before it.
 
 ghost use Rattle.std.specs.Prelude.{◌≡◌, IfOk, IfErr};
-ghost use Rattle.nfs_engine.specs.Arrivals.{received_value};
-ghost use Rattle.nfs_engine.specs.Asked.{IsAsked};
+ghost use Rattle.nfs_machine.specs.Run.{FromHost, host_in, moment_in};
+ghost use Rattle.nfs_engine.specs.Arrivals.{HostIsNamed, incoming_value, received_value};
+ghost use Rattle.nfs_engine.specs.Asked.{IsAskedBy};
 ghost use Rattle.nfs_engine.specs.Book.{Prepares};
-ghost use Rattle.nfs_engine.specs.Hosts.{IsHost};
 ghost use Rattle.nfs_engine.specs.Repeats.{origin_of};
 ghost use Rattle.nfs_engine.specs.declared.arrival.Reading.TheVariants as readings;
 
 use crate::admission::Faulted;
-use crate::arrival::{Arrival, Reading, Received};
+use crate::arrival::{Arrival, Incoming, Reading, Received};
 use crate::asking::Asked;
 use crate::changing::is_changing;
 use crate::request::Request;
@@ -18,7 +18,7 @@ use nfs_replies::Origin;
 use std::alloc::{AllocError, Global};
 use std::marker::Model;
 
-/// A record that came in and asks a call, with all that the call's admission wants. A clause sees it as the arrival.
+/// What came in and asks a call, with all that the call's admission wants. A clause sees it as the arrival.
 #[derive(Drop)]
 pub struct Candidate {
     pub(crate) request: Box<Request>,
@@ -37,12 +37,12 @@ impl Model for Candidate {
     ghost invariant = { λ c. IsCandidate c.request.value c.origin };
 }
 
-/// What a record is for its admission.
+/// What came in, as its admission takes it.
 #[derive(Drop)]
 pub enum Prepared {
     /// It asks a call.
     Call(Candidate),
-    /// It has a fault.
+    /// It is a record with a fault.
     Early(Faulted),
 }
 
@@ -68,19 +68,19 @@ impl Arrival {
 }
 
 impl Candidate {
-    /// The candidate of a record that asks this.
+    /// The candidate of what asks this.
     ///
     /// # Errors
     ///
     /// The arrival, where there is no memory for it.
-    fn new(alloc: Global, received: Received, asked: Asked) -> Result<Candidate, Arrival>
-        requires { IsAsked (received_value received).bytes asked }
+    fn new(alloc: Global, received: Incoming, asked: Asked) -> Result<Candidate, Arrival>
+        requires { IsAskedBy (incoming_value received) asked }
         ensures made { IfOk result (λ candidate. candidate ≡ record {
-          received = received_value received;
+          received = incoming_value received;
           reading = readings.Asks asked;
         }) }
         ensures back { IfErr result (λ arrival. arrival ≡ record {
-          received = received_value received;
+          received = incoming_value received;
           reading = readings.Asks asked;
         }) }
     {
@@ -114,8 +114,8 @@ impl Candidate {
     }
 
     /// What came in.
-    pub(crate) fn into_received(self) -> Received
-        ensures { received_value result ≡ self.received }
+    pub(crate) fn into_received(self) -> Incoming
+        ensures { incoming_value result ≡ self.received }
     {
         let Candidate { request, origin } = self;
         drop(origin);
@@ -127,17 +127,18 @@ impl Candidate {
 
 /// What a call came with, if it changes something, and what it is made under. What the server was started with comes at
 /// the admission.
-fn beginning(received: &Received, asked: &Asked) -> Result<(Option<Origin>, Ctx), AllocError>
-    ensures origin { IfOk result (λ b. b.0 ≡ origin_of (received_value received.now) asked.now.call) }
-    ensures host { IfOk result (λ b. b.1.host ≡ received.now.host) }
+fn beginning(received: &Incoming, asked: &Asked) -> Result<(Option<Origin>, Ctx), AllocError>
+    ensures origin { IfOk result (λ b. b.0 ≡ origin_of (incoming_value received.now) asked.now.call) }
+    ensures host { IfOk result (λ b. b.1.host ≡ host_in (incoming_value received.now)) }
     ensures ids { IfOk result (λ b. b.1.ids ≡ asked.now.ids) }
-    ensures moment { IfOk result (λ b. b.1.moment ≡ received.now.moment) }
-    ensures named { IsHost received.now.host }
+    ensures moment { IfOk result (λ b. b.1.moment ≡ moment_in (incoming_value received.now)) }
+    ensures named { HostIsNamed (incoming_value received.now) }
 {
+    received.host_is_named();
     let ctx = Ctx {
-        host: received.host.text().clone()?,
+        host: received.host()?,
         ids: asked.ids,
-        moment: received.moment,
+        moment: received.moment(),
         start: 0,
         limits: Limits { total_bytes: 0 },
     };
@@ -145,8 +146,18 @@ fn beginning(received: &Received, asked: &Asked) -> Result<(Option<Origin>, Ctx)
 }
 
 /// What a call came with, if it changes something.
-fn origin_of(received: &Received, call: &Call) -> Result<Option<Origin>, AllocError>
-    ensures { IfOk result (λ origin. origin ≡ origin_of (received_value received.now) call.now) }
+fn origin_of(received: &Incoming, call: &Call) -> Result<Option<Origin>, AllocError>
+    ensures { IfOk result (λ origin. origin ≡ origin_of (incoming_value received.now) call.now) }
+{
+    match received {
+        Incoming::Record(received) => origin_of_record(received, call),
+        Incoming::Exports(..) => Ok(None),
+    }
+}
+
+/// The same of a call that a record asks.
+fn origin_of_record(received: &Received, call: &Call) -> Result<Option<Origin>, AllocError>
+    ensures { IfOk result (λ origin. origin ≡ origin_of (FromHost (received_value received.now)) call.now) }
 {
     if !is_changing(call) {
         return Ok(None);

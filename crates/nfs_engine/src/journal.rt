@@ -170,7 +170,7 @@ impl Journal {
             executed,
         } = ready;
         drop(spelled);
-        let bytes = counted(request.received.message.len(), answer.len(), posted);
+        let bytes = counted(request.received.size(), answer.len(), posted);
         self.objects.install(writes);
         self.objects.remove_idle(&own);
         self.outbox.post(messages);
@@ -209,10 +209,8 @@ impl Journal {
 }
 
 /// What a record is counted as, of so many bytes that came in, of the answer and of its messages.
-fn counted(message: usize, answer: usize, posted: u64) -> u64
-    ensures { result ≡ min (message + answer + posted) (2 ^ 64 - 1) }
+fn counted(came: u64, answer: usize, posted: u64) -> u64
+    ensures { result ≡ min (came + answer + posted) (2 ^ 64 - 1) }
 {
-    (message as u64)
-        .saturating_add(answer as u64)
-        .saturating_add(posted)
+    came.saturating_add(answer as u64).saturating_add(posted)
 }

@@ -1,10 +1,10 @@
 //! Replies that are kept, for calls that come again.
 
 ghost use Rattle.std.specs.Prelude.{◌≡◌, IfSome, None, OnErr, OnOk, option_copied};
-ghost use Rattle.nfs_engine.specs.Arrivals.{received_value};
+ghost use Rattle.nfs_engine.specs.Arrivals.{incoming_value};
 ghost use Rattle.nfs_engine.specs.Repeats.{Keeps, kept_for};
 
-use crate::arrival::Received;
+use crate::arrival::Incoming;
 use bytes::Bytes;
 use nfs_replies::{Origin, Replies};
 use std::alloc::{AllocError, Global};
@@ -13,29 +13,29 @@ use std::marker::Model;
 /// A record that came again, with the reply that was kept for it. Only `admit` makes one.
 #[derive(Drop)]
 pub struct Kept {
-    received: Received,
+    received: Incoming,
     reply: Bytes,
 }
 
 impl Model for Kept {
-    ghost use Rattle.nfs_engine.specs.Arrivals.{received_value};
+    ghost use Rattle.nfs_engine.specs.Arrivals.{incoming_value};
     ghost use Rattle.nfs_engine.specs.Repeats.{RepeatValue};
 
     ghost Value = { RepeatValue };
 
-    ghost view = { λ k. record { received = received_value k.received; reply = k.reply } };
+    ghost view = { λ k. record { received = incoming_value k.received; reply = k.reply } };
 }
 
 impl Kept {
-    pub(crate) fn new(received: Received, reply: Bytes) -> Kept
-        ensures { result ≡ record { received = received_value received; reply = reply } }
+    pub(crate) fn new(received: Incoming, reply: Bytes) -> Kept
+        ensures { result ≡ record { received = incoming_value received; reply = reply } }
     {
         Kept { received, reply }
     }
 
     /// What came in.
-    pub fn received(&self) -> &Received
-        ensures { received_value result.now ≡ self.now.received }
+    pub fn received(&self) -> &Incoming
+        ensures { incoming_value result.now ≡ self.now.received }
     {
         &self.received
     }

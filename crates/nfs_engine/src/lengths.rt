@@ -1,15 +1,18 @@
-//! How many bytes messages are sent in (RFC 5531, 9; RFC 1813, appendix II, 6.1.4).
+//! How many bytes messages are sent in (RFC 5531, 9; RFC 1813, appendix II, 6.1.4), and how many exports have.
 
-ghost use Rattle.std.specs.Prelude.{◌≡◌, ◌-◌, ◌^◌, length, min};
+ghost use Rattle.std.specs.Prelude.{◌≡◌, ◌-◌, ◌^◌, length, map, min, sum_by};
 ghost use Rattle.nfs_xdr.specs.Writing.{write};
 ghost use Rattle.side_wire.specs.Messages.{HasCallbackForm, HasLockForm, HasTestArgumentsForm};
 ghost use Rattle.side_wire.specs.Messages.{callback_arguments, message_bytes};
 ghost use Rattle.side_wire.specs.Nlm.{HasResultForm, HasTestResultForm, IsNetobj};
 ghost use Rattle.side_wire.specs.NlmTypes.{lock_value, netobj, nlm4_lock, nlm4_res, nlm4_testargs, nlm4_testres};
 ghost use Rattle.side_wire.specs.NlmTypes.{result_value, test_result_value, test_value};
+ghost use Rattle.nfs_machine.specs.Exports.{export_value};
+ghost use Rattle.nfs_engine.specs.Commits.{export_bytes};
 ghost use Rattle.nfs_engine.specs.Posting.{HaveForms, posted_bytes};
 
 use bytes::Bytes;
+use nfs_machine::Export;
 use side_wire::{Callback, Message, NlmLock, NlmResult, TestArguments, TestResult, TestStatus};
 
 /// The header of a call with AUTH_NONE (RFC 5531, 9): ten words.
@@ -20,6 +23,35 @@ const WORD: u64 = 4;
 
 /// An offset or a length.
 const HYPER: u64 = 8;
+
+/// How many bytes the paths and the hosts of exports have; 2^64 - 1 where there are more.
+pub(crate) fn exports_size(exports: &[Export]) -> u64
+    ensures { result ≡ min (sum_by export_bytes (map export_value exports.now)) (2 ^ 64 - 1) }
+{
+    let mut size = 0u64;
+    for export in exports {
+        size = size.saturating_add(export_size(export));
+    }
+    size
+}
+
+/// The same of one export.
+fn export_size(export: &Export) -> u64
+    ensures { result ≡ min (export_bytes (export_value export.now)) (2 ^ 64 - 1) }
+{
+    (export.path.len() as u64).saturating_add(texts_size(&export.hosts))
+}
+
+/// How many bytes texts have together; 2^64 - 1 where there are more.
+fn texts_size(texts: &[Bytes]) -> u64
+    ensures { result ≡ min (sum_by length texts.now) (2 ^ 64 - 1) }
+{
+    let mut size = 0u64;
+    for text in texts {
+        size = size.saturating_add(text.len() as u64);
+    }
+    size
+}
 
 /// How many bytes the messages have together; 2^64 - 1 where there are more.
 pub(crate) fn messages_size(messages: &[Message]) -> u64

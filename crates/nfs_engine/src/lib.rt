@@ -1,13 +1,13 @@
 //! The engine: what a record asks and the bytes of its answer, a book of what was executed with the store that it led
 //! to, sixteen shards of who holds what, and both as one.
 //!
-//! A record that came in is a call of a program that is built, or it has a first fault (`read_record`). A reply, a
-//! refusal and a fault are each one fragment (`answers`). The `Book` has the present store with the records that led to
-//! it, the replies that are kept for calls that come again, and which calls are in progress. A `Shard` has the slots of
-//! a sixteenth of the addresses, with who holds them. The `Engine` is the book and the shards as one value, for one
-//! thread. It stands on `nfs_rpc` for headers, on
-//! `nfs_wire` and `side_wire` for arguments and results, on `nfs_machine` for what each record is answered, on
-//! `nfs_replies` for what is kept, and on `nfs_objects` for what stands at addresses.
+//! A record that came in is a call of a program that is built, or it has a first fault (`read_record`). Exports that
+//! come in, from no host, ask that they replace those before (`Arrival::exports`). A reply, a refusal and a fault are
+//! each one fragment (`answers`). The `Book` has the present store with the records that led to it, the replies that
+//! are kept for calls that come again, and which calls are in progress. A `Shard` has the slots of a sixteenth of the
+//! addresses, with who holds them. The `Engine` is the book and the shards as one value, for one thread. It stands on
+//! `nfs_rpc` for headers, on `nfs_wire` and `side_wire` for arguments and results, on `nfs_machine` for what each
+//! record is answered, on `nfs_replies` for what is kept, and on `nfs_objects` for what stands at addresses.
 #![tactic(auto)]
 
 pub mod admission;
@@ -43,7 +43,7 @@ mod starting;
 pub mod taking;
 
 pub use admission::{Admission, Faulted, Refused};
-pub use arrival::{Arrival, Executed, Reading, Received};
+pub use arrival::{Arrival, Executed, Incoming, Reading, Received};
 pub use asking::{Asked, Unasked, read_record};
 pub use book::Book;
 pub use calls::{Finished, Pending, Txn};

@@ -2,15 +2,15 @@
 
 ghost use Rattle.std.specs.Prelude.{◌≡◌};
 
-use crate::arrival::Received;
+use crate::arrival::Incoming;
 use crate::asking::Asked;
 use nfs_machine::{Call, Ctx, Limits};
 
-/// What a call was admitted with: the record that came in, what it asks, and what it is made under. It stays at one
+/// What a call was admitted with: what came in, what that asks, and what it is made under. It stays at one
 /// place from its admission to its end.
 #[derive(Drop)]
 pub(crate) struct Request {
-    pub received: Received,
+    pub received: Incoming,
     pub xid: u32,
     pub call: Call,
     pub ctx: Ctx,
@@ -27,7 +27,7 @@ impl Request {
     }
 
     /// What came in, and what it asks.
-    pub(crate) fn into_parts(self) -> (Received, Asked)
+    pub(crate) fn into_parts(self) -> (Incoming, Asked)
         ensures received { result.0 ≡ self.received }
         ensures asked { result.1 ≡ record { xid = self.xid; ids = self.ctx.ids; call = self.call } }
     {

@@ -4,12 +4,13 @@ ghost use Rattle.std.specs.Prelude.{◌≡◌, ◌-◌, ◌^◌, [], true, IfSom
 ghost use Rattle.std.specs.Prelude.{option_copied};
 ghost use Rattle.std.specs.Bool.{Decides};
 ghost use Rattle.nfs_replies.specs.Origins.{Adds, Removes, is_among};
-ghost use Rattle.nfs_engine.specs.Arrivals.{received_value};
+ghost use Rattle.nfs_machine.specs.Run.{FromHost};
+ghost use Rattle.nfs_engine.specs.Arrivals.{incoming_value, received_value};
 ghost use Rattle.nfs_engine.specs.Repeats.{origin_of};
 ghost use Rattle.nfs_engine.specs.Running.{IsBegun, IsInProgress, living_count, origin_at, running_at};
 ghost use Rattle.nfs_engine.specs.Running.{without_call};
 
-use crate::arrival::Received;
+use crate::arrival::{Incoming, Received};
 use crate::changing::is_changing;
 use bytes::Bytes;
 use nfs_machine::Call;
@@ -92,9 +93,9 @@ impl Calls {
     }
 
     /// Whether a call with this number is in progress at this place, and came so.
-    pub(crate) fn came_so(&self, key: usize, id: u64, received: &Received, call: &Call) -> bool
+    pub(crate) fn came_so(&self, key: usize, id: u64, received: &Incoming, call: &Call) -> bool
         ensures { Decides result (running_at self.now.living key ≡
-            Some (record { id = id; origin = origin_of (received_value received.now) call.now })) }
+            Some (record { id = id; origin = origin_of (incoming_value received.now) call.now })) }
     {
         match self.living.get(key) {
             Some(running) => running.id == id && is_origin(&running.origin, received, call),
@@ -159,8 +160,18 @@ impl Calls {
 }
 
 /// Whether this is what a call came with, if it changes something.
-fn is_origin(origin: &Option<Origin>, received: &Received, call: &Call) -> bool
-    ensures { Decides result (origin.now ≡ origin_of (received_value received.now) call.now) }
+fn is_origin(origin: &Option<Origin>, received: &Incoming, call: &Call) -> bool
+    ensures { Decides result (origin.now ≡ origin_of (incoming_value received.now) call.now) }
+{
+    match received {
+        Incoming::Record(received) => is_origin_of_record(origin, received, call),
+        Incoming::Exports(..) => origin.is_none(),
+    }
+}
+
+/// The same of a call that a record asks.
+fn is_origin_of_record(origin: &Option<Origin>, received: &Received, call: &Call) -> bool
+    ensures { Decides result (origin.now ≡ origin_of (FromHost (received_value received.now)) call.now) }
 {
     match origin {
         Some(origin) => {

@@ -1,14 +1,16 @@
 //! What a record that came in asks (RFC 5531, section 9).
 
 use super::records::{NULL, arrival, moment};
-use nfs_engine::{Arrival, Reading};
+use nfs_engine::{Arrival, Incoming, Reading};
 use nfs_machine::Call;
 use nfs_wire::NfsCall;
 use std::test::Fail;
 
 /// Whether it is NULL with this xid, for nobody, as it came in.
 fn asks_null(arrival: &Arrival, xid: u32) -> bool {
-    let received = arrival.received();
+    let Incoming::Record(received) = arrival.received() else {
+        return false;
+    };
     received.host.text().as_slice() == b"10.0.0.1".as_slice()
         && received.message.len() == 40
         && received.moment == moment()

@@ -2,7 +2,7 @@ use Rattle.std.proofs.Common.{◌≡◌, Err, IfSome, ap, sym, subst, ◌∙◌}
 use Rattle.nfs_machine.specs.Run.{Setting}
 use Rattle.nfs_engine.proofs.Booked.{begun, idle_of}
 use Rattle.nfs_engine.proofs.Turned.{entered, known_of, turned}
-use Rattle.nfs_engine.specs.Arrivals.{ArrivalValue, received_value}
+use Rattle.nfs_engine.specs.Arrivals.{ArrivalValue, incoming_value}
 use Rattle.nfs_engine.specs.Book.{Admits, BookValue, IsNoRepeat, IsUnknown, book_value}
 use Rattle.nfs_engine.specs.Calls.{TxnValue}
 use Rattle.nfs_engine.specs.Candidates.{candidate_value}
@@ -54,7 +54,7 @@ returns c = elim c.match-begin.branch [
       w.in-Ok.ensures (λ i. let t : TxnValue = record {
         id = w.in-Ok.field-0.id;
         key = w.in-Ok.field-0.key;
-        received = received_value (under c i).received;
+        received = incoming_value (under c i).received;
         xid = (under c i).xid;
         call = (under c i).call;
         ctx = (under c i).ctx;
@@ -62,13 +62,13 @@ returns c = elim c.match-begin.branch [
       } in t))
   | in-Err w ↦ rw (w.result-is, ← c.self.view_is, ← c.candidate.view_is)
       (let back : w.asking.result ≡ candidate_value (asks c) = w.asking.ensures ∙ (λ i. record {
-        received = received_value (w.into_parts-received.ensures.received i);
+        received = incoming_value (w.into_parts-received.ensures.received i);
         reading = readings.Asks (w.into_parts-received.ensures.asked i);
       }) ∙ ap candidate_value (w.into_inner.ensures ∙ under c) in
       subst (λ (a : ArrivalValue). Admits (old c) (book_value c.self.inside.journal c.self.inside.replies
       c.begin.new.self (setting c) c.self.inside.era_records) (candidate_value (asks c)) (Err (w.in-Err.error, a)))
       (sym back) (turned c.self.inside.journal c.self.inside.replies c.self.inside.calls (setting c)
-      c.self.inside.era_records (received_value (asks c).received)
+      c.self.inside.era_records (incoming_value (asks c).received)
       (record { xid = (asks c).xid; ids = (asks c).ctx.ids; call = (asks c).call }) c.begin.new.self
       c.candidate.inside.origin w.in-Err.error w.in-Err.ensures c.candidate.invariant.origin_is (known c)))
 ]
