@@ -1,19 +1,22 @@
 -- What a drive comes to as a whole, by what each event comes to.
-use Rattle.std.proofs.Common.{◌≡◌, List, [], ◌∷◌, ◌++◌, append-nil, append_assoc, map, option_to_list, Option, None}
+use Rattle.std.proofs.Common.{◌≡◌, List, [], ◌∷◌, ◌++◌, append-nil, append_assoc, map, option_to_list, Option, Some}
+use Rattle.std.proofs.Common.{None}
 use Rattle.std.proofs.Common.{refl, sym, ◌∙◌, ap, subst}
 use Rattle.std.specs.Prelude.{filter_map}
 use Rattle.std.proofs.lemmas.List.{map-append}
+use Rattle.nfs_machine.specs.Run.{Arrival, FromHost, NewExports}
+use Rattle.nfs_engine.specs.Arrivals.{received_value}
 use Rattle.nfs_schedule.proofs.Arrived.{Passes, arrives_passes, option_joined, passes_both, same_passes, stop_passes}
 use Rattle.nfs_schedule.proofs.Arrived.{turn_passes}
 use Rattle.nfs_schedule.proofs.Ledgers.{Adds, adds_both, adds_none, era_adds, message_adds, same_adds, stop_adds}
 use Rattle.nfs_schedule.proofs.Ledgers.{turn_adds, world_ledger}
 use Rattle.nfs_schedule.specs.Accounts.{Accounts, IsAccounted, brought}
 use Rattle.nfs_schedule.specs.Answers.{answered}
-use Rattle.nfs_schedule.specs.Events.{Drives, Happens}
+use Rattle.nfs_schedule.specs.Events.{Arrives, Drives, Happens}
 use Rattle.nfs_schedule.specs.Worlds.{WorldValue}
 use Rattle.nfs_schedule.specs.declared.answer.Answer.{Answer}
 use Rattle.nfs_schedule.specs.declared.driving.Event.{Event}
-use Rattle.nfs_schedule.specs.declared.driving.Event.TheVariants.{Arrive, Turn, Stop, TakeMessage, NewEra}
+use Rattle.nfs_schedule.specs.declared.driving.Event.TheVariants.{Arrive, Replace, Turn, Stop, TakeMessage, NewEra}
 
 -- ---- an event
 record Comes (old new : WorldValue) (event : Event) (given : List Answer) : Type 0 where
@@ -23,15 +26,26 @@ record Comes (old new : WorldValue) (event : Event) (given : List Answer) : Type
 none_given : (answer : Option Answer) → answer ≡ None → [] ≡ option_to_list answer
 none_given answer is = sym (ap (λ (o : Option Answer). option_to_list o) is)
 
+-- what an event brings is taken in
+arrives_comes : (old new : WorldValue) (event : Event) (came : Arrival) → brought event ≡ Some came →
+    Arrives old new came → Comes old new event []
+arrives_comes old new event came brings a = record {
+  adds =
+      subst (λ (w : WorldValue). Adds (world_ledger old) (world_ledger w) []) (sym a.rest)
+      (adds_none (world_ledger old) (world_ledger old) [] refl refl refl refl refl);
+  passes =
+      subst (λ (o : Option Arrival). Passes old new (option_to_list o) []) (sym brings)
+      (arrives_passes old new came a);
+}
+
 happens_comes : (old new : WorldValue) (event : Event) (answer : Option Answer) → Happens old event answer new →
     Comes old new event (option_to_list answer)
 happens_comes old new (Arrive came) answer h =
-    subst (λ given. Comes old new (Arrive came) given) (none_given answer h.1) (record {
-      adds =
-          subst (λ (w : WorldValue). Adds (world_ledger old) (world_ledger w) []) (sym h.0.rest)
-          (adds_none (world_ledger old) (world_ledger old) [] refl refl refl refl refl);
-      passes = arrives_passes old new came h.0;
-    })
+    subst (λ given. Comes old new (Arrive came) given) (none_given answer h.1)
+    (arrives_comes old new (Arrive came) (FromHost (received_value came)) refl h.0)
+happens_comes old new (Replace exports moment) answer h =
+    subst (λ given. Comes old new (Replace exports moment) given) (none_given answer h.1)
+    (arrives_comes old new (Replace exports moment) (NewExports exports moment) refl h.0)
 happens_comes old new (Turn worker) answer h =
     record { adds = turn_adds old new worker answer h; passes = turn_passes old new worker answer h }
 happens_comes old new (Stop worker) answer h =

@@ -22,7 +22,7 @@ use Rattle.nfs_schedule.specs.Workers.{Comes, Thinks}
 use Rattle.nfs_schedule.specs.Worlds.{StopsWorker, TakesTurn, WorldValue}
 use Rattle.nfs_schedule.specs.declared.answer.Answer.{Answer}
 use Rattle.nfs_schedule.specs.declared.driving.Event.{Event}
-use Rattle.nfs_schedule.specs.declared.driving.Event.TheVariants.{Arrive, Turn, Stop, TakeMessage, NewEra}
+use Rattle.nfs_schedule.specs.declared.driving.Event.TheVariants.{Arrive, Replace, Turn, Stop, TakeMessage, NewEra}
 use Rattle.nfs_schedule.specs.declared.worker.Worker.{Worker}
 use Rattle.nfs_schedule.specs.declared.worker.Worker.TheVariants.{Idle, Trying, Wanting, Wishing, Ready, Blocked}
 use Rattle.nfs_schedule.specs.declared.worker.Worker.TheVariants.{Failing}
@@ -223,6 +223,8 @@ module _ (place : ℕ) (old new : WorldValue) (before : GoesOnAt place old) (aft
   happens_counts : (event : Event) (answer : Option Answer) (h : Happens old event answer new) →
       HasAsked before.call after.call (asked_in place old new event answer h)
   happens_counts (Arrive came) answer h = unturned (ap (λ (w : WorldValue). slice_get w.workers place) h.0.rest)
+  happens_counts (Replace exports moment) answer h =
+      unturned (ap (λ (w : WorldValue). slice_get w.workers place) h.0.rest)
   happens_counts (Turn worker) answer h = turned worker answer h
   happens_counts (Stop worker) answer h = stopped worker answer h
   happens_counts TakeMessage answer h = unturned (ap (λ (w : WorldValue). slice_get w.workers place) h.0.rest)

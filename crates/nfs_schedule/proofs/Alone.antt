@@ -3,7 +3,7 @@ use Rattle.std.proofs.Common.{◌≡◌, ◌≢◌, ℕ, zero, suc, ◌+◌, Lis
 use Rattle.std.proofs.Common.{get_or, set, inl, inr, IfSome}
 use Rattle.std.specs.declared.alloc.AllocError.{AllocError}
 use Rattle.nfs_machine.specs.RpcReplies.{success_message}
-use Rattle.nfs_machine.specs.Run.{Received}
+use Rattle.nfs_machine.specs.Run.{Arrival}
 use Rattle.nfs_objects.specs.Bound.{view_after}
 use Rattle.nfs_objects.specs.Rooms.{with_seen, with_number}
 use Rattle.nfs_objects.specs.Values.{ViewValue}
@@ -12,7 +12,7 @@ use Rattle.nfs_objects.specs.declared.modes.Mode.{Mode}
 use Rattle.nfs_objects.specs.declared.modes.Mode.TheVariants.{Shared, Exclusive}
 use Rattle.nfs_replies.specs.declared.origins.Origin.{Origin}
 use Rattle.nfs_engine.proofs.Lifted.{alike_or}
-use Rattle.nfs_engine.specs.Arrivals.{ArrivalValue, received_value}
+use Rattle.nfs_engine.specs.Arrivals.{ArrivalValue, incoming_value}
 use Rattle.nfs_engine.specs.Book.{BeginsCall, BookValue, Commits, GivesUp, IsUnknown, LeadsBook, Repeats, Steps, StillRuns, new_txn, store_in}
 use Rattle.nfs_engine.specs.Calls.{FinishedValue, PendingValue, TxnValue, pending_of, txn_of}
 use Rattle.nfs_engine.specs.Commits.{IsReceipt}
@@ -226,14 +226,14 @@ module _ (e f g : EngineValue) (t : TxnValue) (r : ReleaseValue) (p : PendingVal
     held = λ a j. ap (λ s. held_among s a j) shards ∙ free.held a j;
   }
 
-  pub ends_declined : (answer : Answer) → IsRefused (received_value refused.received) refused.asked answer →
+  pub ends_declined : (answer : Answer) → IsRefused (incoming_value refused.received) refused.asked answer →
       EndsIn e g t answer
   ends_declined answer declined =
       refused_ends e g t answer keeps
       (subst (λ (q : PendingValue). IsRefused q.received (record { xid = q.xid; ids = q.ctx.ids; call = q.call }) answer)
       own
       (subst (λ (a : Asked). IsRefused p.received a answer) gives.asked
-      (subst (λ (x : Received). IsRefused x refused.asked answer) gives.received declined)))
+      (subst (λ (x : Arrival). IsRefused x refused.asked answer) gives.received declined)))
 
 -- ---- a call that ends as it began
 executes_from : (e f g : EngineValue) (d : FinishedValue) (receipt : Receipt) → Executes f g d receipt →

@@ -10,14 +10,13 @@ use Rattle.std.proofs.lemmas.List.Sorted.{IsPermutation-append_comm, IsPermutati
 use Rattle.std.proofs.lemmas.List.Sorted.{IsPermutation-append_right, IsPermutation-cons, IsPermutation-middle}
 use Rattle.std.proofs.lemmas.List.Sorted.{IsPermutation-refl, IsPermutation-sym, IsPermutation-to_front}
 use Rattle.std.proofs.lemmas.List.Sorted.{IsPermutation-trans}
-use Rattle.nfs_machine.specs.Run.{Arrival, FromHost, NewExports, Received, Record}
+use Rattle.nfs_machine.specs.Run.{Arrival, Record}
 use Rattle.nfs_objects.specs.declared.address.Addr.{Addr}
 use Rattle.nfs_objects.specs.declared.modes.Mode.{Mode}
-use Rattle.nfs_engine.specs.Arrivals.{ArrivalValue, received_value}
+use Rattle.nfs_engine.specs.Arrivals.{ArrivalValue}
 use Rattle.nfs_engine.specs.Calls.{FinishedValue, PendingValue, TxnValue, txn_of}
 use Rattle.nfs_engine.specs.Engine.{EngineValue, IsAcquired, IsReserved}
 use Rattle.nfs_engine.specs.Releases.{ReleaseValue}
-use Rattle.nfs_engine.specs.declared.arrival.Received.{Received as Came}
 use Rattle.nfs_engine.specs.declared.asking.Asked.{Asked}
 use Rattle.nfs_engine.specs.declared.release.Then.TheVariants as then
 use Rattle.nfs_engine.specs.declared.shard.ReserveError.{ReserveError}
@@ -63,7 +62,7 @@ pub some_same : {X : Type 0} (x y : X) → Some x ≡ Some y → x ≡ y
 some_same x y is = cc
 
 -- the calls of these workers, but for the one at a place
-abbrev others : List Worker → ℕ → List Received
+abbrev others : List Worker → ℕ → List Arrival
 others ws i = filter_map received_of (set ws i Idle)
 
 pub worker_apart : (ws : List Worker) (i : ℕ) (w : Worker) → slice_get ws i ≡ Some w →
@@ -90,12 +89,12 @@ worker_joined (x ∷ ws) (suc i) w v is =
 
 -- ---- what a queue and a worker hand on
 -- what waits and what the worker has is what waits later and what it has then, and what is answered
-abbrev pub HandsOn : (queue later : List Received) (had has : Option Received) (given : List Received) → Type 0
+abbrev pub HandsOn : (queue later : List Arrival) (had has : Option Arrival) (given : List Arrival) → Type 0
 HandsOn queue later had has given =
     IsPermutation (queue ++ option_to_list had) ((later ++ option_to_list has) ++ given)
 
 -- the other workers' calls stay beside it
-pub hands_beside : (queue later : List Received) (had has : Option Received) (given before after rest : List Received) →
+pub hands_beside : (queue later : List Arrival) (had has : Option Arrival) (given before after rest : List Arrival) →
     HandsOn queue later had has given → IsPermutation before (cons_option had rest) →
     IsPermutation after (cons_option has rest) → IsPermutation ((queue ++ before) ++ []) ((later ++ after) ++ given)
 hands_beside queue later had has given before after rest on old new =
@@ -123,51 +122,51 @@ hands_beside queue later had has given before after rest on old new =
     (IsPermutation-append_right later _ _ (IsPermutation-sym _ _ new)))))))))
 
 -- nothing is taken or answered
-hands_still : (queue later : List Received) (had has : Option Received) (given : List Received) → later ≡ queue →
+hands_still : (queue later : List Arrival) (had has : Option Arrival) (given : List Arrival) → later ≡ queue →
     has ≡ had → given ≡ [] → HandsOn queue later had has given
 hands_still queue later had has given same kept none =
     permuted _ _ (
     ap (λ l. (later ++ option_to_list has) ++ l) none
     ∙ append-nil (later ++ option_to_list has)
     ∙ ap (λ l. l ++ option_to_list has) same
-    ∙ ap (λ (o : Option Received). queue ++ option_to_list o) kept
+    ∙ ap (λ (o : Option Arrival). queue ++ option_to_list o) kept
     )
 
 -- what the worker had is answered
-hands_out : (queue later : List Received) (had has : Option Received) (given : List Received) (r : Received) →
+hands_out : (queue later : List Arrival) (had has : Option Arrival) (given : List Arrival) (r : Arrival) →
     later ≡ queue → had ≡ Some r → has ≡ None → given ≡ r ∷ [] → HandsOn queue later had has given
 hands_out queue later had has given r same was none told =
     permuted _ _ (
     ap (λ l. (later ++ option_to_list has) ++ l) told
-    ∙ ap (λ (o : Option Received). (later ++ option_to_list o) ++ r ∷ []) none
+    ∙ ap (λ (o : Option Arrival). (later ++ option_to_list o) ++ r ∷ []) none
     ∙ ap (λ l. l ++ r ∷ []) (append-nil later ∙ same)
-    ∙ ap (λ (o : Option Received). queue ++ option_to_list o) (sym was)
+    ∙ ap (λ (o : Option Arrival). queue ++ option_to_list o) (sym was)
     )
 
 -- the worker takes the oldest
-hands_in : (later : List Received) (had has : Option Received) (given : List Received) (r : Received) →
+hands_in : (later : List Arrival) (had has : Option Arrival) (given : List Arrival) (r : Arrival) →
     had ≡ None → has ≡ Some r → given ≡ [] → HandsOn (r ∷ later) later had has given
 hands_in later had has given r was is none =
     IsPermutation-trans _ _ _
-    (permuted _ _ (sym (ap (λ (o : Option Received). (r ∷ later) ++ option_to_list o) was ∙ append-nil (r ∷ later))))
+    (permuted _ _ (sym (ap (λ (o : Option Arrival). (r ∷ later) ++ option_to_list o) was ∙ append-nil (r ∷ later))))
     (IsPermutation-trans _ _ _
     (IsPermutation-sym _ _ (IsPermutation-to_front later r))
     (permuted _ _ (
     ap (λ l. (later ++ option_to_list has) ++ l) none
     ∙ append-nil (later ++ option_to_list has)
-    ∙ ap (λ (o : Option Received). later ++ option_to_list o) is)))
+    ∙ ap (λ (o : Option Arrival). later ++ option_to_list o) is)))
 
 -- the oldest is answered
-hands_back : (later : List Received) (had has : Option Received) (given : List Received) (r : Received) →
+hands_back : (later : List Arrival) (had has : Option Arrival) (given : List Arrival) (r : Arrival) →
     had ≡ None → has ≡ None → given ≡ r ∷ [] → HandsOn (r ∷ later) later had has given
 hands_back later had has given r was none told =
     IsPermutation-trans _ _ _
-    (permuted _ _ (sym (ap (λ (o : Option Received). (r ∷ later) ++ option_to_list o) was ∙ append-nil (r ∷ later))))
+    (permuted _ _ (sym (ap (λ (o : Option Arrival). (r ∷ later) ++ option_to_list o) was ∙ append-nil (r ∷ later))))
     (IsPermutation-trans _ _ _
     (IsPermutation-sym _ _ (IsPermutation-to_front later r))
     (permuted _ _ (
     ap (λ l. (later ++ option_to_list has) ++ l) told
-    ∙ ap (λ (o : Option Received). (later ++ option_to_list o) ++ r ∷ []) none
+    ∙ ap (λ (o : Option Arrival). (later ++ option_to_list o) ++ r ∷ []) none
     ∙ ap (λ l. l ++ r ∷ []) (append-nil later))))
 
 -- ---- thinking
@@ -199,7 +198,7 @@ thinks_received (PutOff p) v c = ap received_of c
 thinks_received (Refusing p) v c = ap received_of c
 
 -- ---- answers
-refused_answered : (received : Received) (asked : Asked) (answer : Answer) → IsRefused received asked answer →
+refused_answered : (received : Arrival) (asked : Asked) (answer : Answer) → IsRefused received asked answer →
     answered answer ≡ received
 refused_answered received asked (answers.Executed receipt) is = absurd is
 refused_answered received asked (answers.Repeated kept) is = absurd is
@@ -207,7 +206,7 @@ refused_answered received asked (answers.Refused declined) is = is.0
 refused_answered received asked (answers.Early faulted) is = absurd is
 refused_answered received asked (answers.Unanswered unanswered) is = absurd is
 
-unanswered_answered : (received : Received) (answer : Answer) → IsUnanswered received answer →
+unanswered_answered : (received : Arrival) (answer : Answer) → IsUnanswered received answer →
     answered answer ≡ received
 unanswered_answered received (answers.Executed receipt) is = absurd is
 unanswered_answered received (answers.Repeated kept) is = absurd is
@@ -215,13 +214,8 @@ unanswered_answered received (answers.Refused declined) is = absurd is
 unanswered_answered received (answers.Early faulted) is = absurd is
 unanswered_answered received (answers.Unanswered unanswered) is = is
 
--- what came in of a record: exports have no host and no bytes
-abbrev pub arrived : Arrival → Received
-arrived (FromHost received) = received
-arrived (NewExports exports moment) = record { host = []; bytes = []; moment = moment }
-
 -- ---- the oldest arrival
-module _ (e f : EngineValue) (a : ArrivalValue) (later : List Received) where
+module _ (e f : EngineValue) (a : ArrivalValue) (later : List Arrival) where
   abbrev Admitted : Worker → Option Answer → Type 0
   Admitted next answer =
       HandsOn (a.received ∷ later) later None (received_of next) (map answered (option_to_list answer))
@@ -315,7 +309,7 @@ module _ (e f : EngineValue) (r : ReleaseValue) (after : Afterwards) where
 
 -- ---- a step
 module _ (e f : EngineValue) (queue later : List ArrivalValue) where
-  abbrev queued : List ArrivalValue → List Received
+  abbrev queued : List ArrivalValue → List Arrival
   queued arrivals = map (λ (a : ArrivalValue). a.received) arrivals
 
   abbrev Hands : Worker → Worker → Option Answer → Type 0
@@ -331,7 +325,7 @@ module _ (e f : EngineValue) (queue later : List ArrivalValue) where
       hands_still (queued queue) (queued later) (received_of was) (received_of now)
       (map answered (option_to_list answer)) (ap queued same) kept (no_answer answer none)
 
-  goes_out : (was : Worker) (r : Received) (now : Worker) (answer : Answer) → later ≡ queue → received_of was ≡ Some r →
+  goes_out : (was : Worker) (r : Arrival) (now : Worker) (answer : Answer) → later ≡ queue → received_of was ≡ Some r →
       received_of now ≡ None → answered answer ≡ r → Hands was now (Some answer)
   goes_out was r now answer same had none is =
       hands_out (queued queue) (queued later) (received_of was) (received_of now) (answered answer ∷ []) r
@@ -341,7 +335,7 @@ module _ (e f : EngineValue) (queue later : List ArrivalValue) where
       EndsTurn e f done next answer → Hands (Ready done) next answer
   ends_hands done (Leaving r after) (Some (answers.Executed receipt)) same is =
       goes_out (Ready done) done.received (Leaving r after) (answers.Executed receipt) same refl
-      (ap after_received is.1.over) (ap (λ (x : Record). arrived x.arrival) is.0.receipt_is.executed)
+      (ap after_received is.1.over) (ap (λ (x : Record). x.arrival) is.0.receipt_is.executed)
   ends_hands done (Leaving r after) (Some (answers.Repeated kept)) same is = absurd is
   ends_hands done (Leaving r after) (Some (answers.Refused declined)) same is = absurd is
   ends_hands done (Leaving r after) (Some (answers.Early faulted)) same is = absurd is
@@ -405,11 +399,11 @@ step_hands e f queue later shard (PutOff p) v answer is kept =
 step_hands e f queue later shard (Refusing p) v answer is kept = declines_hands e f queue later p v answer kept is
 
 -- ---- worlds
-abbrev came_in : ArrivalValue → Received
+abbrev came_in : ArrivalValue → Arrival
 came_in a = a.received
 
 -- what had no answer, and what came, has none yet or is answered
-abbrev pub Passes : WorldValue → WorldValue → (came given : List Received) → Type 0
+abbrev pub Passes : WorldValue → WorldValue → (came given : List Arrival) → Type 0
 Passes old new came given = IsPermutation (unanswered old ++ came) (unanswered new ++ given)
 
 pub same_passes : (old new : WorldValue) → new.queue ≡ old.queue → new.workers ≡ old.workers → Passes old new [] []
@@ -420,26 +414,26 @@ same_passes old new queue workers =
     )
 
 -- what waits in the queue, and what the workers have
-abbrev waiting : WorldValue → List Received
+abbrev waiting : WorldValue → List Arrival
 waiting w = map (λ (a : ArrivalValue). a.received) w.queue
 
-abbrev busy : WorldValue → List Received
+abbrev busy : WorldValue → List Arrival
 busy w = filter_map received_of w.workers
 
 -- what an event brings waits behind the others
-pub arrives_passes : (old new : WorldValue) (came : Came) → Arrives old new came →
-    Passes old new (received_value came ∷ []) []
+pub arrives_passes : (old new : WorldValue) (came : Arrival) → Arrives old new came →
+    Passes old new (came ∷ []) []
 arrives_passes old new came a =
     IsPermutation-trans _ _ _
-    (permuted _ _ (sym (append_assoc (waiting old) (busy old) (received_value came ∷ []))))
+    (permuted _ _ (sym (append_assoc (waiting old) (busy old) (came ∷ []))))
     (IsPermutation-trans _ _ _
-    (IsPermutation-append_right (waiting old) _ _ (IsPermutation-append_comm (busy old) (received_value came ∷ [])))
+    (IsPermutation-append_right (waiting old) _ _ (IsPermutation-append_comm (busy old) (came ∷ [])))
     (permuted _ _ (
     append-nil (unanswered new)
     ∙ ap unanswered a.rest
     ∙ ap (λ l. l ++ busy old) (map-append (λ (x : ArrivalValue). x.received) old.queue (a.arrival ∷ []))
     ∙ ap (λ r. (waiting old ++ r ∷ []) ++ busy old) a.received
-    ∙ append_assoc (waiting old) (received_value came ∷ []) (busy old))))
+    ∙ append_assoc (waiting old) (came ∷ []) (busy old))))
 
 -- a worker hands on, and the others' calls stay
 module _ (old new : WorldValue) (i : ℕ) (was now : Worker) (answer : Option Answer)
@@ -461,7 +455,7 @@ turn_passes old new worker answer t =
     let step = step_hands old.engine new.engine old.queue new.queue (worker % 16) t.turns.thought t.now answer
     t.turns.step.named t.turns.queued in
     worker_passes old new (worker - 1) t.was t.now answer t.there (ap (λ (w : WorldValue). w.workers) t.rest)
-    (subst (λ (o : Option Received).
+    (subst (λ (o : Option Arrival).
     HandsOn (map (λ (a : ArrivalValue). a.received) old.queue) (map (λ (a : ArrivalValue). a.received) new.queue) o
     (received_of t.now) (map answered (option_to_list answer))) (thinks_received t.was t.turns.thought t.turns.thinks)
     step)
@@ -480,7 +474,7 @@ stop_passes old new worker answer s =
     s.stop.stopped)
 
 -- ---- one step after the other
-pub passes_both : (a b c : WorldValue) (first then one two : List Received) → Passes a b first one →
+pub passes_both : (a b c : WorldValue) (first then one two : List Arrival) → Passes a b first one →
     Passes b c then two → Passes a c (first ++ then) (one ++ two)
 passes_both a b c first then one two p q =
     IsPermutation-trans _ _ _

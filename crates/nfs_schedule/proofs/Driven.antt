@@ -7,8 +7,9 @@ use Rattle.nfs_schedule.specs.Events.{Arrives, Drives, Goes, Happens, HasWorker}
 use Rattle.nfs_schedule.specs.Worlds.{RunsFrom, RunsOn, WorldValue}
 use Rattle.nfs_schedule.specs.declared.answer.Answer.{Answer}
 use Rattle.nfs_schedule.specs.declared.driving.Event.{Event}
-use Rattle.nfs_schedule.specs.declared.driving.Event.TheVariants.{Arrive, Turn, Stop, TakeMessage, NewEra}
-use Rattle.nfs_engine.specs.declared.arrival.Received.{Received}
+use Rattle.nfs_schedule.specs.declared.driving.Event.TheVariants.{Arrive, Replace, Turn, Stop, TakeMessage, NewEra}
+use Rattle.nfs_machine.specs.Run.{Arrival, FromHost, NewExports}
+use Rattle.nfs_engine.specs.Arrivals.{received_value}
 
 -- one event more
 pub drives_more : (old mid new : WorldValue) (events : List Event) (event : Event) (said heard later : List Answer) →
@@ -39,13 +40,14 @@ all_at P (e ∷ all) zero event within every = every.0
 all_at P (e ∷ all) (suc i) event within every = all_at P all i event (omega (arith, within)) every.1
 
 -- ---- the records
-arrives_runs : (old new : WorldValue) (came : Received) → Arrives old new came → RunsOn old new
+arrives_runs : (old new : WorldValue) (came : Arrival) → Arrives old new came → RunsOn old new
 arrives_runs old new came a base r = subst (λ (w : WorldValue). RunsFrom base w) (sym a.rest)
     (record { began = r.began; before = r.before; present = r.present })
 
 happens_runs : (old new : WorldValue) (event : Event) (answer : Option Answer) → Happens old event answer new →
     RunsOn old new
-happens_runs old new (Arrive came) answer h = arrives_runs old new came h.0
+happens_runs old new (Arrive came) answer h = arrives_runs old new (FromHost (received_value came)) h.0
+happens_runs old new (Replace exports moment) answer h = arrives_runs old new (NewExports exports moment) h.0
 happens_runs old new (Turn worker) answer h = turn_runs old new worker answer h
 happens_runs old new (Stop worker) answer h = stop_runs old new worker answer h
 happens_runs old new TakeMessage answer h = message_runs old new h.0
@@ -61,6 +63,7 @@ drives_runs old new (event ∷ events) said later d base r =
 happens_workers : (old new : WorldValue) (event : Event) (answer : Option Answer) → Happens old event answer new →
     length new.workers ≡ length old.workers
 happens_workers old new (Arrive came) answer h = ap (λ (w : WorldValue). length w.workers) h.0.rest
+happens_workers old new (Replace exports moment) answer h = ap (λ (w : WorldValue). length w.workers) h.0.rest
 happens_workers old new (Turn worker) answer h =
     ap (λ (w : WorldValue). length w.workers) h.rest ∙ length-set old.workers _ _
 happens_workers old new (Stop worker) answer h =

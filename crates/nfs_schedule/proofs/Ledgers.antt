@@ -8,14 +8,14 @@ use Rattle.std.specs.List.{range_with_len}
 use Rattle.std.proofs.lemmas.Grind.{flat_map-append}
 use Rattle.std.proofs.lemmas.List.{map-append}
 use Rattle.std.proofs.lemmas.List.Elements.{filter_map-append}
-use Rattle.nfs_rpc.specs.Early.{call_of}
 use Rattle.side_wire.specs.declared.message.Message.{Message}
 use Rattle.nfs_machine.specs.RpcReplies.{success_message}
-use Rattle.nfs_machine.specs.Run.{Received, Record}
+use Rattle.nfs_machine.specs.Run.{Arrival, Record}
 use Rattle.nfs_machine.specs.declared.calls.Reply.{Reply}
 use Rattle.nfs_replies.specs.Replies.{RepliesValue}
-use Rattle.nfs_engine.specs.Arrivals.{received_value}
+use Rattle.nfs_engine.specs.Arrivals.{incoming_value}
 use Rattle.nfs_engine.specs.Book.{BookValue, TakesMessage}
+use Rattle.nfs_engine.specs.Asked.{IsAskedBy}
 use Rattle.nfs_engine.specs.Calls.{FinishedValue, IsCalled}
 use Rattle.nfs_engine.specs.Commits.{record_of}
 use Rattle.nfs_engine.specs.Engine.{EngineValue}
@@ -23,7 +23,6 @@ use Rattle.nfs_engine.specs.Repeats.{Keeps, origin_of}
 use Rattle.nfs_engine.specs.declared.journal.Receipt.{Receipt}
 use Rattle.nfs_engine.specs.declared.outbox.Posted.{Posted}
 use Rattle.nfs_engine.specs.declared.records.Era.{Era}
-use Rattle.nfs_schedule.proofs.Arrived.{arrived}
 use Rattle.nfs_schedule.proofs.Runs.{book_store, records_joined}
 use Rattle.nfs_schedule.specs.Accounts.{IsReplyTo, RepliesFollow, all_messages, all_records}
 use Rattle.nfs_schedule.specs.Accounts.{last_number, receipt_of, receipts_of, recorded}
@@ -156,25 +155,28 @@ kept_adds e f given none same follow =
 
 module _ (e f : EngineValue) (done : FinishedValue) (receipt : Receipt) (x : Executes e f done receipt)
     (called : IsCalled done.received done.xid done.done.call done.done.ctx) where
-  came : received_value (arc_value receipt.executed).received ≡ done.received
-  came = ap (λ (r : Record). arrived r.arrival) x.receipt_is.executed
+  came : incoming_value (arc_value receipt.executed).received ≡ done.received
+  came = ap (λ (r : Record). r.arrival) x.receipt_is.executed
 
   executed_replies : IsReplyTo receipt done.done.call
   executed_replies = record {
-    header = called.header;
-    read = subst (λ (r : Received). call_of r.bytes ≡ Ok called.header) (sym came) called.read;
-    asks = called.is_call;
+    xid = done.xid;
+    ids = done.done.ctx.ids;
+    asks = subst (λ (r : Arrival). IsAskedBy r (record {
+      xid = done.xid;
+      ids = done.done.ctx.ids;
+      call = done.done.call;
+    })) (sym came) called.asked;
     reply =
         x.receipt_is.answer
-        ∙ ap (λ n. success_message n done.done.change.reply) (sym called.number)
-        ∙ ap (λ (r : Reply). success_message called.header.xid r)
+        ∙ ap (λ (r : Reply). success_message done.xid r)
         (sym (ap (λ (r : Record). r.reply) x.receipt_is.executed));
   }
 
-  executed_keeps : Keeps (origin_of (received_value (arc_value receipt.executed).received) done.done.call)
+  executed_keeps : Keeps (origin_of (incoming_value (arc_value receipt.executed).received) done.done.call)
       receipt.answer e.book.replies f.book.replies
   executed_keeps =
-      subst (λ (r : Received). Keeps (origin_of r done.done.call) receipt.answer e.book.replies f.book.replies)
+      subst (λ (r : Arrival). Keeps (origin_of r done.done.call) receipt.answer e.book.replies f.book.replies)
       (sym came)
       (subst (λ (bytes : List ℕ). Keeps (origin_of done.received done.done.call) bytes e.book.replies f.book.replies)
       (sym x.receipt_is.answer) x.keeps)

@@ -17,10 +17,11 @@ use Rattle.nfs_wire.specs.declared.calls.NfsCall.{NfsCall}
 use Rattle.nfs_wire.specs.declared.calls.Place.{Place}
 use Rattle.nfs_wire.specs.declared.calls.RenameArguments.{RenameArguments}
 use Rattle.nfs_objects.proofs.Knows.{names-objects}
+use Rattle.nfs_objects.proofs.Numbers.{grown-have-numbers}
 use Rattle.nfs_objects.proofs.Suiting.{grows-suitably, starts-suitably}
 use Rattle.nfs_objects.specs.Asks.{Asks, EachOnce, MayAsk}
 use Rattle.nfs_objects.specs.Attempt.{AsksFirst, Attempts}
-use Rattle.nfs_objects.specs.Bound.{Grows, Round, held, view_after}
+use Rattle.nfs_objects.specs.Bound.{Grows, HasNumbers, Round, held, view_after}
 use Rattle.nfs_objects.specs.Fits.{vacant}
 use Rattle.nfs_objects.specs.Calls.{IsAmong, addresses_of, named_by, nfs_handles, objects_at, usages_of}
 use Rattle.nfs_objects.specs.Modes.{Suits, is_apart, modes_of, only_reads}
@@ -57,9 +58,21 @@ grows_suited call ctx [] grows = starts-suitably call
 grows_suited call ctx (round ∷ earlier) grows =
     grows-suitably call ctx (view_after earlier) grows.0 round grows.1 grows.2 (grows_suited call ctx earlier grows.3)
 
-pub grown_suited : (t : TxnValue) → HasGrown t → IsSuited t
+grown_suited : (t : TxnValue) → HasGrown t → IsSuited t
 grown_suited t g =
     subst (λ (v : ViewValue). Suits (modes_of t.call) v) (sym g.view_is) (grows_suited t.call t.ctx g.rounds g.grows)
+
+-- and has all its numbers or none; so it is of the call and the view that are lent
+module _ (t : TxnValue) (call : Call) (view : ViewValue) (g : HasGrown t) (named : call ≡ t.call)
+    (seen : view ≡ t.view) where
+  pub lent_suits : Suits (modes_of call) view
+  lent_suits = subst (λ (c : Call). Suits (modes_of c) view) (sym named)
+      (subst (λ (v : ViewValue). Suits (modes_of t.call) v) (sym seen) (grown_suited t g))
+
+  pub lent_numbers : HasNumbers call view
+  lent_numbers = subst (λ (c : Call). HasNumbers c view) (sym named)
+      (subst (λ (v : ViewValue). HasNumbers t.call v) (sym (seen ∙ g.view_is))
+      (grown-have-numbers t.call t.ctx g.rounds g.grows))
 
 -- ---- an address that is left of what was asked for
 -- behind entries that do not show the address

@@ -5,7 +5,7 @@ use Rattle.std.specs.Vec.Iter.{into_iter_items}
 use Rattle.std.specs.declared.alloc.AllocError.{AllocError}
 use Rattle.std.specs.declared.alloc.Global.{Global}
 use Rattle.std.specs.declared.vec.IntoIter.{IntoIter}
-use Rattle.nfs_machine.specs.Run.{Received}
+use Rattle.nfs_machine.specs.Run.{Arrival, bytes_in, host_in}
 use Rattle.nfs_machine.specs.declared.calls.Call.{Call}
 use Rattle.nfs_machine.specs.declared.context.Ctx.{Ctx}
 use Rattle.nfs_objects.proofs.Seen.{all-map}
@@ -24,9 +24,9 @@ use Rattle.nfs_objects.specs.declared.object.Object.{Object}
 use Rattle.nfs_objects.specs.declared.view.Reserved.{Reserved}
 use Rattle.nfs_replies.specs.Kept.ReplyEvent.{Repeated}
 use Rattle.nfs_replies.specs.Replies.{IsAfter}
-use Rattle.nfs_engine.proofs.Built.{asked-built}
+use Rattle.nfs_engine.proofs.Built.{arrival-built}
 use Rattle.nfs_engine.proofs.Going.{seen_beside}
-use Rattle.nfs_engine.specs.Arrivals.{ArrivalValue, received_value}
+use Rattle.nfs_engine.specs.Arrivals.{ArrivalValue, incoming_value}
 use Rattle.nfs_engine.specs.Book.{BeginsCall, BookValue, GivesUp, Repeats, StillRuns, store_in}
 use Rattle.nfs_engine.specs.Built.{IsBuilt}
 use Rattle.nfs_engine.specs.Calls.{FinishedValue, IsCalled, PendingValue, TxnValue, txn_of}
@@ -45,7 +45,7 @@ use Rattle.nfs_schedule.proofs.Arrived.{unacquired, unreserved_same}
 use Rattle.nfs_schedule.proofs.Others.{all_both}
 use Rattle.nfs_schedule.proofs.Rest.{places_same, places_without, rest_all, rest_begun, rest_still, rest_with, rest_without}
 use Rattle.nfs_schedule.specs.Answers.{IsRefused, IsUnanswered}
-use Rattle.nfs_schedule.specs.Grown.{AsksFor}
+use Rattle.nfs_schedule.specs.Grown.{AsksFor, IsGrown}
 use Rattle.nfs_schedule.specs.Turns.{Admits, Declines, Effect, Executes, IsNamed, IsTurnOf, KeepsBook, KeepsStore, Recalls, TakesFirst, after_all, numbers_taken}
 use Rattle.nfs_schedule.specs.Workers.{Comes, IsSuited, MayTake, MayThink, Thinks, Wants, WorkerLives, after_key, worker_id, worker_key}
 use Rattle.nfs_schedule.specs.declared.answer.Answer.{Answer}
@@ -283,7 +283,7 @@ module _ (e f : EngineValue) (r : ReleaseValue) (after : Afterwards) (k : KeepsO
     ]
 
 -- ---- the beginning and the end of a call
-pub not_executed : (e f : EngineValue) (received : Received) (asked : Asked) (answer : Answer) →
+pub not_executed : (e f : EngineValue) (received : Arrival) (asked : Asked) (answer : Answer) →
     IsRefused received asked answer → KeepsStore e f → Effect e f (Some answer)
 not_executed e f received asked (answers.Executed receipt) is keeps = absurd is
 not_executed e f received asked (answers.Repeated kept) is keeps = absurd is
@@ -319,9 +319,10 @@ answers_idle e f answer same effect = record {
 pub recalls : (e f : EngineValue) (a : ArrivalValue) (kept : RepeatValue) → Repeats e.book f.book a kept →
     Recalls e f kept
 recalls e f a kept r = record {
-  reply = subst (λ (x : Received). kept_for e.book.replies (origin_in x) ≡ Some kept.reply) (sym r.received) r.reply;
-  front = subst (λ (x : Received). IsAfter (Repeated x.host x.bytes) e.book.replies f.book.replies) (sym r.received)
-      r.front;
+  reply = subst (λ (x : Arrival). kept_for e.book.replies (origin_in x) ≡ Some kept.reply) (sym r.received) r.reply;
+  front =
+      subst (λ (x : Arrival). IsAfter (Repeated (host_in x) (bytes_in x)) e.book.replies f.book.replies)
+      (sym r.received) r.front;
   rest = r.rest;
 }
 
@@ -336,7 +337,7 @@ repeated e f a kept r all shards = record {
 }
 
 -- its call is in progress, and nothing is changed
-effect_unanswered : (e f : EngineValue) (received : Received) (answer : Answer) → f ≡ e → IsUnanswered received answer →
+effect_unanswered : (e f : EngineValue) (received : Arrival) (answer : Answer) → f ≡ e → IsUnanswered received answer →
     Effect e f (Some answer)
 effect_unanswered e f received (answers.Executed receipt) same is = absurd is
 effect_unanswered e f received (answers.Repeated kept) same is = absurd is
@@ -345,7 +346,7 @@ effect_unanswered e f received (answers.Early faulted) same is = absurd is
 effect_unanswered e f received (answers.Unanswered unanswered) same is =
     keeps_book e f (ap (λ (x : EngineValue). x.book) same)
 
-pub left_alone : (e f : EngineValue) (received : Received) (answer : Answer) → f ≡ e → IsUnanswered received answer →
+pub left_alone : (e f : EngineValue) (received : Arrival) (answer : Answer) → f ≡ e → IsUnanswered received answer →
     IsTurnOf e f 0 Idle Idle (Some answer)
 left_alone e f received answer same is = answers_idle e f answer same (effect_unanswered e f received answer same is)
 
@@ -366,7 +367,7 @@ left_unanswered e f a back answer runs same is = admits_left e f a back answer r
 
 pub given_up : (e f : EngineValue) (p : PendingValue) (refused : given.Refused) (answer : Answer) → Waits e p →
     GivesUp e.book f.book p refused → KeepsOthers p.id e f → f.shards ≡ e.shards →
-    IsRefused (received_value refused.received) refused.asked answer →
+    IsRefused (incoming_value refused.received) refused.asked answer →
     IsTurnOf e f 0 (Refusing p) Idle (Some answer)
 given_up e f p refused answer waits g k shards is =
     let keeps : KeepsStore e f =
@@ -380,9 +381,9 @@ given_up e f p refused answer waits g k shards is =
           (λ a. ap (λ s. held_among s a p.id) shards ∙ waits.holds.exactly a)
           (places_without e f (Refusing p) Idle p.key p.id (origin_of p.received p.call) waits.running refl
           (ap (λ (x : BookValue). x.living) g.rest));
-      effect = not_executed e f (received_value refused.received) refused.asked answer is keeps;
+      effect = not_executed e f (incoming_value refused.received) refused.asked answer is keeps;
       ids = ids_kept e f (Refusing p) Idle (ap (λ (x : BookValue). x.next_id) g.rest) refl;
-      named = declined answer (subst (λ (x : Received). IsRefused x refused.asked answer) g.received is);
+      named = declined answer (subst (λ (x : Arrival). IsRefused x refused.asked answer) g.received is);
     }
   where
     declined : (x : Answer) → IsRefused p.received refused.asked x → Declines p Idle (Some x)
@@ -441,29 +442,23 @@ thinks_on e (Leaving r after) v c lives = same_on e (Leaving r after) v c lives
 thinks_on e (PutOff p) v c lives = same_on e (PutOff p) v c lives
 thinks_on e (Refusing p) v c lives = same_on e (Refusing p) v c lives
 
-pub may_think : (e : EngineValue) (w : Worker) → WorkerLives e w → MayThink w
-may_think e (Trying t) lives = lives.1
-may_think e Idle lives = tt
-may_think e (Wanting t wanted) lives = tt
-may_think e (Wishing t left) lives = tt
-may_think e (Ready d) lives = tt
-may_think e (Blocked t) lives = tt
-may_think e (Failing t) lives = tt
-may_think e (Leaving r after) lives = tt
-may_think e (PutOff p) lives = tt
-may_think e (Refusing p) lives = tt
+pub may_think : (w : Worker) → IsGrown w → MayThink w
+may_think (Trying t) grown = grown
+may_think Idle grown = tt
+may_think (Wanting t wanted) grown = tt
+may_think (Wishing t left) grown = tt
+may_think (Ready d) grown = tt
+may_think (Blocked t) grown = tt
+may_think (Failing t) grown = tt
+may_think (Leaving r after) grown = tt
+may_think (PutOff p) grown = tt
+may_think (Refusing p) grown = tt
 
 -- what is called is built
-pub called_built : (received : Received) (xid : ℕ) (call : Call) (ctx : Ctx) → IsCalled received xid call ctx →
+pub called_built : (received : Arrival) (xid : ℕ) (call : Call) (ctx : Ctx) → IsCalled received xid call ctx →
     IsBuilt call
 called_built received xid call ctx called =
-    asked-built received.bytes (record { xid = xid; ids = ctx.ids; call = call }) (record {
-      header = called.header;
-      read = called.read;
-      is_call = called.is_call;
-      xid = called.number;
-      ids = called.ids;
-    })
+    arrival-built received (record { xid = xid; ids = ctx.ids; call = call }) called.asked
 
 -- ---- what is given up
 pub commit_fails : (e f : EngineValue) (done : FinishedValue) (t : TxnValue) → f ≡ e → t ≡ txn_of done →

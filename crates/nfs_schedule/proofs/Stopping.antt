@@ -1,6 +1,6 @@
 -- A worker that is stopped: its call lets go all that it holds, and is in progress no more.
 use Rattle.std.proofs.Common.{◌≡◌, ◌≢◌, ℕ, Option, Some, None, IsSome, refl, sym, ◌∙◌, ap, subst, arith}
-use Rattle.nfs_machine.specs.Run.{Received}
+use Rattle.nfs_machine.specs.Run.{Arrival}
 use Rattle.nfs_objects.specs.declared.address.Addr.{Addr}
 use Rattle.nfs_objects.specs.declared.address.Addr.TheVariants.{Inode}
 use Rattle.nfs_objects.specs.declared.modes.Mode.{Mode}
@@ -73,7 +73,7 @@ call_gone e m f t r p is lets gone =
     )
 
 -- ---- a worker
-module _ (e f : EngineValue) (w : Worker) (key id : ℕ) (received : Received) (answer : Answer)
+module _ (e f : EngineValue) (w : Worker) (key id : ℕ) (received : Arrival) (answer : Answer)
     (gone : IsGone e f key id) (o : Option Origin) (running : IsRunning e key id o) (own : worker_id w ≡ Some id)
     (place : worker_key w ≡ Some key) (came : received_of w ≡ Some received)
     (unanswered : IsUnanswered received answer) where
@@ -109,7 +109,7 @@ stop_ended e f r after lets = record {
     no_key : Then → Option ℕ
     no_key t = worker_key (Leaving (record r { after = t }) after)
 
-    no_received : Then → Option Received
+    no_received : Then → Option Arrival
     no_received t = received_of (Leaving (record r { after = t }) after)
 
 -- its call may begin anew, and is given up
@@ -125,7 +125,7 @@ stop_left e m f r after p answer leaving lets gone unanswered =
     key_of : Then → Option ℕ
     key_of t = worker_key (Leaving (record r { after = t }) after)
 
-    came_of : Then → Option Received
+    came_of : Then → Option Arrival
     came_of t = received_of (Leaving (record r { after = t }) after)
 
 -- its call is done, and is given up with what it was to change

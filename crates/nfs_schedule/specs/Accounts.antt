@@ -4,15 +4,15 @@ use Rattle.std.specs.Prelude.{take}
 use Rattle.std.specs.Prelude.{IsPermutation, Option, Some, None, Result, Ok, Err}
 use Rattle.std.specs.Arc.{arc_value}
 use Rattle.std.specs.List.{range_with_len}
-use Rattle.nfs_rpc.specs.Early.{call_of}
-use Rattle.nfs_rpc.specs.Messages.{CallHeader}
+use Rattle.nfs_rpc.specs.declared.credentials.Ids.{Ids}
 use Rattle.side_wire.specs.declared.message.Message.{Message}
 use Rattle.nfs_machine.specs.RpcReplies.{success_message}
-use Rattle.nfs_machine.specs.Run.{IsCall, Received, Record}
+use Rattle.nfs_machine.specs.Run.{Arrival, FromHost, NewExports, Record, bytes_in, host_in}
 use Rattle.nfs_machine.specs.declared.calls.Call.{Call}
 use Rattle.nfs_replies.specs.Kept.ReplyEvent.{Repeated}
 use Rattle.nfs_replies.specs.Replies.{IsAfter, RepliesValue}
 use Rattle.nfs_engine.specs.Arrivals.{ArrivalValue, received_value, shared_value}
+use Rattle.nfs_engine.specs.Asked.{IsAskedBy}
 use Rattle.nfs_engine.specs.Repeats.{Keeps, kept_for, origin_in, origin_of}
 use Rattle.nfs_engine.specs.declared.journal.Receipt.{Receipt}
 use Rattle.nfs_engine.specs.declared.outbox.Posted.{Posted}
@@ -22,7 +22,7 @@ use Rattle.nfs_schedule.specs.Worlds.{WorldValue, records_of}
 use Rattle.nfs_schedule.specs.declared.answer.Answer.{Answer}
 use Rattle.nfs_schedule.specs.declared.answer.Answer.TheVariants as answers
 use Rattle.nfs_schedule.specs.declared.driving.Event.{Event}
-use Rattle.nfs_schedule.specs.declared.driving.Event.TheVariants.{Arrive}
+use Rattle.nfs_schedule.specs.declared.driving.Event.TheVariants.{Arrive, Replace}
 
 -- ---- what was executed
 -- the receipt that an answer tells, where its call was executed
@@ -52,10 +52,10 @@ all_messages w = map (λ (p : Posted). p.message) w.taken ++ w.engine.book.outbo
 
 -- what came in asks this call, and the answer is the reply that is recorded, under the call's xid
 pub record IsReplyTo (receipt : Receipt) (call : Call) : Type 0 where
-  pub header : CallHeader
-  pub read : call_of (answered (answers.Executed receipt)).bytes ≡ Ok header
-  pub asks : IsCall header.program header.procedure header.arguments call
-  pub reply : receipt.answer ≡ success_message header.xid (arc_value receipt.executed).reply
+  pub xid : ℕ
+  pub ids : Ids
+  pub asks : IsAskedBy (answered (answers.Executed receipt)) (record { xid = xid; ids = ids; call = call })
+  pub reply : receipt.answer ≡ success_message xid (arc_value receipt.executed).reply
 
 -- ---- the replies that are kept
 -- The reply to a call that changes something is kept as it is executed. A repeat has the reply that was kept for it,
@@ -64,7 +64,7 @@ abbrev pub KeepsReplies : RepliesValue → Answer → RepliesValue → Type 0
 KeepsReplies old (answers.Executed receipt) new = (call : Call) × IsReplyTo receipt call ×
     Keeps (origin_of (answered (answers.Executed receipt)) call) receipt.answer old new
 KeepsReplies old (answers.Repeated repeat) new = (kept_for old (origin_in repeat.received) ≡ Some repeat.reply) ×
-    IsAfter (Repeated repeat.received.host repeat.received.bytes) old new
+    IsAfter (Repeated (host_in repeat.received) (bytes_in repeat.received)) old new
 KeepsReplies old answer new = new ≡ old
 
 -- the same over answers, one after the other
@@ -75,12 +75,13 @@ RepliesFollow old (answer ∷ given) new =
 
 -- ---- what came in
 -- what an event brings
-abbrev pub brought : Event → Option Received
-brought (Arrive came) = Some (received_value came)
+abbrev pub brought : Event → Option Arrival
+brought (Arrive came) = Some (FromHost (received_value came))
+brought (Replace exports moment) = Some (NewExports exports moment)
 brought event = None
 
 -- what came in and has no answer yet: it waits in the queue, or a worker has its call
-abbrev pub unanswered : WorldValue → List Received
+abbrev pub unanswered : WorldValue → List Arrival
 unanswered w = map (λ (a : ArrivalValue). a.received) w.queue ++ filter_map received_of w.workers
 
 -- the events whose steps were made: all, or those before the one that was refused its memory

@@ -5,18 +5,18 @@ use Rattle.nfs_machine.specs.Refusal.{refusal_of}
 use Rattle.nfs_machine.specs.RpcReplies.{refusal_message}
 use Rattle.nfs_machine.specs.Run as machine
 use Rattle.nfs_engine.specs.Answers.{answer_bytes}
-use Rattle.nfs_engine.specs.Arrivals.{received_value}
+use Rattle.nfs_engine.specs.Arrivals.{incoming_value}
 use Rattle.nfs_engine.specs.declared.asking.Asked.{Asked}
 use Rattle.nfs_schedule.specs.declared.answer.Answer.{Answer}
 use Rattle.nfs_schedule.specs.declared.answer.Answer.TheVariants.{Executed, Repeated, Refused, Early, Unanswered}
 
 -- what came in
-abbrev pub answered : Answer → machine.Received
-answered (Executed receipt) = received_value (arc_value receipt.executed).received
+abbrev pub answered : Answer → machine.Arrival
+answered (Executed receipt) = incoming_value (arc_value receipt.executed).received
 answered (Repeated kept) = kept.received
-answered (Refused declined) = received_value declined.received
-answered (Early faulted) = received_value faulted.received
-answered (Unanswered received) = received_value received
+answered (Refused declined) = incoming_value declined.received
+answered (Early faulted) = incoming_value faulted.received
+answered (Unanswered received) = incoming_value received
 
 -- the bytes of the reply, if there is one
 abbrev pub reply_bytes : Answer → List ℕ
@@ -27,12 +27,12 @@ reply_bytes (Early faulted) = answer_bytes faulted.answer
 reply_bytes (Unanswered received) = []
 
 -- what came in, which asks this, is refused: the answer is the refusal, or nothing where there was no memory for it
-abbrev pub IsRefused : machine.Received → Asked → Answer → Type 0
-IsRefused received asked (Refused declined) = (received_value declined.received ≡ received) ×
+abbrev pub IsRefused : machine.Arrival → Asked → Answer → Type 0
+IsRefused received asked (Refused declined) = (incoming_value declined.received ≡ received) ×
     IfSome declined.answer (λ bytes. bytes.items ≡ refusal_message asked.xid (refusal_of asked.call))
 IsRefused received asked answer = ⊥
 
 -- it came in, and has no reply
-abbrev pub IsUnanswered : machine.Received → Answer → Type 0
-IsUnanswered received (Unanswered unanswered) = received_value unanswered ≡ received
+abbrev pub IsUnanswered : machine.Arrival → Answer → Type 0
+IsUnanswered received (Unanswered unanswered) = incoming_value unanswered ≡ received
 IsUnanswered received answer = ⊥

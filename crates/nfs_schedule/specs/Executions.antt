@@ -1,6 +1,6 @@
 -- One call from its arrival to its answer, on an engine at rest.
 use Rattle.std.specs.Prelude.{◌≡◌, ◌≢◌, ℕ, Option, None, IfSome}
-use Rattle.nfs_machine.specs.Run.{context_of}
+use Rattle.nfs_machine.specs.Run.{context_of, host_in, moment_in}
 use Rattle.nfs_objects.specs.Rooms.{with_seen, with_number}
 use Rattle.nfs_objects.specs.Store.{Store}
 use Rattle.nfs_objects.specs.Values.{Seen, seen_at}
@@ -8,7 +8,7 @@ use Rattle.nfs_objects.specs.declared.address.Addr.{Addr}
 use Rattle.nfs_objects.specs.declared.address.Addr.TheVariants.{Inode}
 use Rattle.nfs_objects.specs.declared.modes.Mode.{Mode}
 use Rattle.nfs_objects.specs.declared.view.Reserved.{Reserved}
-use Rattle.nfs_engine.specs.Arrivals.{ArrivalValue, received_value}
+use Rattle.nfs_engine.specs.Arrivals.{ArrivalValue, incoming_value}
 use Rattle.nfs_engine.specs.Book.{Repeats}
 use Rattle.nfs_engine.specs.Calls.{FinishedValue, PendingValue, TxnValue, txn_of}
 use Rattle.nfs_engine.specs.Engine.{EngineValue, LeadsOn, Lives, held_among}
@@ -74,7 +74,7 @@ EndsIn e f t (answers.Refused declined) = KeepsStore e f ×
     IsRefused t.received (record { xid = t.xid; ids = t.ctx.ids; call = t.call }) (answers.Refused declined)
 EndsIn e f t answer = ⊥
 
--- The record asks a call, which began and was executed as the next record. If it changes something, no reply was kept
+-- What came in asks a call, which began and was executed as the next record. If it changes something, no reply was kept
 -- for it. It read each address once, and few that hold nothing.
 pub record Executed (e f : EngineValue) (a : ArrivalValue) (receipt : Receipt) : Type 0 where
   pub asked : Asked
@@ -86,7 +86,7 @@ pub record Executed (e f : EngineValue) (a : ArrivalValue) (receipt : Receipt) :
   pub received : done.received ≡ a.received
   pub xid : done.xid ≡ asked.xid
   pub call : done.done.call ≡ asked.call
-  pub ctx : done.done.ctx ≡ context_of e.book.setting a.received.host asked.ids a.received.moment
+  pub ctx : done.done.ctx ≡ context_of e.book.setting (host_in a.received) asked.ids (moment_in a.received)
   pub few : HasReadFew (txn_of done)
   pub executes : Executes begun f done receipt
 
@@ -98,5 +98,5 @@ Answers e f a (answers.Repeated kept) = Repeats e.book f.book a kept
 Answers e f a (answers.Refused declined) = (asked : Asked) × (a.reading ≡ readings.Asks asked) ×
     KeepsStore e f × IsRefused a.received asked (answers.Refused declined)
 Answers e f a (answers.Early faulted) = (a.reading ≡ readings.Faulted faulted.answer) ×
-    (received_value faulted.received ≡ a.received) × (f ≡ e)
+    (incoming_value faulted.received ≡ a.received) × (f ≡ e)
 Answers e f a answer = ⊥

@@ -1,6 +1,6 @@
 -- What stopping a worker does.
 use Rattle.std.specs.Prelude.{◌≡◌, ℕ, Option, Some, None}
-use Rattle.nfs_machine.specs.Run.{Received}
+use Rattle.nfs_machine.specs.Run.{Arrival}
 use Rattle.nfs_objects.specs.declared.address.Addr.{Addr}
 use Rattle.nfs_engine.specs.Engine.{EngineValue, KeepsOthers, held_among}
 use Rattle.nfs_engine.specs.Running.{without_call}
@@ -17,12 +17,12 @@ use Rattle.nfs_schedule.specs.declared.worker.Worker.TheVariants.{Leaving, PutOf
 
 -- ---- what is told
 -- what came in of what a release leads to, if that is a call in progress
-abbrev pub after_received : Then → Option Received
+abbrev pub after_received : Then → Option Arrival
 after_received (then.Aborted p) = Some p.received
 after_received then.Ended = None
 
 -- what came in of the worker's call, if it is in progress
-abbrev pub received_of : Worker → Option Received
+abbrev pub received_of : Worker → Option Arrival
 received_of Idle = None
 received_of (Trying t) = Some t.received
 received_of (Wanting t wanted) = Some t.received
@@ -37,7 +37,7 @@ received_of (Refusing p) = Some p.received
 -- the worker's call has no reply; nothing is told where none is in progress
 abbrev pub IsStopped : Worker → Option Answer → Type 0
 IsStopped w None = received_of w ≡ None
-IsStopped w (Some answer) = (received : Received) × (received_of w ≡ Some received) × IsUnanswered received answer
+IsStopped w (Some answer) = (received : Arrival) × (received_of w ≡ Some received) × IsUnanswered received answer
 
 -- ---- what is changed
 -- the call is no longer in progress and holds nothing, and the others are as they were

@@ -3,9 +3,10 @@ use Rattle.std.specs.Prelude.{◌≡◌, ◌+◌, ◌<◌, ◌≤◌, ℕ, List,
 use Rattle.std.specs.Prelude.{Ok, Err, length}
 use Rattle.std.specs.Vec.Iter.{into_iter_items}
 use Rattle.nfs_machine.specs.RpcReplies.{success_message}
+use Rattle.nfs_machine.specs.Run.{bytes_in, host_in}
 use Rattle.nfs_replies.specs.Kept.ReplyEvent.{Repeated}
 use Rattle.nfs_replies.specs.Replies.{IsAfter}
-use Rattle.nfs_engine.specs.Arrivals.{ArrivalValue, received_value}
+use Rattle.nfs_engine.specs.Arrivals.{ArrivalValue, incoming_value}
 use Rattle.nfs_engine.specs.Book.{BeginsCall, Commits, IsAdmitError, LeadsBook, Repeats, Steps, StillRuns}
 use Rattle.nfs_engine.specs.Calls.{FinishedValue, IsCalled, PendingValue, TxnValue, again_of, txn_of}
 use Rattle.nfs_engine.specs.Commits.{IsReceipt}
@@ -61,7 +62,7 @@ pub record Executes (e f : EngineValue) (done : FinishedValue) (receipt : Receip
 -- a reply that is kept comes to the front, and nothing else changes
 pub record Recalls (e f : EngineValue) (kept : RepeatValue) : Type 0 where
   pub reply : kept_for e.book.replies (origin_in kept.received) ≡ Some kept.reply
-  pub front : IsAfter (Repeated kept.received.host kept.received.bytes) e.book.replies f.book.replies
+  pub front : IsAfter (Repeated (host_in kept.received) (bytes_in kept.received)) e.book.replies f.book.replies
   pub rest : f.book ≡ record e.book { replies = f.book.replies }
 
 -- only what is executed changes store, records and messages, and only that and a repeat the replies that are kept
@@ -80,12 +81,12 @@ Admits e f a Idle (Some (answers.Repeated kept)) = Repeats e.book f.book a kept 
 Admits e f a Idle (Some (answers.Unanswered received)) = StillRuns e.book f.book a a ×
     IsUnanswered a.received (answers.Unanswered received) × (f ≡ e)
 Admits e f a Idle (Some (answers.Early faulted)) = (a.reading ≡ readings.Faulted faulted.answer) ×
-    (received_value faulted.received ≡ a.received) × (f ≡ e)
+    (incoming_value faulted.received ≡ a.received) × (f ≡ e)
 Admits e f a Idle (Some answer) = (asked : Asked) × (a.reading ≡ readings.Asks asked) ×
     IsRefused a.received asked answer × (f ≡ e) × (error : AdmitError) × IsAdmitError e.book a error
 Admits e f a next answer = ⊥
 
--- a record that asks a call
+-- what asks a call
 abbrev pub AsksCall : ArrivalValue → Type 0
 AsksCall a = (asked : Asked) × (a.reading ≡ readings.Asks asked)
 

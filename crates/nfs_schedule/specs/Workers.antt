@@ -16,7 +16,7 @@ use Rattle.nfs_engine.specs.Engine.{EngineValue, IsLeaving, Lives, Waits, held_a
 use Rattle.nfs_engine.specs.Running.{running_at}
 use Rattle.nfs_engine.specs.declared.release.Then.{Then}
 use Rattle.nfs_engine.specs.declared.release.Then.TheVariants as then
-use Rattle.nfs_schedule.specs.Grown.{AsksFor}
+use Rattle.nfs_schedule.specs.Grown.{AsksFor, HasGrown}
 use Rattle.nfs_schedule.specs.declared.worker.Worker.{Worker}
 use Rattle.nfs_schedule.specs.declared.worker.Worker.TheVariants.{Idle, Trying, Wanting, Wishing, Ready}
 use Rattle.nfs_schedule.specs.declared.worker.Worker.TheVariants.{Blocked, Failing}
@@ -43,7 +43,7 @@ IsSuited t = Suits (modes_of t.call) t.view
 
 -- a worker that has to think may do so
 abbrev pub MayThink : Worker → Type 0
-MayThink (Trying t) = IsSuited t
+MayThink (Trying t) = HasGrown t
 MayThink worker = Unit {0}
 
 -- what a worker has lives in the engine

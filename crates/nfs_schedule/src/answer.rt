@@ -1,9 +1,9 @@
 //! How what came in was answered.
 
 ghost use Rattle.std.specs.Prelude.{◌≡◌, IfSome};
-ghost use Rattle.nfs_engine.specs.Arrivals.{received_value};
+ghost use Rattle.nfs_engine.specs.Arrivals.{incoming_value};
 ghost use Rattle.nfs_engine.specs.Answers.{answer_bytes};
-ghost use Rattle.nfs_engine.specs.Asked.{IsAsked};
+ghost use Rattle.nfs_engine.specs.Asked.{IsAskedBy};
 ghost use Rattle.nfs_engine.specs.Forms.{RefusalHasForm};
 ghost use Rattle.nfs_machine.specs.Refusal.{refusal_of};
 ghost use Rattle.nfs_machine.specs.RpcReplies.{refusal_message};
@@ -12,18 +12,18 @@ ghost use Rattle.nfs_engine.specs.declared.asking.Asked.{Asked};
 ghost use Rattle.nfs_schedule.specs.Answers.{IsRefused, answered, reply_bytes};
 ghost use Rattle.nfs_schedule.specs.Turns.{AsksCall};
 
-use nfs_engine::{Arrival, Asked, Faulted, Kept, Reading, Receipt, Received, answers};
+use nfs_engine::{Arrival, Asked, Faulted, Incoming, Kept, Reading, Receipt, answers};
 use std::alloc::Global;
 
 /// A call that was not executed, for want of memory or of a number.
 #[derive(Drop)]
 pub struct Declined {
-    pub received: Received,
+    pub received: Incoming,
     /// Its refusal; None where there was no memory for that.
     pub answer: Option<Vec<u8>>,
 }
 
-/// How a record that came in was answered.
+/// How what came in was answered.
 #[derive(Drop)]
 pub enum Answer {
     /// Its call was executed.
@@ -35,13 +35,13 @@ pub enum Answer {
     /// It has a fault.
     Early(Faulted),
     /// It is not executed, and has no reply: its worker was stopped, or a call that came with the same is in progress.
-    Unanswered(Received),
+    Unanswered(Incoming),
 }
 
 impl Answer {
     /// What came in.
-    pub fn received(&self) -> &Received
-        ensures { received_value result.now ≡ answered self.now }
+    pub fn received(&self) -> &Incoming
+        ensures { incoming_value result.now ≡ answered self.now }
     {
         match self {
             Answer::Executed(receipt) => &receipt.executed.received,
@@ -77,9 +77,9 @@ fn bytes_of(answer: &Option<Vec<u8>>) -> &[u8]
 }
 
 /// The answer of a call that is not executed.
-pub(crate) fn refuse(alloc: Global, received: Received, asked: Asked) -> Answer
-    requires { IsAsked (received_value received).bytes asked }
-    ensures { IsRefused (received_value received) asked result }
+pub(crate) fn refuse(alloc: Global, received: Incoming, asked: Asked) -> Answer
+    requires { IsAskedBy (incoming_value received) asked }
+    ensures { IsRefused (incoming_value received) asked result }
 {
     let answer = refusal(alloc, &asked);
     drop(asked);

@@ -2,6 +2,7 @@
 
 ghost use Rattle.std.specs.Prelude.{IfOk};
 ghost use Rattle.nfs_objects.specs.Attempt.{AsksFirst, Attempts};
+ghost use Rattle.nfs_objects.specs.Bound.{HasNumbers};
 ghost use Rattle.nfs_objects.specs.Modes.{Suits, modes_of};
 ghost use Rattle.nfs_engine.specs.Built.{IsBuilt};
 
@@ -18,6 +19,7 @@ use std::alloc::{AllocError, Global};
 pub fn attempt(alloc: Global, call: &Call, ctx: &Ctx, view: &View) -> Result<Outcome, AllocError>
     requires built { IsBuilt call.now }
     requires suits { Suits (modes_of call.now) view.now }
+    requires numbers { HasNumbers call.now view.now }
     ensures attempts { IfOk result (Attempts call.now ctx.now view.now) }
     ensures first { IfOk result (AsksFirst call.now view.now) }
 {
@@ -25,7 +27,7 @@ pub fn attempt(alloc: Global, call: &Call, ctx: &Ctx, view: &View) -> Result<Out
         Call::Nfs(call) => attempt_nfs(alloc, call, ctx, view),
         Call::Mount(call) => nfs_mount::attempt(alloc, call, ctx, view),
         Call::Nlm(call) => nlm_daemon::attempt(alloc, call, ctx, view),
-        Call::Replace(_) => unreachable!(),
+        Call::Replace(exports) => nfs_mount::attempt_replace(alloc, exports, ctx, view),
     }
 }
 

@@ -7,7 +7,6 @@ ghost use Rattle.nfs_objects.specs.Attempt.{AsksFirst, Attempts};
 ghost use Rattle.nfs_objects.specs.Bound.{view_after};
 ghost use Rattle.nfs_schedule.specs.Courses.{IsAfterNumber, IsAt, IsBehind, IsFirstOf, IsNextStep};
 ghost use Rattle.nfs_schedule.specs.Grown.{HasGrown};
-ghost use Rattle.nfs_schedule.specs.Workers.{IsSuited};
 
 use crate::attempts::attempt;
 use crate::foreseen::foreseen;
@@ -148,11 +147,11 @@ fn has_spare(alloc: Global) -> bool {
 ///
 /// There is no memory for it.
 pub(crate) fn attempt_on(alloc: Global, txn: &Txn) -> Result<Outcome, AllocError>
-    requires { IsSuited txn.now }
+    requires { HasGrown txn.now }
     ensures attempts { IfOk result (Attempts txn.now.call txn.now.ctx txn.now.view) }
     ensures first { IfOk result (AsksFirst txn.now.call txn.now.view) }
 {
-    // It brings that this is what the record asks, so that its procedure is built.
+    // It brings that this is what came in asks, so that its procedure is built.
     txn.is_called();
     attempt(alloc, txn.call(), txn.ctx(), txn.view())
 }

@@ -3,6 +3,8 @@
 ghost use Rattle.std.specs.Prelude.{◌≡◌, ◌<◌, ◌++◌, IfErr, OnErr, OnOk, length, option_to_list, take};
 ghost use Rattle.std.specs.List.{AllByRecursion};
 ghost use Rattle.std.specs.Vec.{vec_capacity, vec_len};
+ghost use Rattle.nfs_machine.specs.Run.{FromHost, NewExports};
+ghost use Rattle.nfs_engine.specs.Arrivals.{received_value};
 ghost use Rattle.nfs_schedule.specs.Accounts.{IsAccounted, made};
 ghost use Rattle.nfs_schedule.specs.Events.{Arrives, Drives, Goes, HasWorker};
 ghost use Rattle.nfs_schedule.specs.Worlds.{RunsOn};
@@ -10,13 +12,16 @@ ghost use Rattle.nfs_schedule.specs.Worlds.{RunsOn};
 use crate::answer::Answer;
 use crate::world::World;
 use nfs_engine::{Arrival, Received};
+use nfs_machine::{Exports, Moment};
 use std::alloc::{AllocError, Global};
 
 /// What may happen to a world: one step of one worker, or of the engine's book.
 #[derive(Drop)]
 pub enum Event {
-    /// This comes in, and waits behind what came in before.
+    /// This record comes in, and waits behind what came in before.
     Arrive(Received),
+    /// These exports come in, to replace those that there are, and wait behind what came in before.
+    Replace(Exports, Moment),
     /// This worker, from 1, thinks and makes the step that its state names.
     Turn(usize),
     /// This worker, from 1, is stopped: what it has is given up.
@@ -27,7 +32,7 @@ pub enum Event {
     NewEra,
 }
 
-/// Makes the steps of these events, one after the other. How a record that came in was answered is put behind these
+/// Makes the steps of these events, one after the other. How what came in was answered is put behind these
 /// answers in the step in which it ends. Each event names workers that are there.
 ///
 /// # Errors
@@ -69,6 +74,7 @@ fn happen(
     answers.reserve(1)?;
     match event {
         Event::Arrive(received) => arrive(alloc, world, received)?,
+        Event::Replace(exports, moment) => replace(world, exports, *moment)?,
         Event::Turn(worker) => note(answers, world.turn(alloc, *worker)),
         Event::Stop(worker) => note(answers, world.stop(*worker)),
         Event::TakeMessage => world.take_message()?,
@@ -79,7 +85,7 @@ fn happen(
 
 /// Reads a record that came in, and puts it last in the queue. An error changes nothing.
 fn arrive(alloc: Global, world: &mut World, received: &Received) -> Result<(), AllocError>
-    ensures ok { OnOk result (Arrives world.old world.new received.now) }
+    ensures ok { OnOk result (Arrives world.old world.new (FromHost (received_value received.now))) }
     ensures err { OnErr result (world.new ≡ world.old) }
 {
     let Received {
@@ -91,6 +97,18 @@ fn arrive(alloc: Global, world: &mut World, received: &Received) -> Result<(), A
     // It brings that this is what the record asks.
     arrival.reading();
     world.arrive(arrival)?;
+    Ok(())
+}
+
+/// Puts exports that came in last in the queue. An error changes nothing.
+fn replace(world: &mut World, exports: &Exports, moment: Moment) -> Result<(), AllocError>
+    ensures ok { OnOk result (Arrives world.old world.new (NewExports exports.now moment)) }
+    ensures err { OnErr result (world.new ≡ world.old) }
+{
+    let came = Arrival::exports(exports.clone()?, moment)?;
+    // It brings that this is what they ask.
+    came.reading();
+    world.arrive(came)?;
     Ok(())
 }
 

@@ -26,7 +26,7 @@ const SHARD: usize = 1;
 /// There was no memory, or no number.
 struct Unmet;
 
-/// Brings a record that came in to its answer. No call is in progress in the engine, and none is afterwards.
+/// Brings what came in to its answer. No call is in progress in the engine, and none is afterwards.
 pub fn execute(alloc: Global, engine: &mut Engine, arrival: Arrival) -> Answer
     requires rest { IsAtRest engine.old }
     ensures rest { IsAtRest engine.new }

@@ -7,8 +7,9 @@ ghost use Rattle.nfs_objects.specs.Values.{change_value, done_value};
 ghost use Rattle.nfs_engine.specs.Calls.{txn_of};
 ghost use Rattle.nfs_engine.specs.Engine.{IsLeaving, Lives, Waits};
 ghost use Rattle.nfs_schedule.specs.Answers.{IsUnanswered};
+ghost use Rattle.nfs_schedule.specs.Grown.{HasGrown};
 ghost use Rattle.nfs_schedule.specs.Turns.{Admits, IsTurnOf, KeepsQueue, TakesArrival, after_all};
-ghost use Rattle.nfs_schedule.specs.Workers.{Comes, IsSuited, MayThink, Thinks, WorkerLives};
+ghost use Rattle.nfs_schedule.specs.Workers.{Comes, MayThink, Thinks, WorkerLives};
 
 use crate::answer::{Answer, refuse, refuse_arrival};
 use crate::course::attempt_on;
@@ -107,7 +108,7 @@ fn thought(alloc: Global, worker: Worker) -> Worker
 
 /// Tries the call on what it has read.
 fn consider(alloc: Global, txn: Txn) -> Worker
-    requires { IsSuited txn }
+    requires { HasGrown txn }
     ensures { Comes txn result }
 {
     match attempt_on(alloc, &txn) {
@@ -235,7 +236,7 @@ fn commit(alloc: Global, engine: &mut Engine, finished: Finished) -> (Worker, Op
     requires { Lives engine.old (txn_of finished) }
     ensures { IsTurnOf engine.old engine.new 0 (Worker.Ready finished) result.0 result.1 }
 {
-    // It brings that this is what the record asks.
+    // It brings that this is what came in asks.
     finished.is_finished();
     match engine.commit(alloc, finished) {
         Ok((receipt, release)) => (

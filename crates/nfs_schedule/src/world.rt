@@ -2,6 +2,7 @@
 
 ghost use Rattle.std.specs.Prelude.{◌≡◌, ◌<◌, ◌≤◌, [], ◌∷◌, ◌++◌, IfErr, IfOk, OnErr};
 ghost use Rattle.std.specs.Prelude.{OnOk, length, replicate};
+ghost use Rattle.nfs_schedule.specs.Grown.{IsGrown};
 ghost use Rattle.nfs_schedule.specs.Order.{IsOrderly};
 ghost use Rattle.nfs_schedule.specs.Stops.{IsStop};
 ghost use Rattle.nfs_schedule.specs.Turns.{KeepsBook, Turns};
@@ -17,7 +18,7 @@ use std::collections::VecDeque;
 use std::marker::Model;
 use std::mem;
 
-/// The engine and its workers, the records that wait to be admitted, the eras that are over, and the messages that were
+/// The engine and its workers, what waits to be admitted, the eras that are over, and the messages that were
 /// taken. It has to be spent.
 pub struct World {
     engine: Engine,
@@ -122,7 +123,7 @@ impl World {
         self.engine.run();
     }
 
-    /// How many records came in that were not yet admitted.
+    /// How many arrivals were not yet admitted.
     pub fn waiting(&self) -> usize
         ensures { result ≡ length self.now.queue }
     {
@@ -145,7 +146,7 @@ impl World {
 }
 
 impl World {
-    /// Puts a record that came in last in the queue.
+    /// Puts what came in last in the queue.
     ///
     /// # Errors
     ///
@@ -254,6 +255,7 @@ fn turn_at(
     shard: usize,
 ) -> Option<Answer>
     requires lives { WorkerLives engine.old worker.old }
+    requires grown { IsGrown worker.old }
     requires shard { shard < SHARDS }
     ensures { Turns engine.old engine.new queue.old.items queue.new.items shard worker.old worker.new result }
 {

@@ -6,7 +6,7 @@ use Rattle.std.specs.declared.vec.Vec.{Vec}
 use Rattle.nfs_rpc.specs.declared.faults.Early.TheVariants.{Drop}
 use Rattle.nfs_machine.specs.Changing.{is_changing}
 use Rattle.nfs_machine.specs.Refusal.{refusal_of}
-use Rattle.nfs_machine.specs.Run.{Arrival, FromHost, IsCall, Received, Setting, context_of}
+use Rattle.nfs_machine.specs.Run.{Arrival, FromHost, NewExports, IsCall, Received, Setting, bytes_in, context_of}
 use Rattle.nfs_machine.specs.RpcReplies.{refusal_message, success_message}
 use Rattle.nfs_machine.specs.State.{State}
 use Rattle.nfs_machine.specs.declared.calls.Call.{Call}
@@ -35,7 +35,7 @@ use Rattle.nfs_schedule.specs.Executions.{Answers, Executed}
 use Rattle.nfs_schedule.specs.Answers.{reply_bytes}
 use Rattle.nfs_streams.proofs.Eras.{keeps_era, keeps_join, keeps_one, keeps_records, keeps_same}
 use Rattle.nfs_streams.specs.Connections.{bytes_of}
-use Rattle.nfs_streams.specs.Served.{ExecutesNothing, HasEraRoom, IsAnswered, KeepsSetting, StandsAt}
+use Rattle.nfs_streams.specs.Served.{ExecutesNothing, HasEraRoom, IsAnswered, IsRecord, KeepsSetting, StandsAt}
 use Rattle.nfs_streams.specs.Serving.{AnswersArrival, Standing, lists_with}
 use Rattle.nfs_schedule.specs.Turns.{KeepsStore}
 use Rattle.nfs_schedule.specs.Worlds.{IsAtRest}
@@ -109,11 +109,16 @@ stands_on e f s same replies at = record {
 }
 
 -- ---- a record with a fault
-pub early_answered : (e f : EngineValue) (a : ArrivalValue) (faulted : Faulted) → IsArrival a →
-    Answers e f a (answers.Early faulted) → IsAnswered (FromHost a.received) e f (answer_bytes faulted.answer)
-early_answered e f a faulted is x =
-    let fault : IsFaultAnswer a.received.bytes (answer_of faulted.answer) =
-    subst (λ (r : Reading). IsReading a.received.bytes r) x.0 is.reading in
+-- a record that came in and was read so
+abbrev from : Received → Reading → ArrivalValue
+from received reading = record { received = FromHost received; reading = reading }
+
+early_answered : (e f : EngineValue) (received : Received) (reading : Reading) (faulted : Faulted) →
+    IsArrival (from received reading) → Answers e f (from received reading) (answers.Early faulted) →
+    IsAnswered (FromHost received) e f (answer_bytes faulted.answer)
+early_answered e f received reading faulted is x =
+    let fault : IsFaultAnswer received.bytes (answer_of faulted.answer) =
+    subst (λ (r : Reading). IsReading (FromHost received) r) x.0 is.reading in
     record {
       keeps = keeps_same e f x.2;
       each = λ m stands. (
@@ -132,21 +137,21 @@ early_answered e f a faulted is x =
     }
 
 -- ---- a record that asks a call
-module _ (a : ArrivalValue) (asked : Asked) (is : IsAsked a.received.bytes asked) where
+module _ (received : Received) (asked : Asked) (is : IsAsked received.bytes asked) where
   context_is : (setting : Setting) →
-      context_of setting a.received.host asked.ids a.received.moment ≡
-      context_of setting a.received.host is.header.ids a.received.moment
-  context_is setting = ap (λ ids. context_of setting a.received.host ids a.received.moment) (sym is.ids)
+      context_of setting received.host asked.ids received.moment ≡
+      context_of setting received.host is.header.ids received.moment
+  context_is setting = ap (λ ids. context_of setting received.host ids received.moment) (sym is.ids)
 
   refused_bytes : (e f : EngineValue) (bytes : List ℕ) → KeepsStore e f →
-      bytes ≡ refusal_message asked.xid (refusal_of asked.call) → IsAnswered (FromHost a.received) e f bytes
+      bytes ≡ refusal_message asked.xid (refusal_of asked.call) → IsAnswered (FromHost received) e f bytes
   refused_bytes e f bytes keeps answered = record {
     keeps = keeps_stored e f keeps;
     each = λ m stands. (
       [],
       m,
       inr (inl (record {
-        ctx = context_of e.book.setting a.received.host asked.ids a.received.moment;
+        ctx = context_of e.book.setting received.host asked.ids received.moment;
         call = asked.call;
         asks = record {
           header = is.header;
@@ -162,55 +167,56 @@ module _ (a : ArrivalValue) (asked : Asked) (is : IsAsked a.received.bytes asked
     );
   }
 
-asks_of : (a : ArrivalValue) (asked : Asked) → IsArrival a → a.reading ≡ readings.Asks asked →
-    IsAsked a.received.bytes asked
-asks_of a asked is asks = subst (λ (r : Reading). IsReading a.received.bytes r) asks is.reading
+asks_of : (received : Received) (reading : Reading) (asked : Asked) → IsArrival (from received reading) →
+    reading ≡ readings.Asks asked → IsAsked received.bytes asked
+asks_of received reading asked is asks = subst (λ (r : Reading). IsReading (FromHost received) r) asks is.reading
 
-pub refused_answered : (e f : EngineValue) (a : ArrivalValue) (declined : Declined) (bytes : Vec ℕ Global) →
-    IsArrival a → Answers e f a (answers.Refused declined) → declined.answer ≡ Some bytes →
-    IsAnswered (FromHost a.received) e f bytes.items
-refused_answered e f a declined bytes is x some =
-    refused_bytes a x.0 (asks_of a x.0 is x.1) e f bytes.items x.2
+refused_answered : (e f : EngineValue) (received : Received) (reading : Reading) (declined : Declined)
+    (bytes : Vec ℕ Global) → IsArrival (from received reading) →
+    Answers e f (from received reading) (answers.Refused declined) → declined.answer ≡ Some bytes →
+    IsAnswered (FromHost received) e f bytes.items
+refused_answered e f received reading declined bytes is x some =
+    refused_bytes received x.0 (asks_of received reading x.0 is x.1) e f bytes.items x.2
     (rw some at x.3.1)
 
-pub refused_nothing : (e f : EngineValue) (a : ArrivalValue) (declined : Declined) →
+refused_nothing : (e f : EngineValue) (a : ArrivalValue) (declined : Declined) →
     Answers e f a (answers.Refused declined) → ExecutesNothing e f
 refused_nothing e f a declined x = keeps_nothing e f x.2
 
 -- ---- a call that is not executed again
-module _ (e f : EngineValue) (a : ArrivalValue) (kept : RepeatValue) (is : IsArrival a)
-    (x : Repeats e.book f.book a kept) where
-  repeating : IsAsked a.received.bytes x.asks.asked
-  repeating = asks_of a x.asks.asked is x.asks.asks
+module _ (e f : EngineValue) (received : Received) (reading : Reading) (kept : RepeatValue)
+    (is : IsArrival (from received reading)) (x : Repeats e.book f.book (from received reading) kept) where
+  repeating : IsAsked received.bytes x.asks.asked
+  repeating = asks_of received reading x.asks.asked is x.asks.asks
 
   -- the lists after the repeat
   lists_front : (s : Standing) → StandsAt e s →
-      lists_after s.capacity (Repeated a.received.host a.received.bytes) s.lists ≡ kept_of f.book.replies
+      lists_after s.capacity (Repeated received.host received.bytes) s.lists ≡ kept_of f.book.replies
   lists_front s at =
-      ap (λ n. lists_after n (Repeated a.received.host a.received.bytes) s.lists) at.capacity
-      ∙ ap (λ (ls : KeptLists). lists_after e.book.replies.capacity (Repeated a.received.host a.received.bytes) ls)
+      ap (λ n. lists_after n (Repeated received.host received.bytes) s.lists) at.capacity
+      ∙ ap (λ (ls : KeptLists). lists_after e.book.replies.capacity (Repeated received.host received.bytes) ls)
       at.lists
       ∙ sym x.front.lists
 
-  pub repeated_answered : IsAnswered (FromHost a.received) e f kept.reply
+  repeated_answered : IsAnswered (FromHost received) e f kept.reply
   repeated_answered = record {
     keeps =
         keeps_records e f (ap (λ (b : BookValue). b.setting) x.rest)
         (ap (λ (b : BookValue). b.era_records) x.rest) (ap (λ (b : BookValue). b.records) x.rest);
     each = λ s at. (
       [],
-      record s { lists = lists_after s.capacity (Repeated a.received.host a.received.bytes) s.lists },
+      record s { lists = lists_after s.capacity (Repeated received.host received.bytes) s.lists },
       inr (inr (inl (record {
-        ctx = context_of e.book.setting a.received.host x.asks.asked.ids a.received.moment;
+        ctx = context_of e.book.setting received.host x.asks.asked.ids received.moment;
         call = x.asks.asked.call;
         asks = record {
           header = repeating.header;
           read = repeating.read;
           is_call = repeating.is_call;
-          made_under = context_is a x.asks.asked repeating e.book.setting;
+          made_under = context_is received x.asks.asked repeating e.book.setting;
         };
         changes = x.asks.changes;
-        answered = ap (λ (ls : KeptLists). reply_for a.received.bytes (ls a.received.host)) at.lists ∙ x.reply;
+        answered = ap (λ (ls : KeptLists). reply_for received.bytes (ls received.host)) at.lists ∙ x.reply;
         nothing = refl;
         front = refl;
       }))),
@@ -231,7 +237,7 @@ module _ (s : Standing) (received : Received) (answer : List ℕ) (old new : Rep
       cond changes (lists_after s.capacity (Replied received.host received.bytes answer) s.lists) s.lists
 
   abbrev origin_by : Bool → Option Origin
-  origin_by changes = cond changes (Some (origin_in received)) None
+  origin_by changes = cond changes (Some (origin_in (FromHost received))) None
 
   kept_as : (changes : Bool) → Keeps (origin_by changes) answer old new → kept_by changes ≡ kept_of new
   kept_as true keeps =
@@ -249,27 +255,29 @@ module _ (s : Standing) (received : Received) (answer : List ℕ) (old new : Rep
   unkept_as true none is = ap (λ (ls : KeptLists). reply_for received.bytes (ls received.host)) lists ∙ none
   unkept_as false none is = cc
 
-module _ (e f : EngineValue) (a : ArrivalValue) (receipt : Receipt) (is : IsArrival a) (x : Executed e f a receipt) where
-  asking : IsAsked a.received.bytes x.asked
-  asking = asks_of a x.asked is x.asks
+module _ (e f : EngineValue) (received : Received) (reading : Reading) (receipt : Receipt)
+    (is : IsArrival (from received reading)) (x : Executed e f (from received reading) receipt) where
+  asking : IsAsked received.bytes x.asked
+  asking = asks_of received reading x.asked is x.asks
 
   -- as it is told of the call that was done
-  same_keeps : Keeps (origin_of a.received x.done.done.call) receipt.answer e.book.replies f.book.replies
+  same_keeps : Keeps (origin_of (FromHost received) x.done.done.call) receipt.answer e.book.replies f.book.replies
   same_keeps =
-      subst (λ (o : RepliesValue). Keeps (origin_of a.received x.done.done.call) receipt.answer o f.book.replies)
+      let origin = origin_of (FromHost received) x.done.done.call in
+      subst (λ (o : RepliesValue). Keeps origin receipt.answer o f.book.replies)
       (ap (λ (b : BookValue). b.replies) x.begins)
-      (subst (λ (w : List ℕ). Keeps (origin_of a.received x.done.done.call) w x.begun.book.replies f.book.replies)
+      (subst (λ (w : List ℕ). Keeps origin w x.begun.book.replies f.book.replies)
       (sym x.executes.receipt_is.answer)
-      (subst (λ (r : Received). Keeps (origin_of r x.done.done.call)
+      (subst (λ (r : Arrival). Keeps (origin_of r x.done.done.call)
       (success_message x.done.xid x.done.done.change.reply) x.begun.book.replies f.book.replies) x.received
       x.executes.keeps))
 
-  same_unkept : IfSome (origin_of a.received x.done.done.call) (λ origin. kept_for e.book.replies origin ≡ None)
+  same_unkept : IfSome (origin_of (FromHost received) x.done.done.call) (λ origin. kept_for e.book.replies origin ≡ None)
   same_unkept =
-      subst (λ (c : Call). IfSome (origin_of a.received c) (λ origin. kept_for e.book.replies origin ≡ None))
+      subst (λ (c : Call). IfSome (origin_of (FromHost received) c) (λ origin. kept_for e.book.replies origin ≡ None))
       (sym x.call) x.unkept
 
-  pub executed_answered : HasEraRoom e → IsAnswered (FromHost a.received) e f receipt.answer
+  executed_answered : HasEraRoom e → IsAnswered (FromHost received) e f receipt.answer
   executed_answered room = record {
     keeps =
         keeps_one e f (record_of x.done)
@@ -283,11 +291,11 @@ module _ (e f : EngineValue) (a : ArrivalValue) (receipt : Receipt) (is : IsArri
         let (after, step, then) = x.executes.step s.state
         (state_on e x.begun s.state (ap (λ (b : BookValue). b.objects) x.begins) at.stands) in (
           record {
-            arrival = FromHost a.received;
+            arrival = FromHost received;
             reply = x.done.done.change.reply;
             messages = x.done.done.change.messages;
           } ∷ [],
-          record s { state = after; lists = lists_with s a.received x.done.done.call receipt.answer },
+          record s { state = after; lists = lists_with s received x.done.done.call receipt.answer },
           inr (inr (inr (record {
             ctx = x.done.done.ctx;
             call = x.done.done.call;
@@ -297,7 +305,7 @@ module _ (e f : EngineValue) (a : ArrivalValue) (receipt : Receipt) (is : IsArri
               is_call = subst
                   (λ (c : Call). IsCall asking.header.program asking.header.procedure asking.header.arguments c)
                   (sym x.call) asking.is_call;
-              made_under = x.ctx ∙ context_is a x.asked asking e.book.setting;
+              made_under = x.ctx ∙ context_is received x.asked asking e.book.setting;
             };
             reply = x.done.done.change.reply;
             messages = x.done.done.change.messages;
@@ -307,7 +315,7 @@ module _ (e f : EngineValue) (a : ArrivalValue) (receipt : Receipt) (is : IsArri
                 ∙ ap (λ n. success_message n x.done.done.change.reply) (x.xid ∙ sym asking.xid);
             one = refl;
             unkept =
-                unkept_as s a.received receipt.answer e.book.replies f.book.replies at.capacity at.lists
+                unkept_as s received receipt.answer e.book.replies f.book.replies at.capacity at.lists
                 (is_changing x.done.done.call) same_unkept;
             keeps = refl;
           }))),
@@ -315,10 +323,10 @@ module _ (e f : EngineValue) (a : ArrivalValue) (receipt : Receipt) (is : IsArri
             stands = then;
             capacity =
                 at.capacity
-                ∙ sym (same_capacity s a.received receipt.answer e.book.replies f.book.replies
+                ∙ sym (same_capacity s received receipt.answer e.book.replies f.book.replies
                 at.capacity at.lists (is_changing x.done.done.call) same_keeps);
             lists =
-                kept_as s a.received receipt.answer e.book.replies f.book.replies at.capacity at.lists
+                kept_as s received receipt.answer e.book.replies f.book.replies at.capacity at.lists
                 (is_changing x.done.done.call) same_keeps;
           },
         );
@@ -334,21 +342,32 @@ some_bytes : (o : Option (Vec ℕ Global)) → IsSome o → (bytes : Vec ℕ Glo
 some_bytes None some = cc
 some_bytes (Some bytes) some = (bytes, refl)
 
-pub told_answered : (e f : EngineValue) (a : ArrivalValue) (answer : Answer) → IsArrival a →
-    HasEraRoom e → Answers e f a answer → IsTold answer → IsAnswered (FromHost a.received) e f (reply_bytes answer)
-told_answered e f a (answers.Executed receipt) is room x told = executed_answered e f a receipt is x room
-told_answered e f a (answers.Repeated kept) is room x told = repeated_answered e f a kept is x
-told_answered e f a (answers.Refused declined) is room x told =
+record_answered : (e f : EngineValue) (received : Received) (reading : Reading) (answer : Answer) →
+    IsArrival (from received reading) → HasEraRoom e → Answers e f (from received reading) answer → IsTold answer →
+    IsAnswered (FromHost received) e f (reply_bytes answer)
+record_answered e f received reading (answers.Executed receipt) is room x told =
+    executed_answered e f received reading receipt is x room
+record_answered e f received reading (answers.Repeated kept) is room x told =
+    repeated_answered e f received reading kept is x
+record_answered e f received reading (answers.Refused declined) is room x told =
     let (bytes, some) = some_bytes declined.answer told in
-    subst (λ (o : Option (Vec ℕ Global)). IsAnswered (FromHost a.received) e f (answer_bytes o)) (sym some)
-    (refused_answered e f a declined bytes is x some)
-told_answered e f a (answers.Early faulted) is room x told = early_answered e f a faulted is x
-told_answered e f a (answers.Unanswered received) is room x told = absurd x
+    subst (λ (o : Option (Vec ℕ Global)). IsAnswered (FromHost received) e f (answer_bytes o)) (sym some)
+    (refused_answered e f received reading declined bytes is x some)
+record_answered e f received reading (answers.Early faulted) is room x told =
+    early_answered e f received reading faulted is x
+record_answered e f received reading (answers.Unanswered unanswered) is room x told = absurd x
 
--- ---- the record of an arrival
-pub answered_as : (e f : EngineValue) (received came : Received) (answer : List ℕ) → received ≡ came →
-    IsAnswered (FromHost received) e f answer → IsAnswered (FromHost came) e f answer
-answered_as e f received came answer same = subst (λ (r : Received). IsAnswered (FromHost r) e f answer) same
+came_answered : (e f : EngineValue) (came : Arrival) (reading : Reading) (answer : Answer) → IsRecord came →
+    IsArrival (record { received = came; reading = reading }) → HasEraRoom e →
+    Answers e f (record { received = came; reading = reading }) answer → IsTold answer →
+    IsAnswered came e f (reply_bytes answer)
+came_answered e f (FromHost received) reading answer was is room x told =
+    record_answered e f received reading answer is room x told
+came_answered e f (NewExports exports moment) reading answer was is room x told = absurd was
+
+pub told_answered : (e f : EngineValue) (a : ArrivalValue) (answer : Answer) → IsRecord a.received → IsArrival a →
+    HasEraRoom e → Answers e f a answer → IsTold answer → IsAnswered a.received e f (reply_bytes answer)
+told_answered e f a answer was is room x told = came_answered e f a.received a.reading answer was is room x told
 
 -- before it was answered nothing was executed
 pub answered_after : (e f g : EngineValue) (arrival : Arrival) (answer : List ℕ) → ExecutesNothing e f →
@@ -365,16 +384,14 @@ answered_after e f g arrival answer nothing a = record {
 }
 
 -- a refusal that was told
-pub told_refusal : (e f : EngineValue) (a : ArrivalValue) (came : Received) (declined : Declined) →
-    a.received ≡ came → IsArrival a → HasEraRoom e → Answers e f a (answers.Refused declined) →
-    (r : Result (Option Answer) AllocError) →
+pub told_refusal : (e f : EngineValue) (a : ArrivalValue) (declined : Declined) → IsRecord a.received → IsArrival a →
+    HasEraRoom e → Answers e f a (answers.Refused declined) → (r : Result (Option Answer) AllocError) →
     IfOk r (λ answer. (answer ≡ Some (answers.Refused declined)) × IsSome declined.answer) →
-    IfOk r (λ answer. IsAnswered (FromHost came) e f (bytes_of answer))
-told_refusal e f a came declined same is room x (Ok answer) told =
-    subst (λ (y : Option Answer). IsAnswered (FromHost came) e f (bytes_of y)) (sym told.0)
-    (answered_as e f a.received came (answer_bytes declined.answer) same
-    (told_answered e f a (answers.Refused declined) is room x told.1))
-told_refusal e f a came declined same is room x (Err error) told = tt
+    IfOk r (λ answer. IsAnswered a.received e f (bytes_of answer))
+told_refusal e f a declined was is room x (Ok answer) told =
+    subst (λ (y : Option Answer). IsAnswered a.received e f (bytes_of y)) (sym told.0)
+    (told_answered e f a (answers.Refused declined) was is room x told.1)
+told_refusal e f a declined was is room x (Err error) told = tt
 
 -- nothing was executed where it was not told
 pub untold_nothing : (e f : EngineValue) (a : ArrivalValue) (declined : Declined) →
@@ -414,7 +431,15 @@ asked_owed : (bytes : List ℕ) (asked : Asked) → IsAsked bytes asked → IsDr
 asked_owed bytes asked is (inl none) = let no : Ok is.header ≡ Err Drop = sym is.read ∙ none in cc
 asked_owed bytes asked is (inr (header, read, none, fault)) = cc
 
-pub refused_owed : (a : ArrivalValue) (asked : Asked) → IsArrival a → a.reading ≡ readings.Asks asked →
-    (r : Result (Option Answer) AllocError) → OnErr r (IsDropped a.received.bytes → ⊥)
-refused_owed a asked is asks (Ok answer) = tt
-refused_owed a asked is asks (Err error) = asked_owed a.received.bytes asked (asks_of a asked is asks)
+came_owed : (came : Arrival) (reading : Reading) (asked : Asked) → IsRecord came →
+    IsArrival (record { received = came; reading = reading }) → reading ≡ readings.Asks asked →
+    IsDropped (bytes_in came) → ⊥
+came_owed (FromHost received) reading asked was is asks =
+    asked_owed received.bytes asked (asks_of received reading asked is asks)
+came_owed (NewExports exports moment) reading asked was is asks = absurd was
+
+pub refused_owed : (a : ArrivalValue) (asked : Asked) → IsRecord a.received → IsArrival a →
+    a.reading ≡ readings.Asks asked → (r : Result (Option Answer) AllocError) →
+    OnErr r (IsDropped (bytes_in a.received) → ⊥)
+refused_owed a asked was is asks (Ok answer) = tt
+refused_owed a asked was is asks (Err error) = came_owed a.received a.reading asked was is asks

@@ -3,7 +3,7 @@ use Rattle.std.specs.Prelude.{◌≡◌, ◌⊎◌, ◌+◌, ◌≤◌, ℕ, fal
 use Rattle.std.specs.Prelude.{List, [], ◌∷◌, ◌++◌, length, Option, Some}
 use Rattle.std.specs.Io.KnownBytes.{Appends, Consumes}
 use Rattle.nfs_rpc.specs.Records.{IsStream, IsTooLarge}
-use Rattle.nfs_machine.specs.Run.{Setting, Arrival, Record, Run}
+use Rattle.nfs_machine.specs.Run.{Setting, Arrival, FromHost, NewExports, Record, Run}
 use Rattle.nfs_machine.specs.declared.moment.Moment.{Moment}
 use Rattle.nfs_engine.specs.Arrivals.{IsDropped}
 use Rattle.nfs_engine.specs.Book.{StandsFor, is_full, store_in}
@@ -150,6 +150,11 @@ pub record ServesFront {Clock : Type 0} (gives : Clock → Moment → Clock → 
   pub stops : EndsByFault gives host fault contents clock later old new before after
   pub leaves_out : LeavesOut fault piece stops.others
   pub is_fault : IsFaultOf fault fed
+
+-- what came in is a record
+abbrev pub IsRecord : Arrival → Type 0
+IsRecord (FromHost received) = Unit {0}
+IsRecord (NewExports exports moment) = ⊥
 
 -- the record is answered so, from everywhere where the engine stood
 pub record IsAnswered (arrival : Arrival) (old new : EngineValue) (answer : List ℕ) : Type 0 where

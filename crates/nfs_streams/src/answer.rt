@@ -3,10 +3,10 @@
 ghost use Rattle.std.specs.Prelude.{◌≡◌, false, ◌∷◌, [], IfOk, IsSome, OnErr, Some, None};
 ghost use Rattle.nfs_engine.specs.Arrivals.{IsDropped};
 ghost use Rattle.nfs_engine.specs.Book.{is_full};
-ghost use Rattle.nfs_machine.specs.Run.{FromHost};
+ghost use Rattle.nfs_machine.specs.Run.{FromHost, bytes_in};
 ghost use Rattle.nfs_schedule.specs.Worlds.{IsAtRest};
 ghost use Rattle.nfs_streams.specs.Connections.{bytes_of};
-ghost use Rattle.nfs_streams.specs.Served.{AreAnswered, ExecutesNothing, HasEraRoom, HasNoAnswer, IsAnswered};
+ghost use Rattle.nfs_streams.specs.Served.{AreAnswered, ExecutesNothing, HasEraRoom, HasNoAnswer, IsAnswered, IsRecord};
 
 use nfs_engine::{Arrival, Engine, Host};
 use nfs_machine::{Moment, Moments};
@@ -84,7 +84,7 @@ fn answer(
     answer_arrival(alloc, engine, arrival)
 }
 
-/// The answer to what came in.
+/// The answer to a record that came in.
 ///
 /// # Errors
 ///
@@ -96,11 +96,11 @@ fn answer_arrival(
 ) -> Result<Option<Answer>, AllocError>
     requires rest { IsAtRest engine.old }
     requires room { HasEraRoom engine.old }
+    requires record { IsRecord arrival.received }
     ensures rest { IsAtRest engine.new }
-    ensures ok { IfOk result
-        (λ answer. IsAnswered (FromHost arrival.received) engine.old engine.new (bytes_of answer)) }
+    ensures ok { IfOk result (λ answer. IsAnswered arrival.received engine.old engine.new (bytes_of answer)) }
     ensures err { OnErr result (ExecutesNothing engine.old engine.new) }
-    ensures owed { OnErr result (IsDropped arrival.received.bytes → ⊥) }
+    ensures owed { OnErr result (IsDropped (bytes_in arrival.received) → ⊥) }
 {
     // It brings that this is what the record asks.
     arrival.reading();

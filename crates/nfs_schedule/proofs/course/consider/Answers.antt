@@ -1,8 +1,5 @@
-use Rattle.nfs_schedule.proofs.Stepping.{fresh_next, grown_suited, need_next}
+use Rattle.nfs_schedule.proofs.Stepping.{fresh_next, need_next}
 use Rattle.nfs_schedule.proofs.course.consider.Goals as goal
-
-pub attempt_on-requires : goal.attempt_on-requires
-attempt_on-requires c = grown_suited _ c.requires
 
 pub returns-in-Some : goal.returns-in-Some
 returns-in-Some c =
