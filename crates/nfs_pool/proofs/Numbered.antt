@@ -11,7 +11,9 @@ use Rattle.std.specs.declared.vec.Vec.{Vec}
 use Rattle.std.proofs.lemmas.List.{length-map, take_more}
 use Rattle.std.proofs.lemmas.List.Sorted.{length_permutation}
 use Rattle.std.proofs.lemmas.Option.{slice_get-map, slice_get_past, slice_get_read}
-use Rattle.nfs_machine.specs.Run.{Received, Record}
+use Rattle.nfs_machine.specs.Exports.{ExportValue}
+use Rattle.nfs_machine.specs.Run.{Arrival, FromHost, NewExports, Received, Record, moment_in}
+use Rattle.nfs_machine.specs.SameExports.{exports_decide, same_exports}
 use Rattle.nfs_machine.specs.declared.moment.Moment.{Moment}
 use Rattle.nfs_engine.specs.declared.journal.Receipt.{Receipt}
 use Rattle.nfs_pool.specs.Eras.{AreTold, BeginSo, IfMissing, IsTold, IsToldAt, StandsAt, TellAll, receipts_count, told, told_by, told_each, told_in, told_value}
@@ -168,6 +170,45 @@ received_same a b t host bytes is = (
       ((unsigned_Decides a.moment.seconds b.moment.seconds).1 (ap (λ (r : Received). r.moment.seconds) same))
       ((unsigned_Decides a.moment.nanoseconds b.moment.nanoseconds).1
       (ap (λ (r : Received). r.moment.nanoseconds) same)),
+)
+
+-- so arrivals are one where both are records that are, or both the same exports at one moment
+one_record : (a b : Received) → FromHost a ≡ FromHost b → a ≡ b
+one_record a b same = cc
+
+pub record_alike : (a b : Received) (t : Bool) → Decides t (a ≡ b) → Decides t (FromHost a ≡ FromHost b)
+record_alike a b t is = (λ yes. ap FromHost (is.0 yes), λ same. is.1 (one_record a b same))
+
+no_exports : (a : Received) (exports : List ExportValue) (moment : Moment) → FromHost a ≡ NewExports exports moment → ⊥
+no_exports a exports moment same = cc
+
+pub record_apart : (a : Received) (exports : List ExportValue) (moment : Moment) →
+    Decides false (FromHost a ≡ NewExports exports moment)
+record_apart a exports moment = (λ no. absurd (false≢true no), λ same. absurd (no_exports a exports moment same))
+
+pub exports_apart : (exports : List ExportValue) (moment : Moment) (a : Received) →
+    Decides false (NewExports exports moment ≡ FromHost a)
+exports_apart exports moment a =
+    (λ no. absurd (false≢true no), λ same. absurd (no_exports a exports moment (sym same)))
+
+one_list : (es fs : List ExportValue) (m n : Moment) → NewExports es m ≡ NewExports fs n → es ≡ fs
+one_list es fs m n same = cc
+
+pub exports_alike : (es fs : List ExportValue) (m n : Moment) (t : Bool) → same_exports es fs ≡ true →
+    t ≡ (m.seconds == n.seconds && m.nanoseconds == n.nanoseconds) → Decides t (NewExports es m ≡ NewExports fs n)
+exports_alike es fs m n t lists is = (
+  λ yes. (let moment = moment_same m n (sym is ∙ yes) in
+      let list = (exports_decide es fs).0 lists in λ i. NewExports (list i) (moment i)),
+  λ same. is ∙ and_from (m.seconds == n.seconds) (m.nanoseconds == n.nanoseconds)
+      ((unsigned_Decides m.seconds n.seconds).1 (ap (λ (a : Arrival). (moment_in a).seconds) same))
+      ((unsigned_Decides m.nanoseconds n.nanoseconds).1 (ap (λ (a : Arrival). (moment_in a).nanoseconds) same)),
+)
+
+pub lists_apart : (es fs : List ExportValue) (m n : Moment) → same_exports es fs ≡ false →
+    Decides false (NewExports es m ≡ NewExports fs n)
+lists_apart es fs m n differ = (
+  λ yes. absurd (false≢true yes),
+  λ same. sym differ ∙ (exports_decide es fs).1 (one_list es fs m n same),
 )
 
 -- ---- places from the first one on

@@ -1,7 +1,7 @@
 -- A seat with one receipt more.
 use Rattle.std.proofs.Common.{◌≡◌, ℕ, ◌<◌, ◌≤◌, List, [], ◌∷◌, ◌++◌, length, length-append, refl, sym, ◌∙◌, ap, subst, arith}
 use Rattle.std.specs.List.{AllByRecursion}
-use Rattle.nfs_machine.specs.Run.{Received}
+use Rattle.nfs_machine.specs.Run.{Arrival}
 use Rattle.nfs_engine.specs.Arrivals.{ArrivalValue}
 use Rattle.nfs_engine.specs.declared.journal.Receipt.{Receipt}
 use Rattle.nfs_pool.specs.Passes.{IsNext}
@@ -17,7 +17,7 @@ all_under : (last n : ℕ) → last < n → (rs : List Receipt) → AllByRecursi
 all_under last n h [] all = tt
 all_under last n h (r ∷ rs) all = (omega (arith, all.0, h), all_under last n h rs all.1)
 
-pub seat_after : (shard last : ℕ) (old new : List Receipt) (parts before after parts' : ℕ) (r : Received)
+pub seat_after : (shard last : ℕ) (old new : List Receipt) (parts before after parts' : ℕ) (r : Arrival)
     (receipt : Receipt) → IsSeat (record { shard = shard; receipts = old; last = last }) parts before →
     new ≡ old ++ receipt ∷ [] → IsNext r last before after receipt → parts' ≡ parts →
     IsSeat (record { shard = shard; receipts = new; last = receipt.number }) parts' after
@@ -29,7 +29,7 @@ seat_after shard last old new parts before after parts' r receipt seat is next s
   shard = seat.shard;
 }
 
-pub seat_gains : (a : ArrivalValue) (r : Received) → r ≡ a.received → (shard last : ℕ) (old new : List Receipt)
+pub seat_gains : (a : ArrivalValue) (r : Arrival) → r ≡ a.received → (shard last : ℕ) (old new : List Receipt)
     (parts before after : ℕ) (receipt : Receipt) →
     IsSeat (record { shard = shard; receipts = old; last = last }) parts before → new ≡ old ++ receipt ∷ [] →
     IsNext r last before after receipt →
@@ -38,6 +38,6 @@ pub seat_gains : (a : ArrivalValue) (r : Received) → r ≡ a.received → (sha
 seat_gains a r same shard last old new parts before after receipt seat is next = record {
   receipt = receipt;
   more = is;
-  of_call = subst (λ (x : Received). IsReceiptOf x receipt) same next.of_call;
+  of_call = subst (λ (x : Arrival). IsReceiptOf x receipt) same next.of_call;
   above = all_under last receipt.number next.above old seat.below;
 }

@@ -1,6 +1,6 @@
 -- Passes of a call: what it reads, and what it comes to.
 use Rattle.std.specs.Prelude.{◌≡◌, ℕ, ◌+◌, ◌<◌, Option, Some, None}
-use Rattle.nfs_machine.specs.Run.{Received}
+use Rattle.nfs_machine.specs.Run.{Arrival}
 use Rattle.nfs_engine.specs.Calls.{PendingValue, TxnValue}
 use Rattle.nfs_engine.specs.declared.journal.Receipt.{Receipt}
 use Rattle.nfs_engine.specs.declared.release.Then.{Then}
@@ -24,26 +24,26 @@ LeadsOut t None = t ≡ then.Ended
 LeadsOut t (Some p) = t ≡ then.Aborted p
 
 -- the receipt is of what came in, above that number, and counts one
-pub record IsNext (r : Received) (last before after : ℕ) (receipt : Receipt) : Type 0 where
+pub record IsNext (r : Arrival) (last before after : ℕ) (receipt : Receipt) : Type 0 where
   pub of_call : IsReceiptOf r receipt
   pub above : last < receipt.number
   pub counted : after ≡ before + 1
 
 -- one pass: it is executed; or in progress still, as it came
-abbrev pub ComesTo : Received → (last before after : ℕ) → Passed → Type 0
+abbrev pub ComesTo : Arrival → (last before after : ℕ) → Passed → Type 0
 ComesTo r last before after (passed.Executed receipt) = IsNext r last before after receipt
 ComesTo r last before after (passed.Again p) = (p.received ≡ r) × (after ≡ before)
 ComesTo r last before after (passed.Failed p) = (p.received ≡ r) × (after ≡ before)
 ComesTo r last before after (passed.Taken p a m) = (p.received ≡ r) × (after ≡ before)
 
 -- in progress still, as it came
-abbrev pub Retreats : Received → Passed → Type 0
+abbrev pub Retreats : Arrival → Passed → Type 0
 Retreats r (passed.Executed receipt) = ⊥
 Retreats r (passed.Again p) = p.received ≡ r
 Retreats r (passed.Failed p) = p.received ≡ r
 Retreats r (passed.Taken p a m) = p.received ≡ r
 
 -- all passes: it is executed, or given up
-abbrev pub EndsWith : Received → (last before after : ℕ) → Ended → Type 0
+abbrev pub EndsWith : Arrival → (last before after : ℕ) → Ended → Type 0
 EndsWith r last before after (ends.Executed receipt) = IsNext r last before after receipt
 EndsWith r last before after (ends.Refused refused) = IsGivenUp r refused × (after ≡ before)

@@ -4,9 +4,9 @@ use Rattle.std.specs.Prelude.{IfSome, Result, Ok, Err}
 use Rattle.std.specs.List.{AllByRecursion}
 use Rattle.nfs_machine.specs.Refusal.{refusal_of}
 use Rattle.nfs_machine.specs.RpcReplies.{refusal_message}
-use Rattle.nfs_machine.specs.Run.{Received}
-use Rattle.nfs_engine.specs.Arrivals.{ArrivalValue, received_value}
-use Rattle.nfs_engine.specs.Asked.{IsAsked}
+use Rattle.nfs_machine.specs.Run.{Arrival}
+use Rattle.nfs_engine.specs.Arrivals.{ArrivalValue, incoming_value}
+use Rattle.nfs_engine.specs.Asked.{IsAskedBy}
 use Rattle.nfs_engine.specs.Calls.{FinishedValue, IsCalled}
 use Rattle.nfs_engine.specs.Commits.{IsReceipt}
 use Rattle.nfs_engine.specs.declared.arrival.Reading.TheVariants as readings
@@ -32,8 +32,8 @@ pub record IsSeat (s : SeatValue) (parts amount : ℕ) : Type 0 where
   pub below : AllByRecursion (λ (r : Receipt). r.number ≤ s.last) s.receipts
   pub shard : s.shard < 16
 
--- the receipt is of a call that is what the record asks that came in: it has the reply, spelled under that record's xid
-pub record IsReceiptOf (r : Received) (receipt : Receipt) : Type 0 where
+-- the receipt is of a call that is what came in asks: it has the reply, spelled under the xid of that
+pub record IsReceiptOf (r : Arrival) (receipt : Receipt) : Type 0 where
   pub finished : FinishedValue
   pub received : finished.received ≡ r
   pub called : IsCalled r finished.xid finished.done.call finished.done.ctx
@@ -46,11 +46,11 @@ pub record Gains (a : ArrivalValue) (old new : SeatValue) : Type 0 where
   pub of_call : IsReceiptOf a.received receipt
   pub above : AllByRecursion (λ (r : Receipt). r.number < receipt.number) old.receipts
 
--- the answer is the refusal of what the record asks, or nothing where there was no memory for it
-pub record IsDeclined (r : Received) (declined : Declined) : Type 0 where
+-- the answer is the refusal of what came in asks, or nothing where there was no memory for it
+pub record IsDeclined (r : Arrival) (declined : Declined) : Type 0 where
   pub asked : Asked
-  pub asks : IsAsked r.bytes asked
-  pub received : received_value declined.received ≡ r
+  pub asks : IsAskedBy r asked
+  pub received : incoming_value declined.received ≡ r
   pub answer : IfSome declined.answer
       (λ bytes. bytes.items ≡ refusal_message asked.xid (refusal_of asked.call))
 
@@ -60,7 +60,7 @@ Tells a old new (Ok Executed) = Gains a old new
 Tells a old new (Ok (Repeated kept)) = (kept.received ≡ a.received) × (new ≡ old)
 Tells a old new (Ok (Refused declined)) = IsDeclined a.received declined × (new ≡ old)
 Tells a old new (Ok (Early fault)) = (a.reading ≡ readings.Faulted fault.answer) ×
-    (received_value fault.received ≡ a.received) × (new ≡ old)
-Tells a old new (Ok (Unanswered received)) = (received_value received ≡ a.received) × (new ≡ old)
+    (incoming_value fault.received ≡ a.received) × (new ≡ old)
+Tells a old new (Ok (Unanswered received)) = (incoming_value received ≡ a.received) × (new ≡ old)
 Tells a old new (Err (Memory back)) = (back ≡ a) × (new ≡ old)
 Tells a old new (Err (EraFull back)) = (back ≡ a) × (new ≡ old)

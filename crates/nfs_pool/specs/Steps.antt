@@ -2,13 +2,13 @@
 use Rattle.std.specs.Prelude.{◌≡◌, ℕ, ◌<◌, ◌&&◌, Bool, nat_le, List, [], length, slice_index_or, true}
 use Rattle.std.specs.Prelude.{false, map}
 use Rattle.std.specs.Prelude.{Option, Result, Ok, Err}
-use Rattle.nfs_machine.specs.Run.{Received}
+use Rattle.nfs_machine.specs.Run.{Arrival}
 use Rattle.nfs_objects.specs.Rooms.{with_seen}
 use Rattle.nfs_objects.specs.declared.address.Addr.{Addr}
 use Rattle.nfs_objects.specs.declared.modes.Mode.{Mode}
 use Rattle.nfs_objects.specs.declared.object.Object.{Object}
-use Rattle.nfs_engine.specs.Arrivals.{ArrivalValue, received_value}
-use Rattle.nfs_engine.specs.Asked.{IsAsked}
+use Rattle.nfs_engine.specs.Arrivals.{ArrivalValue, incoming_value}
+use Rattle.nfs_engine.specs.Asked.{IsAskedBy}
 use Rattle.nfs_engine.specs.Book.{Admits, BookValue, is_full}
 use Rattle.nfs_engine.specs.Calls.{FinishedValue, IsCalled, TxnValue}
 use Rattle.nfs_engine.specs.Commits.{IsReceipt}
@@ -34,7 +34,7 @@ use Rattle.nfs_pool.specs.declared.sent.Unadmitted.TheVariants as unadmitted
 abbrev pub IsUnread : TxnValue → Type 0
 IsUnread t = t.view ≡ record { entries = []; reserved = [] }
 
--- the record asks a call
+-- what came in asks a call
 abbrev pub AsksSome : ArrivalValue → Type 0
 AsksSome a = (asked : Asked) × (a.reading ≡ readings.Asks asked)
 
@@ -44,11 +44,11 @@ AdmitsFrom a (Ok (admission.Begin t)) = (t.received ≡ a.received) × IsUnread 
 AdmitsFrom a (Ok (admission.Repeat kept)) = kept.received ≡ a.received
 AdmitsFrom a (Ok (admission.Running back)) = back ≡ a
 AdmitsFrom a (Ok (admission.Early fault)) =
-    (a.reading ≡ readings.Faulted fault.answer) × (received_value fault.received ≡ a.received)
+    (a.reading ≡ readings.Faulted fault.answer) × (incoming_value fault.received ≡ a.received)
 AdmitsFrom a (Err (unadmitted.EraFull back)) = back ≡ a
 AdmitsFrom a (Err (unadmitted.Refused back)) = (back ≡ a) × AsksSome a
 
--- Where the era is full the book is as it was, and the record is handed back; else the book admits it.
+-- Where the era is full the book is as it was, and what came in is handed back; else the book admits it.
 abbrev pub AdmitsUnlessFull : (old new : BookValue) → ArrivalValue → Result Admission Unadmitted → Type 0
 AdmitsUnlessFull old new a (Ok admission) = (is_full old ≡ false) × Admits old new a (Ok admission)
 AdmitsUnlessFull old new a (Err (unadmitted.EraFull back)) = (is_full old ≡ true) × (back ≡ a) × (new ≡ old)
@@ -79,13 +79,13 @@ pub record LetGoFrom (index : ℕ) (writes : List (Addr × Option Object)) (done
   pub sixteen : length done ≡ 16
   pub are : (k : ℕ) → slice_index_or done k false ≡ nat_le index k && is_written writes k
 
--- the receipt is of this call, which is what its record asks, under a number above that one
+-- the receipt is of this call, which is what came in asks, under a number above that one
 pub record IsMadeAbove (last : ℕ) (f : FinishedValue) (receipt : Receipt) : Type 0 where
   pub called : IsCalled f.received f.xid f.done.call f.done.ctx
   pub made : IsReceipt receipt.number f receipt
   pub above : last < receipt.number
 
 -- what is given up is what came in, and what that asks
-pub record IsGivenUp (r : Received) (refused : Refused) : Type 0 where
-  pub received : received_value refused.received ≡ r
-  pub asks : IsAsked r.bytes refused.asked
+pub record IsGivenUp (r : Arrival) (refused : Refused) : Type 0 where
+  pub received : incoming_value refused.received ≡ r
+  pub asks : IsAskedBy r refused.asked

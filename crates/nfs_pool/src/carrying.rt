@@ -6,8 +6,8 @@ ghost use Rattle.nfs_objects.specs.Rooms.{with_number};
 ghost use Rattle.nfs_objects.specs.Values.{change_value, done_value, seen_at};
 ghost use Rattle.nfs_objects.specs.declared.object.Object.{Object};
 ghost use Rattle.nfs_objects.specs.declared.view.Reserved.{Reserved};
-ghost use Rattle.nfs_engine.specs.Arrivals.{received_value};
-ghost use Rattle.nfs_engine.specs.Asked.{IsAsked};
+ghost use Rattle.nfs_engine.specs.Arrivals.{incoming_value};
+ghost use Rattle.nfs_engine.specs.Asked.{IsAskedBy};
 ghost use Rattle.nfs_schedule.specs.Courses.{IsAt};
 ghost use Rattle.nfs_schedule.specs.Executions.{HasTaken};
 ghost use Rattle.nfs_schedule.specs.declared.course.Course.{Course};
@@ -20,7 +20,7 @@ use crate::seat::Seat;
 use crate::sent::{PoolError, Reason, Sent, Unadmitted, Uncommitted};
 use crate::steps::Steps;
 use nfs_engine::{
-    Admission, Arrival, Asked, Finished, Got, Next, Pending, Reading, Receipt, Received, Refused,
+    Admission, Arrival, Asked, Finished, Got, Incoming, Next, Pending, Reading, Receipt, Refused,
     Release, SHARDS, Txn,
 };
 use nfs_objects::{Addr, Change, Mode};
@@ -60,7 +60,7 @@ enum Passed {
     Taken(Pending, Addr, Mode),
 }
 
-/// Brings a record that came in to its answer by these steps. The gate is called before each.
+/// Brings what came in to its answer by these steps. The gate is called before each.
 ///
 /// # Errors
 ///
@@ -112,8 +112,8 @@ pub fn run_call<L: Ledger, R: Wait, S: Steps<L>, G: Gate>(
 
 /// What came in while a call that came with the same is in progress: it has no reply.
 fn leave(arrival: Arrival) -> Sent
-    ensures { (received : Received) × (result ≡ Sent.Unanswered received) ×
-        (received_value received ≡ arrival.received) }
+    ensures { (received : Incoming) × (result ≡ Sent.Unanswered received) ×
+        (incoming_value received ≡ arrival.received) }
 {
     let (received, reading) = arrival.into_parts();
     drop(reading);
@@ -133,9 +133,9 @@ fn refuse(alloc: Global, arrival: Arrival) -> Sent
 }
 
 /// The refusal of a call.
-fn decline(alloc: Global, received: Received, asked: Asked) -> Declined
-    requires { IsAsked (received_value received).bytes asked }
-    ensures { IsDeclined (received_value received) result }
+fn decline(alloc: Global, received: Incoming, asked: Asked) -> Declined
+    requires { IsAskedBy (incoming_value received) asked }
+    ensures { IsDeclined (incoming_value received) result }
 {
     let answer = refusal(alloc, &asked);
     drop(asked);

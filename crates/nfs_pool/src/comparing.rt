@@ -3,13 +3,15 @@
 ghost use Rattle.std.specs.Prelude.{◌≡◌, ◌+◌, ◌++◌, IfOk, IsPermutation, List, OnOk, map};
 ghost use Rattle.std.specs.Bool.{Decides};
 ghost use Rattle.std.specs.List.Sorted.{IsNonDecreasingBy};
-ghost use Rattle.nfs_engine.specs.Arrivals.{received_value, record_value, shared_value};
+ghost use Rattle.nfs_machine.specs.Run.{FromHost, NewExports};
+ghost use Rattle.nfs_engine.specs.Arrivals.{incoming_value, received_value, record_value, shared_value};
 ghost use Rattle.nfs_engine.specs.declared.journal.Receipt.{Receipt};
 ghost use Rattle.nfs_pool.specs.Eras.{BeginSo, IsAlike, IsTold, IsToldAt, StandsAt, told, told_each, told_number};
 ghost use Rattle.nfs_pool.specs.Eras.{told_value};
 
 use crate::seat::Seat;
-use nfs_engine::{Executed, Receipt, Received};
+use nfs_engine::{Executed, Incoming, Receipt, Received};
+use nfs_machine::{Exports, Moment};
 use std::alloc::{AllocError, Global};
 use std::sync::Arc;
 use std::sync::ledger::Ledger;
@@ -136,7 +138,37 @@ fn is_same(one: &Executed, other: &Executed) -> bool
 }
 
 /// Whether they came in alike.
-fn came_alike(one: &Received, other: &Received) -> bool
+fn came_alike(one: &Incoming, other: &Incoming) -> bool
+    ensures { Decides result (incoming_value one.now ≡ incoming_value other.now) }
+{
+    match one {
+        Incoming::Record(received) => is_record(received, other),
+        Incoming::Exports(exports, moment) => are_exports(exports, *moment, other),
+    }
+}
+
+/// Whether it is a record that came in like this one.
+fn is_record(received: &Received, incoming: &Incoming) -> bool
+    ensures { Decides result (FromHost (received_value received.now) ≡ incoming_value incoming.now) }
+{
+    match incoming {
+        Incoming::Record(other) => records_alike(received, other),
+        Incoming::Exports(..) => false,
+    }
+}
+
+/// Whether it is exports like these that came in at this moment.
+fn are_exports(exports: &Exports, moment: Moment, incoming: &Incoming) -> bool
+    ensures { Decides result (NewExports exports.now moment ≡ incoming_value incoming.now) }
+{
+    match incoming {
+        Incoming::Record(_) => false,
+        Incoming::Exports(others, other) => exports == others && moment == *other,
+    }
+}
+
+/// Whether these records came in alike.
+fn records_alike(one: &Received, other: &Received) -> bool
     ensures { Decides result (received_value one.now ≡ received_value other.now) }
 {
     one.host.text() == other.host.text()

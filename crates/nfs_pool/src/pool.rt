@@ -63,7 +63,7 @@ impl<L: Ledger> Pool<L> {
         Ok((pool, new_seats(alloc, room, all, count)))
     }
 
-    /// Brings a record that came in to its answer on this thread, with one hold of locks for each step. The gate is
+    /// Brings what came in to its answer on this thread, with one hold of locks for each step. The gate is
     /// called before each step, with no lock held, and in the hold of each acquire.
     ///
     /// # Errors

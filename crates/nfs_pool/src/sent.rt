@@ -1,10 +1,10 @@
 //! What callers are told.
 
-use nfs_engine::{Arrival, Faulted, Finished, Kept, Received};
+use nfs_engine::{Arrival, Faulted, Finished, Incoming, Kept};
 use nfs_objects::{Addr, Mode};
 use nfs_schedule::Declined;
 
-/// How a record that came in was answered.
+/// How what came in was answered.
 #[derive(Drop)]
 pub enum Sent {
     /// Its call was executed: the seat's last receipt is of it, and has the bytes of the reply.
@@ -16,10 +16,10 @@ pub enum Sent {
     /// It has a fault.
     Early(Faulted),
     /// It has no reply: a call that came with the same is in progress.
-    Unanswered(Received),
+    Unanswered(Incoming),
 }
 
-/// Why a record was not taken in. Nothing is executed, and it is handed back.
+/// Why what came in was not taken in. Nothing is executed, and it is handed back.
 #[derive(Drop)]
 pub enum PoolError {
     /// There is no memory for one more receipt in the seat.
@@ -37,7 +37,7 @@ pub enum FinishError {
     Memory,
 }
 
-/// Why a record was not admitted. It is handed back.
+/// Why what came in was not admitted. It is handed back.
 #[derive(Drop)]
 pub enum Unadmitted {
     /// The era is full.

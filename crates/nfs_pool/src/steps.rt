@@ -21,7 +21,7 @@ use std::sync::ledger::{Ledger, Share};
 /// The steps of a call. A pool makes them in holds of its locks, and what is around a pool may count them. What a call
 /// reads is whatever stands there: only its commit tells whether that stands still.
 pub trait Steps<L: Ledger> {
-    /// Admits a record that came in.
+    /// Admits what came in.
     ///
     /// # Errors
     ///

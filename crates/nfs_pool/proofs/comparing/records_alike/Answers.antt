@@ -3,8 +3,8 @@ use Rattle.std.specs.Cmp.Lexicographic.{bytes_decides}
 use Rattle.std.proofs.lemmas.Bool.{true≢false}
 use Rattle.nfs_engine.specs.Arrivals.{received_value}
 use Rattle.nfs_pool.proofs.Numbered.{received_same}
-use Rattle.nfs_pool.proofs.comparing.came_alike.Goals as goal
-use Rattle.nfs_pool.proofs.comparing.came_alike.Goals.{then-eq, else-eq}
+use Rattle.nfs_pool.proofs.comparing.records_alike.Goals as goal
+use Rattle.nfs_pool.proofs.comparing.records_alike.Goals.{then-eq, else-eq}
 
 pub returns-then-eq-2 : goal.returns-then-eq-2
 returns-then-eq-2 c = elim c.if-eq.branch [
