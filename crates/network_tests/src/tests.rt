@@ -9,6 +9,7 @@ mod answers;
 mod callbacks;
 mod clients;
 mod eras;
+mod operators;
 mod sockets;
 
 use crate::tests::clients::Visit;

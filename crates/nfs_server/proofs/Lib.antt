@@ -1,5 +1,8 @@
+mod Answering
 pub mod Called
 mod Crossing
+mod Hearing
+mod Lines
 pub mod Parsed
 pub mod Replied
 pub mod Sizes

@@ -22,7 +22,8 @@ use Rattle.nfs_engine.specs.Opening.{IsLimit}
 use Rattle.nfs_server.specs.Limits.{IsWithin}
 use Rattle.nfs_server.specs.declared.limits.Limit.{Limit}
 use Rattle.nfs_server.specs.declared.limits.Limits.{Limits}
-use Rattle.nfs_server.specs.CommandLine.{AreRefused, AreWithin, AsksAlone, AsksStdio, Configures, HasLimits, HasWorkers, IsConflict, IsHostRefusal, IsLimitRefusal, IsParsedFrom, IsRefusal, IsTaken, IsTransportRefusal, IsValueRefusal, NamesAddress, NamesLimit, ReadsOptions, ReadsFlag, ReadsNumber, ReadsTransport, Refuses, export_parts, exports_of, host_of, nfsd, parts_of}
+use Rattle.nfs_server.specs.CommandLine.{AreRefused, AreWithin, AsksAlone, AsksControl, AsksStdio, Configures, HasLimits, HasWorkers, IsConflict, IsHostRefusal, IsLimitRefusal, IsParsedFrom, IsRefusal, IsTaken, IsTransportRefusal, IsValueRefusal, NamesAddress, NamesLimit, ReadsOptions, ReadsFlag, ReadsNumber, ReadsTransport, Refuses, exports_of, host_of, nfsd}
+use Rattle.nfs_server.specs.ExportTexts.{export_parts, parts_of}
 use Rattle.nfs_server.specs.CommandLine.{GivesExports, IsBadCallback, callbacks_of}
 use Rattle.nfs_server.specs.Callbacks.{RefusesCallbacks}
 use Rattle.nfs_server.specs.declared.callbacks.CallbackError.{CallbackError}
@@ -150,7 +151,7 @@ refuses_limit limit rows value StandardStream names other refused = absurd refus
 refuses_limit limit rows value (CannotListen text) names other refused = absurd refused
 
 -- two transports are refused
-pub refuses_conflict : (rows : List Row) (exit : Exit) → AsksStdio rows true → NamesAddress rows → IsConflict exit
+pub refuses_conflict : (rows : List Row) (exit : Exit) → AsksStdio rows true → NamesAddress rows ⊎ AsksControl rows true → IsConflict exit
     → IsTransportRefusal rows exit
 refuses_conflict rows (CommandLine e) asks names refused = (asks, names, refused)
 refuses_conflict rows Memory asks names refused = tt

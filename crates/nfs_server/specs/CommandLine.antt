@@ -1,8 +1,7 @@
 -- The command line: which words are taken, and what they ask for.
-use Rattle.std.specs.Prelude.{◌≡◌, ◌<◌, ◌≤◌, ◌^◌, ◌⊎◌, ◌==◌, ℕ, Bool, true, false}
-use Rattle.std.specs.Prelude.{List, [], map, drop, Option, Some, None, IsSome, option_map, unwrap_or, slice_get}
+use Rattle.std.specs.Prelude.{◌≡◌, ◌<◌, ◌≤◌, ◌^◌, ◌⊎◌, ℕ, Bool, true, false}
+use Rattle.std.specs.Prelude.{List, [], map, Option, Some, None, IsSome, option_map, unwrap_or}
 use Rattle.std.specs.Prelude.{codes, pos}
-use Rattle.std.specs.List.{slice_split}
 use Rattle.std.specs.Option.{SomeIff}
 use Rattle.std.specs.declared.io.ErrorKind.{ErrorKind}
 use Rattle.std.specs.declared.io.ErrorKind.TheVariants.{OutOfMemory}
@@ -17,13 +16,12 @@ use Rattle.clap.specs.declared.builder.value_parser.ValueParser.{ValueParser}
 use Rattle.clap.specs.declared.builder.value_parser.ValueParser.TheVariants.{Signed, Unsigned}
 use Rattle.clap.specs.declared.error.kind.ErrorKind.TheVariants.{ArgumentConflict, ValueValidation}
 use Rattle.clap.specs.declared.parser.matches.ArgMatches.{ArgMatches}
-use Rattle.nfs_machine.specs.ExportFaults.{export_fault, export_of}
 use Rattle.nfs_machine.specs.Exports.{ExportValue}
 use Rattle.nfs_machine.specs.declared.exports.ExportError.{ExportError}
-use Rattle.nfs_machine.specs.declared.exports.ExportText.{ExportText}
 use Rattle.nfs_engine.specs.Hosts.{IsHost}
 use Rattle.nfs_engine.specs.Opening.{IsLimit}
 use Rattle.nfs_server.specs.Callbacks.{AreCallbacks, IsFirstBad}
+use Rattle.nfs_server.specs.ExportTexts.{AreAtFault, AreExports, export_parts}
 use Rattle.nfs_server.specs.Limits.{IsWithin, default_of, name_of}
 use Rattle.nfs_server.specs.declared.limits.Limit.{Limit}
 use Rattle.nfs_server.specs.declared.limits.Limit.TheVariants.{Era, Cache, Workers, Connections}
@@ -53,8 +51,8 @@ number_rule name parser = record (option_rule name) { parser = Some parser }
 abbrev pub with_version : App → App
 with_version app = record app { top = record app.top { has_version = true } }
 
--- a program with the options that say on what is served, and where hosts are called back; `--callback` may be given
--- more than once
+-- a program with the options that say on what is served, where hosts are called back, and whether exports are replaced;
+-- `--callback` may be given more than once
 abbrev pub with_transport : App → App
 with_transport app =
     let tcp = option_rule (codes "tcp") in
@@ -62,7 +60,8 @@ with_transport app =
     let stdio = flag_rule (codes "stdio") in
     let host = option_rule (codes "host") in
     let callback = record (option_rule (codes "callback")) { action = Some Append } in
-    with_rule (with_rule (with_rule (with_rule (with_rule app tcp) udp) stdio) host) callback
+    let control = flag_rule (codes "control") in
+    with_rule (with_rule (with_rule (with_rule (with_rule (with_rule app tcp) udp) stdio) host) callback) control
 
 -- a program with the options that say what is served; `--export` may be given more than once
 abbrev pub with_files : App → App
@@ -88,15 +87,6 @@ unfoldable pub nfsd : App
 nfsd = with_limits (with_files (with_transport (with_version (new_app (codes "nfsd")))))
 
 -- ---- what a value spells
-
--- an export's path, mode and hosts: what stands between the commas of PATH,MODE,HOST[,HOST..]
-abbrev pub export_parts : Text → Text × Text × List Text
-export_parts text =
-    let fields = slice_split (λ b. b == 44) text in
-    (unwrap_or (slice_get fields 0) [], unwrap_or (slice_get fields 1) [], drop 2 fields)
-
-abbrev pub parts_of : ExportText → Text × Text × List Text
-parts_of export = (export.path, export.mode, export.hosts.items)
 
 -- a number in decimal digits, which fits in so many bits, is read, and nothing where no text is given
 abbrev pub ReadsNumber : ℕ → Option Text → Option ℕ → Type 0
@@ -149,13 +139,21 @@ pub record HasLimits (rows : List Row) (limits : Limits) : Type 0 where
 abbrev pub AsksStdio : List Row → Bool → Type 0
 AsksStdio rows is_asked = ReadsFlag (one_of (codes "stdio") rows) is_asked
 
+-- lines on standard input say which exports replace those before, or not
+abbrev pub AsksControl : List Row → Bool → Type 0
+AsksControl rows is_asked = ReadsFlag (one_of (codes "control") rows) is_asked
+
 -- an address is named
 abbrev pub NamesAddress : List Row → Type 0
 NamesAddress rows = IsSome (first_of (codes "tcp") rows) ⊎ IsSome (first_of (codes "udp") rows)
 
+-- nothing is asked for that is not for standard streams
+abbrev pub LeavesStdio : List Row → Type 0
+LeavesStdio rows = (NamesAddress rows → ⊥) × AsksControl rows false
+
 -- standard streams are asked for alone, or not
 abbrev pub AsksAlone : List Row → Type 0
-AsksAlone rows = (is_asked : Bool) × AsksStdio rows is_asked × (is_asked ≡ true → NamesAddress rows → ⊥)
+AsksAlone rows = (is_asked : Bool) × AsksStdio rows is_asked × (is_asked ≡ true → LeavesStdio rows)
 
 -- the text that is named, if any
 abbrev pub text_of : Option (String Global) → Option Text
@@ -165,6 +163,7 @@ text_of named = option_map string_bytes named
 pub record ReadsNetwork (rows : List Row) (limits : Limits) (network : NetworkOptions) : Type 0 where
   pub tcp : text_of network.tcp ≡ first_of (codes "tcp") rows
   pub udp : text_of network.udp ≡ first_of (codes "udp") rows
+  pub control : AsksControl rows network.control
   pub workers : network.workers ≡ limits.workers
   pub connections : network.connections ≡ limits.connections
   pub accept : NamesNumber (codes "accept") 0 rows network.accept
@@ -174,17 +173,15 @@ abbrev pub HasWorkers : Transport → Type 0
 HasWorkers Stdio = Unit {0}
 HasWorkers (Network network) = (1 ≤ network.workers) × (network.workers ≤ 64)
 
--- standard streams and no address, or else the network
+-- standard streams alone, or else the network
 abbrev pub ReadsTransport : List Row → Limits → Transport → Type 0
-ReadsTransport rows limits Stdio = AsksStdio rows true × (NamesAddress rows → ⊥)
+ReadsTransport rows limits Stdio = AsksStdio rows true × LeavesStdio rows
 ReadsTransport rows limits (Network network) =
     AsksStdio rows false × NamesAddress rows × ReadsNetwork rows limits network
 
 -- the exports of the rows are faultless, and these
 abbrev pub GivesExports : List Row → List ExportValue → Type 0
-GivesExports rows exports =
-    (list : List ExportText) × (map parts_of list ≡ map export_parts (exports_of rows))
-    × (export_fault list ≡ None) × (exports ≡ map export_of list)
+GivesExports rows exports = AreExports (map export_parts (exports_of rows)) exports
 
 -- the rows of a command line that is taken give the options
 pub record ReadsOptions (rows : List Row) (options : Options) : Type 0 where
@@ -200,9 +197,7 @@ pub record ReadsOptions (rows : List Row) (options : Options) : Type 0 where
 
 -- the exports of the rows are at fault
 abbrev pub AreRefused : List Row → ExportError → Type 0
-AreRefused rows e =
-    (list : List ExportText) × (map parts_of list ≡ map export_parts (exports_of rows))
-    × (export_fault list ≡ Some e)
+AreRefused rows e = AreAtFault (map export_parts (exports_of rows)) e
 
 -- the exports of the rows are faultless, and the callback with this number is the first that is none
 abbrev pub IsBadCallback : List Row → ℕ → Type 0
@@ -217,7 +212,7 @@ IsRefusal rows Memory = Unit {0}
 IsRefusal rows _ = ⊥
 
 -- the words are those of the program's options, the host has its length, the numbers have their bounds, and standard
--- streams are not asked for beside an address
+-- streams are not asked for beside an address or beside lines on standard input
 pub record IsTaken (words : List Text) : Type 0 where
   pub faultless : fault_of nfsd words ≡ []
   pub host : IsHost (host_of (matches_of nfsd words))
@@ -273,10 +268,10 @@ IsLimitRefusal rows (CommandLine e) = (limit : Limit) × (value : ℕ) × NamesL
 IsLimitRefusal rows Memory = Unit {0}
 IsLimitRefusal rows _ = ⊥
 
--- standard streams are asked for beside an address, or neither is
+-- standard streams are asked for beside an address or beside lines on standard input; or neither they nor an address are
 abbrev pub IsTransportRefusal : List Row → Exit → Type 0
 IsTransportRefusal rows (CommandLine e) =
-    AsksStdio rows true × NamesAddress rows × (kind_of e ≡ ArgumentConflict)
+    AsksStdio rows true × (NamesAddress rows ⊎ AsksControl rows true) × (kind_of e ≡ ArgumentConflict)
 IsTransportRefusal rows NoTransport = AsksStdio rows false × (NamesAddress rows → ⊥)
 IsTransportRefusal rows Memory = Unit {0}
 IsTransportRefusal rows _ = ⊥

@@ -2,6 +2,8 @@ pub mod CalledBack
 pub mod Callbacks
 pub mod Clocks
 pub mod CommandLine
+pub mod Control
 pub mod Exits
+pub mod ExportTexts
 pub mod Limits
 pub mod Started

@@ -1,22 +1,23 @@
 //! The command line: which options there are, and what they ask for.
 
-ghost use Rattle.std.specs.Prelude.{◌≡◌, ◌==◌, [], List, false, true, map, option_map, slice_get, unwrap_or};
+ghost use Rattle.std.specs.Prelude.{◌≡◌, [], List, false, true, map, option_map, unwrap_or};
 ghost use Rattle.std.specs.Prelude.{IfErr, IfOk, MatchResult};
 ghost use Rattle.std.specs.IoError.{error_kind};
-ghost use Rattle.std.specs.List.{slice_split};
 ghost use Rattle.clap.specs.Words.{Text, app_of, found_of, rows_of, rule_of};
 ghost use Rattle.nfs_server.specs.CommandLine.{AreWithin, Configures, ReadsOptions, Refuses, IsParsedFrom};
 ghost use Rattle.nfs_server.specs.CommandLine.{HasLimit, HasLimits, IsHostRefusal, IsLimitRefusal};
-ghost use Rattle.nfs_server.specs.CommandLine.{AsksStdio, IsTransportRefusal, NamesAddress, ReadsNetwork};
+ghost use Rattle.nfs_server.specs.CommandLine.{AsksControl, AsksStdio, IsTransportRefusal, NamesAddress, ReadsNetwork};
 ghost use Rattle.nfs_server.specs.CommandLine.{ReadsTransport, text_of};
 ghost use Rattle.nfs_server.specs.CommandLine.{IsConflict, IsReadingExit, IsReadingFault, IsRefusal, IsValueRefusal};
-ghost use Rattle.nfs_server.specs.CommandLine.{export_parts, host_of, nfsd, parts_of};
+ghost use Rattle.nfs_server.specs.CommandLine.{host_of, nfsd};
 ghost use Rattle.nfs_server.specs.CommandLine.{with_files, with_limits, with_transport};
 ghost use Rattle.nfs_server.specs.CommandLine.{flag_rule, number_rule, option_rule};
+ghost use Rattle.nfs_server.specs.ExportTexts.{export_parts, parts_of};
 ghost use Rattle.nfs_engine.specs.Hosts.{IsHost};
 
 use crate::callbacks::Callbacks;
 use crate::exit::Exit;
+use crate::exporting::export_text;
 use crate::limits::{Limit, Limits};
 use crate::options::{Network, Options, Transport};
 use bytes::Bytes;
@@ -46,6 +47,9 @@ const BAD_HOST: &str = "the value of '--host <TEXT>' must have 1 to 255 bytes";
 const TWO_TRANSPORTS: &str =
     "the argument '--stdio' cannot be used with '--tcp <ADDR:PORT>' or '--udp <ADDR:PORT>'";
 
+/// What is said where standard streams are asked for beside lines on standard input.
+const CONTROL_OF_STDIO: &str = "the argument '--stdio' cannot be used with '--control'";
+
 /// What is said of words that are no text.
 const BAD_TEXT: &str = "invalid UTF-8 was detected in one or more arguments";
 
@@ -65,6 +69,8 @@ const UDP_HELP: &str =
 
 const CALLBACK_HELP: &str =
     "Call the peer HOST back at this address when a lock that it waited for is its own; once or more";
+
+const CONTROL_HELP: &str = "Replace the exports as lines on standard input say; not with --stdio";
 
 const FILES: &str = "Files";
 
@@ -149,7 +155,8 @@ fn with_transport<'a>(alloc: Global, command: Command<'a>) -> Result<Command<'a>
         .arg(option(alloc, "udp", "ADDR:PORT", UDP_HELP))?
         .arg(flag(alloc, "stdio", STDIO_HELP))?
         .arg(option(alloc, "host", "TEXT", HOST_HELP))?
-        .arg(callback)
+        .arg(callback)?
+        .arg(flag(alloc, "control", CONTROL_HELP))
 }
 
 // The command with the options that say what is served.
@@ -217,11 +224,11 @@ fn refusal(command: &mut Command<'_>, message: &str) -> Result<Exit, AllocError>
     Ok(Exit::CommandLine(command.error(ErrorKind::ValueValidation, message)?))
 }
 
-// The exit where standard streams are asked for beside an address.
-fn two_transports(command: &mut Command<'_>) -> Result<Exit, AllocError>
+// The exit where two arguments are refused together, with this message.
+fn conflict(command: &mut Command<'_>, message: &str) -> Result<Exit, AllocError>
     ensures { IfOk result IsConflict }
 {
-    Ok(Exit::CommandLine(command.error(ErrorKind::ArgumentConflict, TWO_TRANSPORTS)?))
+    Ok(Exit::CommandLine(command.error(ErrorKind::ArgumentConflict, message)?))
 }
 
 /// What a command line asks for, of which the first word is the program's name.
@@ -230,7 +237,7 @@ fn two_transports(command: &mut Command<'_>) -> Result<Exit, AllocError>
 ///
 /// Faults are looked for in this order: `CommandLine` where the words are none that the program takes, ask for its help
 /// or its version, give a host of no byte or of more than 255 or a number that is out of its bounds, or ask for
-/// standard streams beside an address; `NoTransport`; `Exports` where these are refused. `Memory` where memory was
+/// standard streams beside an address or beside lines on standard input; `NoTransport`; `Exports` where these are refused. `Memory` where memory was
 /// refused.
 pub fn configure<S: AsStr>(alloc: Global, words: &[S]) -> Result<Options, Exit>
     ensures asked { MatchResult result (Configures (map S.text words.now)) (Refuses (map S.text words.now)) }
@@ -354,7 +361,10 @@ fn named_transport(
     let has_address = names_address(matches);
     if asks_stdio(matches) {
         if has_address {
-            return Err(two_transports(command)?);
+            return Err(conflict(command, TWO_TRANSPORTS)?);
+        }
+        if asks_control(matches) {
+            return Err(conflict(command, CONTROL_OF_STDIO)?);
         }
         return Ok(Transport::Stdio);
     }
@@ -369,6 +379,13 @@ fn asks_stdio(matches: &ArgMatches<'_>) -> bool
     ensures { AsksStdio (rows_of (found_of matches.now)) result }
 {
     matches.get_flag("stdio")
+}
+
+// Whether lines on standard input say which exports replace those before.
+fn asks_control(matches: &ArgMatches<'_>) -> bool
+    ensures { AsksControl (rows_of (found_of matches.now)) result }
+{
+    matches.get_flag("control")
 }
 
 // Whether an address is named.
@@ -390,6 +407,7 @@ fn named_network(
     Ok(Network {
         tcp: named_text(alloc, matches.get_str("tcp"))?,
         udp: named_text(alloc, matches.get_str("udp"))?,
+        control: asks_control(matches),
         workers: limits.workers,
         connections: limits.connections,
         accept: matches.get_one("accept").unwrap_or(0),
@@ -442,47 +460,7 @@ fn export_texts(alloc: Global, texts: &[&str]) -> Result<Vec<ExportText>, AllocE
 {
     let mut list = Vec::with_capacity(alloc, texts.len())?;
     for text in texts {
-        list.push(export_text(alloc, text)?)?;
+        list.push(export_text(alloc, text.as_bytes())?)?;
     }
     Ok(list)
-}
-
-// The export that PATH,MODE,HOST[,HOST..] spells. A part that is missing is empty.
-fn export_text(alloc: Global, text: &str) -> Result<ExportText, AllocError>
-    ensures { IfOk result (λ export. parts_of export ≡ export_parts text.now) }
-{
-    let fields = fields(alloc, text)?;
-    Ok(ExportText {
-        path: Bytes::copy_from_slice(alloc, field(&fields, 0).as_bytes())?,
-        mode: Bytes::copy_from_slice(alloc, field(&fields, 1).as_bytes())?,
-        hosts: hosts(alloc, fields.get(2..).unwrap_or(&[]))?,
-    })
-}
-
-// What stands between the commas.
-fn fields<'a>(alloc: Global, text: &'a str) -> Result<Vec<&'a str>, AllocError>
-    ensures { IfOk result (λ fields. map (λ field. field.now) fields.items
-        ≡ slice_split (λ b. b == 44) text.entry.now) }
-{
-    text.split(',').collect(alloc)
-}
-
-// The field at this place, from 0; a missing one is empty.
-fn field<'a>(fields: &[&'a str], place: usize) -> &'a str
-    ensures { result.now ≡ unwrap_or (slice_get (map (λ field. field.now) fields.now) place) [] }
-{
-    match fields.get(place) {
-        Some(field) => field,
-        None => "",
-    }
-}
-
-fn hosts(alloc: Global, texts: &[&str]) -> Result<Vec<Bytes>, AllocError>
-    ensures { IfOk result (λ hosts. hosts.items ≡ map (λ text. text.now) texts.now) }
-{
-    let mut hosts = Vec::with_capacity(alloc, texts.len())?;
-    for text in texts {
-        hosts.push(Bytes::copy_from_slice(alloc, text.as_bytes())?)?;
-    }
-    Ok(hosts)
 }

@@ -10,6 +10,7 @@ mod jobs;
 mod line;
 mod listening;
 mod messages;
+mod operating;
 mod places;
 mod reading;
 mod sending;
@@ -25,6 +26,7 @@ use crate::network::attendance::Attendance;
 use crate::network::jobs::{JOBS, Job};
 pub use crate::network::listening::Sockets;
 use crate::network::listening::{Service, let_in, take_datagrams};
+pub use crate::network::operating::{Nobody, Operator};
 use crate::network::places::{Keeper, Places, hand_out};
 use crate::network::sending::Sender;
 use crate::options::{Network, Options, Transport};
@@ -45,7 +47,8 @@ use std::thread::Threads;
 /// For how many connections there are places beside those of the workers; more connections share them.
 const OWN_PLACES: u64 = 64;
 
-/// Serves on the network as the options say: until so many connections have come and ended, or for ever.
+/// Serves on the network as the options say: until so many connections have come and ended, or for ever. Where they ask
+/// for it, the runtime is the operator.
 ///
 /// # Errors
 ///
@@ -57,6 +60,7 @@ pub fn serve_network<
         + Wait
         + Clock
         + Eprint
+        + Operator
         + Copy
         + Drop
         + Send
@@ -67,10 +71,11 @@ pub fn serve_network<
 {
     let sockets = Sockets::bind(&rt, rt.alloc(), &options)?;
     sockets.tell(&rt);
-    serve_sockets(rt, options, sockets)
+    serve_operated(rt, options, sockets, rt)
 }
 
-/// Serves on these sockets as the options say: until so many connections have come and ended, or for ever.
+/// Serves on these sockets as the options say: until so many connections have come and ended, or for ever. No operator
+/// says anything.
 ///
 /// # Errors
 ///
@@ -87,6 +92,30 @@ pub fn serve_sockets<
         + Sync
         + 'static,
 >(rt: R, options: Options, sockets: Sockets) -> Result<(), Exit>
+    requires { AreWithin options }
+{
+    serve_operated(rt, options, sockets, Nobody)
+}
+
+/// Serves on these sockets as the options say, and does what the operator says where they ask for that: until so many
+/// connections have come and ended, or for ever.
+///
+/// # Errors
+///
+/// `Memory` where there is none to begin; `NoTransport` where the options name no address.
+pub fn serve_operated<
+    R: AllocGlobal
+        + Net<Listener = TcpListener, Stream = TcpStream>
+        + Threads
+        + Wait
+        + Clock
+        + Copy
+        + Drop
+        + Send
+        + Sync
+        + 'static,
+    O: Operator + Drop + Send + 'static,
+>(rt: R, options: Options, sockets: Sockets, operator: O) -> Result<(), Exit>
     requires { AreWithin options }
 {
     let Options {
@@ -113,7 +142,7 @@ pub fn serve_sockets<
         limits: Limits { total_bytes: bytes },
         era_records,
     };
-    serve_from(rt, config, &network, sockets, clock, callbacks)
+    serve_from(rt, config, &network, sockets, clock, callbacks, operator)
 }
 
 /// Serves from the opening state that is configured so.
@@ -128,6 +157,7 @@ fn serve_from<
         + Send
         + Sync
         + 'static,
+    O: Operator + Drop + Send + 'static,
 >(
     rt: R,
     config: Config,
@@ -135,6 +165,7 @@ fn serve_from<
     sockets: Sockets,
     clock: Option<u32>,
     callbacks: Callbacks,
+    operator: O,
 ) -> Result<(), Exit>
     requires capacity { IsLimit config.capacity }
     requires era { IsLimit config.era_records }
@@ -144,7 +175,7 @@ fn serve_from<
     let engine = open(alloc, config)?;
     let count = network.workers + network.connections.min(OWN_PLACES);
     let blank = Blank::new(count);
-    serve_pool::<Brand, R>(
+    serve_pool::<Brand, R, O>(
         rt,
         alloc,
         blank,
@@ -154,6 +185,7 @@ fn serve_from<
         network,
         clock,
         callbacks,
+        operator,
     )
 }
 
@@ -169,6 +201,7 @@ fn serve_pool<
         + Send
         + Sync
         + 'static,
+    O: Operator + Drop + Send + 'static,
 >(
     rt: R,
     alloc: Global,
@@ -179,6 +212,7 @@ fn serve_pool<
     network: &Network,
     clock: Option<u32>,
     callbacks: Callbacks,
+    operator: O,
 ) -> Result<(), Exit>
     requires name { blank.name ≡ L.name }
     requires parts { blank.parts ≡ L.parts }
@@ -193,6 +227,9 @@ fn serve_pool<
     let service = Service::new(alloc, places, jobs, clock)?;
     start_workers(rt, alloc, &service, queue, network.workers)?;
     start_sender(rt, alloc, &service, callbacks)?;
+    if network.control {
+        start_operator(rt, alloc, &service, operator)?;
+    }
     attend(rt, alloc, sockets, network, service)
 }
 
@@ -259,6 +296,19 @@ fn start_sender<
         callbacks,
     };
     thread::spawn(&rt, move || sender.work(&rt, alloc))?;
+    Ok(())
+}
+
+/// Starts the thread that does what an operator's lines say. Nothing waits for its end.
+fn start_operator<
+    L: Ledger + Send + Sync + 'static,
+    R: Threads + Wait + Clock + Copy + Drop + Send + Sync + 'static,
+    O: Operator + Drop + Send + 'static,
+>(rt: R, alloc: Global, service: &Service<L>, operator: O) -> Result<(), AllocError> {
+    let mut clerk = service.clerk(rt)?;
+    thread::spawn(&rt, move || {
+        operator.listen(alloc, |exports| clerk.replace(&rt, alloc, exports));
+    })?;
     Ok(())
 }
 

@@ -43,6 +43,8 @@ pub struct Network {
     pub tcp: Option<String>,
     /// Where datagrams are taken, as the command line names it.
     pub udp: Option<String>,
+    /// Whether lines on standard input say which exports replace those before.
+    pub control: bool,
     /// How many workers there are, from 1 to 64.
     pub workers: u64,
     /// How many connections may be open at once, from 1 to 1,024.

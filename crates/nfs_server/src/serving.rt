@@ -3,7 +3,7 @@
 ghost use Rattle.nfs_server.specs.CommandLine.{AreWithin};
 
 use crate::exit::Exit;
-use crate::network::serve_network;
+use crate::network::{Operator, serve_network};
 use crate::options::{Options, Transport};
 use crate::stdio::serve_stdio;
 use crate::warnings::warn_of_hosts;
@@ -24,6 +24,7 @@ pub fn serve<
         + Input
         + Print
         + Eprint
+        + Operator
         + Net<Listener = TcpListener, Stream = TcpStream>
         + Threads
         + Wait

@@ -3,7 +3,7 @@
 //! It has no contract: what its words mean, how they are refused and what is served is the library's.
 #![tactic(auto)]
 
-use nfs_server::{Exit, arguments, configure, serve};
+use nfs_server::{Exit, Operator, arguments, configure, serve};
 use std::net::{Net, TcpListener, TcpStream};
 use std::process::ExitCode;
 use std::rt::{Clock, Env};
@@ -28,6 +28,7 @@ fn run<
         + Input
         + Print
         + Eprint
+        + Operator
         + Net<Listener = TcpListener, Stream = TcpStream>
         + Threads
         + Wait

@@ -10,6 +10,7 @@ mod callbacks;
 mod clocks;
 mod command_lines;
 mod connections;
+mod controls;
 mod exit_lines;
 mod from_options;
 mod full_memory;

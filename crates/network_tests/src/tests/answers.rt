@@ -31,7 +31,7 @@ const DUMP: Exchange = (
 );
 
 /// GETATTR of the root.
-const GETATTR: [u32; 20] = [
+pub(super) const GETATTR: [u32; 20] = [
     0x8000004c, 3, 0, 2, 100003, 3, 1, 0, 0, 0, 0, 32, 0x4e464433, 1, 0, 7, 0, 1, 0, 1,
 ];
 

@@ -1,6 +1,7 @@
 //! What clients do.
 
 use crate::tests::callbacks::is_called_back;
+use crate::tests::operators::is_operated;
 use std::alloc::{AllocError, Global};
 use std::io;
 use std::io::{Read, Write};
@@ -40,6 +41,8 @@ pub(super) enum Visit {
     /// A lock that is given back while another caller waits for it; that one is called back here, and answers with this
     /// status.
     Called(TcpListener, u32),
+    /// An operator, who takes a connection here, replaces the exports.
+    Operated(SocketAddr),
 }
 
 impl Visit {
@@ -61,6 +64,7 @@ impl Visit {
             Visit::Closed(exchange, words) => open_beside(rt, tcp, exchange, words, false),
             Visit::Ended(exchange, words) => open_beside(rt, tcp, exchange, words, true),
             Visit::Called(listener, status) => is_called_back(rt, tcp, &listener, status),
+            Visit::Operated(operator) => is_operated(rt, tcp, operator),
         };
         well.unwrap_or(false)
     }
@@ -119,7 +123,7 @@ fn are_like(told: &[u8], wanted: &[u8]) -> bool {
 }
 
 /// Whether a call has this answer over a connection.
-fn exchange(alloc: Global, stream: &TcpStream, exchange: Exchange) -> io::Result<bool> {
+pub(crate) fn exchange(alloc: Global, stream: &TcpStream, exchange: Exchange) -> io::Result<bool> {
     send(alloc, stream, exchange.0)?;
     is_next(alloc, stream, exchange.1)
 }
@@ -130,8 +134,17 @@ fn exchange_all<R: AllocGlobal + Net<Listener = TcpListener, Stream = TcpStream>
     exchanges: &[Exchange],
 ) -> io::Result<bool> {
     let stream = connect(rt, tcp)?;
+    exchange_each(rt.alloc(), &stream, exchanges)
+}
+
+/// Whether these calls have their answers over a connection.
+pub(crate) fn exchange_each(
+    alloc: Global,
+    stream: &TcpStream,
+    exchanges: &[Exchange],
+) -> io::Result<bool> {
     for each in exchanges {
-        if !exchange(rt.alloc(), &stream, *each)? {
+        if !exchange(alloc, stream, *each)? {
             return Ok(false);
         }
     }

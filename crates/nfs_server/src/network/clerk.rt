@@ -1,15 +1,16 @@
 //! What answers records: each is executed on a place, and no place is held while answers are sent.
 
 ghost use Rattle.std.specs.Prelude.{◌≡◌, false};
-ghost use Rattle.nfs_engine.specs.Arrivals.{received_value};
-ghost use Rattle.nfs_engine.specs.Asked.{IsAsked};
+ghost use Rattle.nfs_engine.specs.Arrivals.{incoming_value};
+ghost use Rattle.nfs_engine.specs.Asked.{IsAskedBy};
 
 use crate::clock::ServerClock;
+use crate::controlling::Applied;
 use crate::network::bell::Bell;
 use crate::network::line::Line;
 use crate::network::places::{Place, Places};
-use nfs_engine::{Arrival, Asked, Faulted, Host, Reading, Receipt, Received};
-use nfs_machine::Moments;
+use nfs_engine::{Arrival, Asked, Faulted, Host, Incoming, Reading, Receipt, Received};
+use nfs_machine::{Exports, Moments};
 use nfs_pool::{Open, PoolError, Seat, Sent};
 use nfs_rpc::Record;
 use nfs_schedule::answer::refusal;
@@ -177,8 +178,25 @@ impl<L: Ledger, C: Clock> Clerk<L, C> {
         }
     }
 
-    /// Executes what a record asks. Where the era is full it is ended first, and where memory is wanting too, once:
-    /// what was recorded in it is let go.
+    /// Puts exports in the place of those before. The place is given back before that is told.
+    pub(crate) fn replace<R: Wait>(&mut self, rt: &R, alloc: Global, exports: Exports) -> Applied {
+        let moment = self.clock.moment();
+        let Ok(arrival) = Arrival::exports(exports, moment) else {
+            return Applied::Refused;
+        };
+        let place = self.places.take(rt);
+        let (place, submitted) = self.submit(rt, alloc, place, arrival);
+        self.places.give(rt, place);
+        let is_executed = matches!(&submitted, Ok(Sent::Executed));
+        drop(submitted);
+        if is_executed {
+            Applied::Executed
+        } else {
+            Applied::Refused
+        }
+    }
+
+    /// Executes what a record asks.
     fn execute<R: Wait>(
         &self,
         rt: &R,
@@ -186,23 +204,44 @@ impl<L: Ledger, C: Clock> Clerk<L, C> {
         place: Place<L>,
         arrival: Arrival,
     ) -> (Place<L>, Answered) {
+        let (place, submitted) = self.submit(rt, alloc, place, arrival);
+        let answered = match submitted {
+            Ok(sent) => answered(sent, &place.seat),
+            Err(back) => decline(alloc, back),
+        };
+        (place, answered)
+    }
+
+    /// Submits what came in. Where the era is full it is ended first, and where memory is wanting too, once: what was
+    /// recorded in it is let go. What was executed is told by the last receipt of the place's seat.
+    ///
+    /// # Errors
+    ///
+    /// It was not taken in, and is handed back.
+    fn submit<R: Wait>(
+        &self,
+        rt: &R,
+        alloc: Global,
+        place: Place<L>,
+        arrival: Arrival,
+    ) -> (Place<L>, Result<Sent, Arrival>) {
         let mut place = place;
         let mut arrival = arrival;
         let mut is_anew = false;
         for _ in rt.forever() {
             let back = match submit(rt, alloc, &mut place, arrival) {
-                Ok(answered) => return (place, answered),
+                Ok(sent) => return (place, Ok(sent)),
                 Err(PoolError::EraFull(back)) => back,
                 Err(PoolError::Memory(back)) => {
                     if is_anew {
-                        return (place, decline(alloc, back));
+                        return (place, Err(back));
                     }
                     back
                 }
             };
             place = self.places.turn(rt, place);
             if place.is_stuck {
-                return (place, decline(alloc, back));
+                return (place, Err(back));
             }
             is_anew = true;
             arrival = back;
@@ -234,24 +273,32 @@ fn put(waiting: &mut Connection, answer: Answer) -> bool
     waiting.is_full()
 }
 
-/// Submits a record to the pool of a place.
+/// Submits what came in to the pool of a place.
 ///
 /// # Errors
 ///
-/// The era is full, or memory was wanting: the record is handed back.
+/// The era is full, or memory was wanting: what came in is handed back.
 fn submit<R: Wait, L: Ledger>(
     rt: &R,
     alloc: Global,
     place: &mut Place<L>,
     arrival: Arrival,
-) -> Result<Answered, PoolError> {
+) -> Result<Sent, PoolError> {
     let Place { pool, seat, .. } = place;
     match pool.submit(rt, alloc, &Open, seat, arrival)? {
-        Sent::Executed => Ok(executed(seat)),
-        Sent::Repeated(kept) => Ok(Ok(Answer::Repeated(kept))),
         Sent::Refused(declined) => refused(alloc, declined),
-        Sent::Early(faulted) => Ok(Ok(Answer::Early(faulted))),
-        Sent::Unanswered(received) => Ok(Ok(Answer::Unanswered(received))),
+        sent => Ok(sent),
+    }
+}
+
+/// What is told of a record that was submitted, on this seat.
+fn answered<L: Ledger>(sent: Sent, seat: &Seat<L>) -> Answered {
+    match sent {
+        Sent::Executed => executed(seat),
+        Sent::Repeated(kept) => Ok(Answer::Repeated(kept)),
+        Sent::Refused(declined) => told(declined),
+        Sent::Early(faulted) => Ok(Answer::Early(faulted)),
+        Sent::Unanswered(received) => Ok(Answer::Unanswered(received)),
     }
 }
 
@@ -266,7 +313,7 @@ fn executed<L: Ledger>(seat: &Seat<L>) -> Answered {
 }
 
 /// A call that was refused for want of memory is handed back as it came in. Its refusal, where there is none for that.
-fn refused(alloc: Global, declined: Declined) -> Result<Answered, PoolError> {
+fn refused(alloc: Global, declined: Declined) -> Result<Sent, PoolError> {
     let Declined { received, answer } = declined;
     match again(alloc, &received) {
         Ok(arrival) => {
@@ -274,21 +321,29 @@ fn refused(alloc: Global, declined: Declined) -> Result<Answered, PoolError> {
             drop(answer);
             Err(PoolError::Memory(arrival))
         }
-        Err(_) => Ok(told(Declined { received, answer })),
+        Err(_) => Ok(Sent::Refused(Declined { received, answer })),
+    }
+}
+
+/// The same as it came in.
+fn again(alloc: Global, received: &Incoming) -> Result<Arrival, AllocError> {
+    match received.share()? {
+        Incoming::Record(received) => read_again(alloc, received),
+        Incoming::Exports(exports, moment) => Arrival::exports(exports, moment),
     }
 }
 
 /// The same record as it came in.
-fn again(alloc: Global, received: &Received) -> Result<Arrival, AllocError> {
+fn read_again(alloc: Global, received: Received) -> Result<Arrival, AllocError> {
     let Received {
         host,
         message,
         moment,
-    } = received.share()?;
+    } = received;
     Arrival::read(alloc, host, message, moment)
 }
 
-/// The answer to a record that is not executed.
+/// The answer to what came in and is not executed.
 fn decline(alloc: Global, arrival: Arrival) -> Answered {
     let (received, reading) = arrival.into_parts();
     match reading {
@@ -298,8 +353,8 @@ fn decline(alloc: Global, arrival: Arrival) -> Answered {
 }
 
 /// The refusal of a call.
-fn declined(alloc: Global, received: Received, asked: Asked) -> Declined
-    requires { IsAsked (received_value received).bytes asked }
+fn declined(alloc: Global, received: Incoming, asked: Asked) -> Declined
+    requires { IsAskedBy (incoming_value received) asked }
 {
     let answer = refusal(alloc, &asked);
     drop(asked);

@@ -193,6 +193,8 @@ const CONNECTIONS: &str =
 const TWO_TRANSPORTS: &str =
     "error: the argument '--stdio' cannot be used with '--tcp <ADDR:PORT>' or '--udp <ADDR:PORT>'\n";
 
+const CONTROL_OF_STDIO: &str = "error: the argument '--stdio' cannot be used with '--control'\n";
+
 #[test]
 fn refused_command_lines(rt: HostRuntime) -> Result<(), Fail> {
     let alloc = rt.alloc();
@@ -241,6 +243,11 @@ fn refused_command_lines(rt: HostRuntime) -> Result<(), Fail> {
         (["--connections", "1025"].as_slice(), CONNECTIONS),
         (["--tcp", "127.0.0.1:2049"].as_slice(), TWO_TRANSPORTS),
         (["--udp", "127.0.0.1:2049"].as_slice(), TWO_TRANSPORTS),
+        (["--control"].as_slice(), CONTROL_OF_STDIO),
+        (
+            ["--tcp", "127.0.0.1:2049", "--control", "--control"].as_slice(),
+            "error: the argument '--control' cannot be used multiple times\n",
+        ),
         (
             ["more"].as_slice(),
             "error: unexpected argument 'more' found\n",
@@ -297,7 +304,21 @@ fn the_network(rt: HostRuntime) -> Result<(), Fail> {
     Ok(())
 }
 
-/// Four workers and 64 connections, for ever.
+/// Lines on standard input say which exports replace those before where that is asked for beside an address.
+#[test]
+fn lines_of_an_operator(rt: HostRuntime) -> Result<(), Fail> {
+    let words = with(rt.alloc(), &NETWORK[..5], &["--control"])?;
+    let options = options(rt.alloc(), &words)?;
+    assert!(rt;
+        matches!(
+            &options.transport,
+            Transport::Network(Network { control: true, .. })
+        )
+    );
+    Ok(())
+}
+
+/// Four workers and 64 connections, for ever, and nobody says anything on standard input.
 #[test]
 fn the_defaults_of_the_network(rt: HostRuntime) -> Result<(), Fail> {
     let options = options(rt.alloc(), &NETWORK[..5])?;
@@ -306,6 +327,7 @@ fn the_defaults_of_the_network(rt: HostRuntime) -> Result<(), Fail> {
             &options.transport,
             Transport::Network(Network {
                 udp: None,
+                control: false,
                 workers: 4,
                 connections: 64,
                 accept: 0,

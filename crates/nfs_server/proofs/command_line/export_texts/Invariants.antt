@@ -1,5 +1,5 @@
 use Rattle.std.proofs.Common.{◌≡◌, map, take}
-use Rattle.nfs_server.specs.CommandLine.{export_parts, parts_of}
+use Rattle.nfs_server.specs.ExportTexts.{export_parts, parts_of}
 use Rattle.nfs_server.proofs.command_line.export_texts.Given as goal
 
 abbrev pub invariant-loop-text : goal.invariant-loop-text

@@ -17,6 +17,7 @@ returns c =
     record {
       tcp = text_read found (codes "tcp") c.get_str.result _ c.get_str.ensures c.in_ok-named_text.ensures;
       udp = text_read found (codes "udp") c.get_str-2.result _ c.get_str-2.ensures c.in_ok-named_text-2.ensures;
+      control = c.asks_control.ensures;
       workers = refl;
       connections = refl;
       accept = record {

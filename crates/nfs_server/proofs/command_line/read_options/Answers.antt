@@ -7,7 +7,8 @@ use Rattle.std.specs.declared.num.ParseIntError.{ParseIntError}
 use Rattle.std.proofs.lemmas.Result.{MatchResult-at_err, MatchResult-at_ok, err_from_is_err_and}
 use Rattle.clap.specs.Words.{Text, found_of, rows_of}
 use Rattle.nfs_server.specs.Callbacks.{AreCallbacks, RefusesCallbacks}
-use Rattle.nfs_server.specs.CommandLine.{callbacks_of, export_parts, exports_of, parts_of}
+use Rattle.nfs_server.specs.CommandLine.{callbacks_of, exports_of}
+use Rattle.nfs_server.specs.ExportTexts.{export_parts, parts_of}
 use Rattle.nfs_server.proofs.Parsed.{callbacks_read, exports_made, exports_read, number_read, refuses_callbacks}
 use Rattle.nfs_server.proofs.Parsed.{refuses_exports}
 use Rattle.nfs_server.proofs.command_line.read_options.Goals as goal

@@ -22,6 +22,8 @@ returns c =
     let with_tcp = c.in_ok-arg.ensures.shape (search rules) ∙ ap₂ with_rule headed tcp in
     let with_udp = c.in_ok-arg-2.ensures.shape (search rules) ∙ ap₂ with_rule with_tcp udp in
     let with_stdio = c.in_ok-arg-3.ensures.shape (search rules) ∙ ap₂ with_rule with_udp stdio in
+    let control : rule_of c.flag-2.result ≡ flag_rule (codes "control") = search rules in
     let with_host = c.in_ok-arg-4.ensures.shape (search rules) ∙ ap₂ with_rule with_stdio host in
-    IfOk-weaker c.arg-5.result _ _ (λ command adds. adds.shape local ∙ ap₂ with_rule with_host callback)
-    c.arg-5.ensures
+    let with_callback = c.in_ok-arg-5.ensures.shape local ∙ ap₂ with_rule with_host callback in
+    IfOk-weaker c.arg-6.result _ _ (λ command adds. adds.shape (search rules) ∙ ap₂ with_rule with_callback control)
+    c.arg-6.ensures

@@ -1,5 +1,5 @@
-use Rattle.nfs_engine.proofs.Formed.{asked-refusal}
+use Rattle.nfs_engine.proofs.Formed.{arrival-refusal}
 use Rattle.nfs_server.proofs.network.clerk.declined.Goals as goal
 
 pub refusal-answer-requires : goal.refusal-answer-requires
-refusal-answer-requires c = asked-refusal _ _ c.requires
+refusal-answer-requires c = arrival-refusal _ _ c.requires

@@ -1,0 +1,191 @@
+//! An operator, whose lines come over a connection in place of standard input, replaces the exports while a client is
+//! served (RFC 1813, 3.3.1, 5.2.1 and 5.2.5).
+
+ghost use Rattle.nfs_server.specs.CommandLine.{AreWithin};
+
+use crate::tests::answers::{GETATTR, NULL, OPENED};
+use crate::tests::clients::{ANY, Exchange, Visit, connect, exchange_each, next};
+use crate::tests::options;
+use nfs_machine::Exports;
+use nfs_rpc::stream::Counted;
+use nfs_server::{Applied, Operator, Options, Sockets, control, serve_operated};
+use std::alloc::Global;
+use std::io::{Read, Write};
+use std::net::{Net, Shutdown, SocketAddr, TcpListener, TcpStream};
+use std::process::Abort;
+use std::rt::Clock;
+use std::sync::Wait;
+use std::test::Fail;
+use std::thread::Threads;
+use std::{io, thread};
+
+/// An operator at the other end of a connection.
+#[derive(Drop)]
+struct Caller {
+    stream: TcpStream,
+}
+
+impl Operator for Caller {
+    fn listen<F: FnMut(Exports) -> Applied>(self, alloc: Global, apply: F) {
+        let mut reader = Counted::new(&self.stream);
+        let mut writer = Counted::new(&self.stream);
+        control(alloc, &mut reader, &mut writer, apply);
+    }
+}
+
+/// GETATTR of the root of `/data`, which is gone: STALE.
+const GONE: Exchange = (&GETATTR, &[0x8000001c, 3, 1, 0, 0, 0, 0, 70]);
+
+/// MNT of `/data`: ACCES.
+const NOT_MOUNTED: Exchange = (
+    &[
+        0x80000034, 10, 0, 2, 100005, 3, 1, 0, 0, 0, 0, 5, 0x2f646174, 0x61000000,
+    ],
+    &[0x8000001c, 10, 1, 0, 0, 0, 0, 13],
+);
+
+/// MNT of `/new`: a handle of export 2, and AUTH_SYS as the one flavor.
+const MOUNTED: Exchange = (
+    &[
+        0x80000030, 11, 0, 2, 100005, 3, 1, 0, 0, 0, 0, 4, 0x2f6e6577,
+    ],
+    &[
+        0x80000048, 11, 1, 0, 0, 0, 0, 0, 32, 0x4e464433, 2, 0, 7, ANY, ANY, ANY, ANY, 1, 1,
+    ],
+);
+
+/// EXPORT: `/new` alone, for every host.
+const LISTED: Exchange = (
+    &[0x80000028, 12, 0, 2, 100005, 3, 5, 0, 0, 0, 0],
+    &[0x8000002c, 12, 1, 0, 0, 0, 0, 1, 4, 0x2f6e6577, 0, 0],
+);
+
+/// What is answered once `/new` is in the place of `/data`.
+const REPLACED: [Exchange; 4] = [GONE, NOT_MOUNTED, MOUNTED, LISTED];
+
+const LINES: &[u8] = b"add /new,rw,*\nlist\napply\n";
+
+const ANSWERS: &[u8] = b"unknown command\napplied\n";
+
+/// Whether lines are answered so.
+fn are_answered(
+    alloc: Global,
+    operator: &TcpStream,
+    lines: &[u8],
+    answers: &[u8],
+) -> io::Result<bool> {
+    let mut operator = operator;
+    operator.write_all(lines)?;
+    let mut told = Vec::from_elem(alloc, 0u8, answers.len())?;
+    operator.read_exact(told.as_mut_slice())?;
+    Ok(told.as_slice() == answers)
+}
+
+/// Whether an operator's lines are over, once no more come.
+fn are_over(alloc: Global, operator: &TcpStream) -> io::Result<bool> {
+    operator.shutdown(Shutdown::Write)?;
+    Ok(next(alloc, operator)?.is_empty())
+}
+
+/// Whether exports are replaced as an operator's lines say, and the client is served behind the last one too.
+pub(super) fn is_operated<R: AllocGlobal + Net<Listener = TcpListener, Stream = TcpStream>>(
+    rt: &R,
+    tcp: SocketAddr,
+    operator: SocketAddr,
+) -> io::Result<bool> {
+    let alloc = rt.alloc();
+    let operator = connect(rt, operator)?;
+    let stream = connect(rt, tcp)?;
+    Ok(
+        exchange_each(alloc, &stream, &[OPENED])?
+            && are_answered(alloc, &operator, LINES, ANSWERS)?
+            && exchange_each(alloc, &stream, &REPLACED)?
+            && are_over(alloc, &operator)?
+            && exchange_each(alloc, &stream, &[GONE, NULL])?,
+    )
+}
+
+/// Serves a client, and the operator who comes to this listener.
+fn serve_operator<
+    R: AllocGlobal
+        + Net<Listener = TcpListener, Stream = TcpStream>
+        + Threads
+        + Wait
+        + Clock
+        + Copy
+        + Drop
+        + Send
+        + Sync
+        + 'static,
+>(rt: R, options: Options, sockets: Sockets, listener: &TcpListener) -> bool
+    requires { AreWithin options }
+{
+    match listener.accept() {
+        Ok((stream, _)) => {
+            let ended = serve_operated(rt, options, sockets, Caller { stream });
+            let is_well = ended.is_ok();
+            drop(ended);
+            is_well
+        }
+        Err(_) => false,
+    }
+}
+
+/// Serves beside the client who is the operator too.
+fn serve_beside<
+    R: AllocGlobal
+        + Net<Listener = TcpListener, Stream = TcpStream>
+        + Threads
+        + Wait
+        + Clock
+        + Copy
+        + Drop
+        + Send
+        + Sync
+        + 'static,
+>(rt: R, options: Options, sockets: Sockets, listener: &TcpListener, operator: SocketAddr) -> bool
+    requires { AreWithin options }
+{
+    let tcp = sockets.tcp_address();
+    let visit = Visit::Operated(operator);
+    let client = thread::spawn(&rt, move || visit.is_well(&rt, tcp, None));
+    let is_well = serve_operator(rt, options, sockets, listener);
+    match client {
+        Ok(client) => client.join(&rt) && is_well,
+        Err(_) => false,
+    }
+}
+
+/// Whether a client is served on sockets of the system's choice, and an operator's lines are answered.
+fn is_served<
+    R: AllocGlobal
+        + Net<Listener = TcpListener, Stream = TcpStream>
+        + Threads
+        + Wait
+        + Clock
+        + Copy
+        + Drop
+        + Send
+        + Sync
+        + 'static,
+>(rt: R) -> Result<bool, Fail> {
+    let listener = TcpListener::bind(&rt, "127.0.0.1:0")?;
+    let operator = listener.local_addr()?;
+    let options = options(rt.alloc(), &OPERATED)?;
+    match Sockets::bind(&rt, rt.alloc(), &options) {
+        Ok(sockets) => Ok(serve_beside(rt, options, sockets, &listener, operator)),
+        Err(exit) => {
+            drop(exit);
+            drop(options);
+            Ok(false)
+        }
+    }
+}
+
+const OPERATED: [&str; 5] = ["--control", "--tcp", "127.0.0.1:0", "--accept", "1"];
+
+#[test]
+fn an_operator_replaces_the_exports(rt: HostRuntime) -> Result<(), Fail> {
+    assert!(rt; is_served(rt)?);
+    Ok(())
+}

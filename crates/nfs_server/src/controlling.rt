@@ -1,0 +1,418 @@
+//! Exports that are replaced while the server runs, as lines of an operator say.
+
+ghost use Rattle.std.specs.Prelude.{◌≡◌, ◌++◌, ◌∷◌, [], ℕ, List, Option, IfOk, OnErr, OnOk, Some, codes, false, true};
+ghost use Rattle.std.specs.Io.KnownBytes.{Appends};
+ghost use Rattle.nfs_rpc.specs.Streams.{one_more};
+ghost use Rattle.nfs_streams.specs.Sent.{WritesPart};
+ghost use Rattle.nfs_server.specs.Control.{Controls, Finishes, Hears, HoldsLine, IsAnswered, IsRefusal, Stands};
+ghost use Rattle.nfs_server.specs.Control.{Tells, bytes_of, nothing_said};
+
+use crate::commands::{Commands, Taken};
+use nfs_machine::{ExportError, Exports};
+use nfs_rpc::stream::{Sink, Source, StreamFailed};
+use std::alloc::{AllocError, Global};
+use std::marker::Model;
+
+/// How many bytes are read at once.
+const PIECE_SIZE: usize = 1_024;
+
+/// What is answered where exports are the server's now.
+const APPLIED_LINE: &[u8] = b"applied\n";
+
+/// What is answered for want of memory.
+const OUT_OF_MEMORY_LINE: &[u8] = b"refused: out of memory\n";
+
+/// What stands before what is wrong with exports.
+const REFUSED_WORD: &[u8] = b"refused: ";
+
+/// What is answered to a line that is no command.
+const UNKNOWN_LINE: &[u8] = b"unknown command\n";
+
+/// What became of exports that were handed in.
+#[derive(Clone, Copy, Debug, PartialEq, Eq)]
+pub enum Applied {
+    /// They are the server's exports now.
+    Executed,
+    /// There was no memory for that.
+    Refused,
+}
+
+/// What ended it.
+#[derive(Clone, Copy)]
+pub(crate) enum Ended {
+    /// The input's end.
+    Input,
+    /// A read that failed, or 2^64 - 1 reads.
+    Read,
+    /// A write that failed.
+    Write,
+}
+
+/// What a line is answered.
+#[derive(Drop)]
+pub(crate) enum Answer {
+    /// Nothing.
+    Silent,
+    Applied,
+    OutOfMemory,
+    /// The line that says what is wrong with the exports.
+    Refused(Vec<u8>),
+    Unknown,
+}
+
+impl Answer {
+    fn bytes(&self) -> &[u8]
+        ensures { result.now ≡ bytes_of self.now }
+    {
+        match self {
+            Answer::Silent => &[],
+            Answer::Applied => APPLIED_LINE,
+            Answer::OutOfMemory => OUT_OF_MEMORY_LINE,
+            Answer::Refused(line) => line.as_slice(),
+            Answer::Unknown => UNKNOWN_LINE,
+        }
+    }
+}
+
+/// Does what the lines of the input say, and answers them. `add PATH,MODE,HOST[,HOST..]` adds an export to a list, and
+/// is answered only where there is no memory for it; `apply` hands the list in and empties it. Each answer is a line
+/// that is written and sent on before the next line is looked at. It ends with the input, or where reading or writing
+/// fails.
+pub fn control<I: Source, O: Sink, F: FnMut(Exports) -> Applied>(
+    alloc: Global,
+    reader: &mut I,
+    writer: &mut O,
+    apply: F,
+)
+    requires { F.IsAlwaysCallable apply }
+    ensures { Controls F.step apply
+        (record {
+          unread = I.unread reader.old;
+          written = O.written writer.old;
+          read_failures = I.Counts.failures reader.old;
+          write_failures = O.Counts.failures writer.old;
+          all_sent = O.all_sent writer.old;
+        })
+        (record {
+          unread = I.unread reader.new;
+          written = O.written writer.new;
+          read_failures = I.Counts.failures reader.new;
+          write_failures = O.Counts.failures writer.new;
+          all_sent = O.all_sent writer.new;
+        }) }
+{
+    let mut apply = apply;
+    let mut dialogue = Dialogue::new(alloc);
+    let _ = dialogue.run(alloc, reader, writer, &mut apply);
+}
+
+/// What was said so far: the exports that were added, and a line that is not ended.
+#[derive(Drop)]
+struct Dialogue {
+    commands: Commands,
+    /// None where there was no memory for it.
+    line: Option<Vec<u8>>,
+}
+
+impl Model for Dialogue {
+    ghost use Rattle.std.specs.Option.{option_map};
+    ghost use Rattle.nfs_server.specs.Control.{DialogueValue};
+
+    ghost Value = { DialogueValue };
+
+    ghost view = { λ d. record { list = d.commands; held = option_map (λ line. line.items) d.line } };
+}
+
+impl Dialogue {
+    /// Nothing was said.
+    fn new(alloc: Global) -> Dialogue
+        ensures { result ≡ nothing_said }
+    {
+        Dialogue {
+            commands: Commands::new(alloc),
+            line: Some(Vec::new(alloc)),
+        }
+    }
+
+    /// Reads the input piece by piece, and answers its lines.
+    fn run<I: Source, O: Sink, F: FnMut(Exports) -> Applied>(
+        &mut self,
+        alloc: Global,
+        reader: &mut I,
+        writer: &mut O,
+        apply: &mut F,
+    ) -> Ended
+        requires callable { F.IsAlwaysCallable apply.old }
+        requires first { self.old ≡ nothing_said }
+        ensures { Controls F.step apply.old
+            (record {
+              unread = I.unread reader.old;
+              written = O.written writer.old;
+              read_failures = I.Counts.failures reader.old;
+              write_failures = O.Counts.failures writer.old;
+              all_sent = O.all_sent writer.old;
+            })
+            (record {
+              unread = I.unread reader.new;
+              written = O.written writer.new;
+              read_failures = I.Counts.failures reader.new;
+              write_failures = O.Counts.failures writer.new;
+              all_sent = O.all_sent writer.new;
+            }) }
+    {
+        let mut buffer = [0u8; PIECE_SIZE];
+        'pieces: for _reads in 0..u64::MAX {
+            let Ok(count) = reader.read(&mut buffer) else {
+                return Ended::Read;
+            };
+            if count == 0 {
+                return self.finish(alloc, writer, apply);
+            }
+            let Ok(()) = self.take_in(alloc, &buffer[..count], writer, apply) else {
+                return Ended::Write;
+            };
+        }
+        Ended::Read
+    }
+
+    /// Takes a piece of the input in, and answers the lines that end in it.
+    fn take_in<O: Sink, F: FnMut(Exports) -> Applied>(
+        &mut self,
+        alloc: Global,
+        piece: &[u8],
+        writer: &mut O,
+        apply: &mut F,
+    ) -> Result<(), StreamFailed>
+        requires { F.IsAlwaysCallable apply.old }
+        ensures callable { F.IsAlwaysCallable apply.new }
+        ensures ok { OnOk result ((caller : F) (seen : List ℕ) (before : Option (List ℕ)) →
+            Stands F.step caller seen self.old apply.old before (O.written writer.old) →
+            Stands F.step caller (seen ++ piece.now) self.new apply.new before (O.written writer.new)) }
+        ensures err { OnErr result ((caller : F) (seen : List ℕ) (before : Option (List ℕ)) →
+            Stands F.step caller seen self.old apply.old before (O.written writer.old) →
+            (part : List ℕ) × (unseen : List ℕ) × (piece.now ≡ part ++ unseen) ×
+            Hears F.step caller Ended.Write (seen ++ part) before (O.written writer.new)) }
+        ensures sent { OnOk result (O.all_sent writer.old ≡ true → O.all_sent writer.new ≡ true) }
+        ensures fine { OnOk result (O.Counts.failures writer.new ≡ O.Counts.failures writer.old) }
+        ensures failed { OnErr result (O.Counts.failures writer.new ≡ one_more (O.Counts.failures writer.old)) }
+    {
+        'bytes: for byte in piece {
+            self.take_byte(alloc, *byte, writer, apply)?;
+        }
+        Ok(())
+    }
+
+    /// Takes a byte of the input in, and answers the line that ends with it.
+    fn take_byte<O: Sink, F: FnMut(Exports) -> Applied>(
+        &mut self,
+        alloc: Global,
+        byte: u8,
+        writer: &mut O,
+        apply: &mut F,
+    ) -> Result<(), StreamFailed>
+        requires { F.IsAlwaysCallable apply.old }
+        ensures callable { F.IsAlwaysCallable apply.new }
+        ensures ok { OnOk result ((caller : F) (seen : List ℕ) (before : Option (List ℕ)) →
+            Stands F.step caller seen self.old apply.old before (O.written writer.old) →
+            Stands F.step caller (seen ++ byte ∷ []) self.new apply.new before (O.written writer.new)) }
+        ensures err { OnErr result ((caller : F) (seen : List ℕ) (before : Option (List ℕ)) →
+            Stands F.step caller seen self.old apply.old before (O.written writer.old) →
+            Hears F.step caller Ended.Write (seen ++ byte ∷ []) before (O.written writer.new)) }
+        ensures sent { OnOk result (O.all_sent writer.old ≡ true → O.all_sent writer.new ≡ true) }
+        ensures fine { OnOk result (O.Counts.failures writer.new ≡ O.Counts.failures writer.old) }
+        ensures failed { OnErr result (O.Counts.failures writer.new ≡ one_more (O.Counts.failures writer.old)) }
+    {
+        if byte == b'\n' {
+            return self.answer(alloc, writer, apply);
+        }
+        self.push(byte);
+        Ok(())
+    }
+
+    /// Answers what no newline has ended, if it is anything.
+    fn finish<O: Sink, F: FnMut(Exports) -> Applied>(
+        &mut self,
+        alloc: Global,
+        writer: &mut O,
+        apply: &mut F,
+    ) -> Ended
+        requires { F.IsAlwaysCallable apply.old }
+        ensures hears { (caller : F) (seen : List ℕ) (before : Option (List ℕ)) →
+            Stands F.step caller seen self.old apply.old before (O.written writer.old) →
+            Hears F.step caller result seen before (O.written writer.new) }
+        ensures sent { result ≡ Ended.Input → O.all_sent writer.old ≡ true → O.all_sent writer.new ≡ true }
+        ensures counts { Finishes result (O.Counts.failures writer.old) (O.Counts.failures writer.new) }
+    {
+        if self.is_at_start() {
+            return Ended::Input;
+        }
+        match self.answer(alloc, writer, apply) {
+            Ok(()) => Ended::Input,
+            Err(_) => Ended::Write,
+        }
+    }
+
+    /// Whether nothing has come of the line.
+    fn is_at_start(&self) -> bool
+        ensures yes { result ≡ true → self.now.held ≡ Some [] }
+        ensures no { result ≡ false → self.now.held ≡ Some [] → ⊥ }
+    {
+        match &self.line {
+            Some(line) => line.is_empty(),
+            None => false,
+        }
+    }
+
+    /// A byte more of the line.
+    fn push(&mut self, byte: u8)
+        ensures commands { self.new.list ≡ self.old.list }
+        ensures line { (rest : List ℕ) → HoldsLine self.old.held rest →
+            HoldsLine self.new.held (rest ++ byte ∷ []) }
+    {
+        if let Some(line) = &mut self.line {
+            match line.push(byte) {
+                Ok(()) => {}
+                Err(_) => self.line = None,
+            }
+        }
+    }
+
+    /// Answers the line, and begins the next one.
+    fn answer<O: Sink, F: FnMut(Exports) -> Applied>(
+        &mut self,
+        alloc: Global,
+        writer: &mut O,
+        apply: &mut F,
+    ) -> Result<(), StreamFailed>
+        requires { F.IsAlwaysCallable apply.old }
+        ensures callable { F.IsAlwaysCallable apply.new }
+        ensures line { HoldsLine self.new.held [] }
+        ensures ok { OnOk result ((line : List ℕ) → HoldsLine self.old.held line →
+            (bytes : List ℕ) × Appends (O.written writer.old) (O.written writer.new) bytes ×
+            IsAnswered F.step self.old.list apply.old line bytes self.new.list apply.new) }
+        ensures err { OnErr result ((line : List ℕ) → HoldsLine self.old.held line →
+            (bytes : List ℕ) × WritesPart (O.written writer.old) (O.written writer.new) bytes ×
+            IsAnswered F.step self.old.list apply.old line bytes self.new.list apply.new) }
+        ensures sent { OnOk result (O.all_sent writer.old ≡ true → O.all_sent writer.new ≡ true) }
+        ensures fine { OnOk result (O.Counts.failures writer.new ≡ O.Counts.failures writer.old) }
+        ensures failed { OnErr result (O.Counts.failures writer.new ≡ one_more (O.Counts.failures writer.old)) }
+    {
+        let answer = self.answer_of(alloc, apply);
+        self.line = Some(Vec::new(alloc));
+        let sent = send(writer, answer.bytes());
+        drop(answer);
+        sent
+    }
+
+    /// What the line is answered.
+    fn answer_of<F: FnMut(Exports) -> Applied>(&mut self, alloc: Global, apply: &mut F) -> Answer
+        requires { F.IsAlwaysCallable apply.old }
+        ensures callable { F.IsAlwaysCallable apply.new }
+        ensures answers { (line : List ℕ) → HoldsLine self.old.held line →
+            IsAnswered F.step self.old.list apply.old line (bytes_of result) self.new.list apply.new }
+    {
+        match &self.line {
+            Some(line) => tell(alloc, self.commands.take(alloc, line.as_slice()), apply),
+            None => Answer::OutOfMemory,
+        }
+    }
+}
+
+/// Tells what a line came to. Exports are handed in.
+fn tell<F: FnMut(Exports) -> Applied>(alloc: Global, taken: Taken, apply: &mut F) -> Answer
+    requires { F.IsAlwaysCallable apply.old }
+    ensures callable { F.IsAlwaysCallable apply.new }
+    ensures tells { Tells F.step apply.old taken (bytes_of result) apply.new }
+{
+    match taken {
+        Taken::Added => Answer::Silent,
+        Taken::Apply(exports) => hand_in(alloc, exports, apply),
+        Taken::Unknown => Answer::Unknown,
+        Taken::NoMemory => Answer::OutOfMemory,
+    }
+}
+
+/// Hands exports in, or tells why there are none.
+fn hand_in<F: FnMut(Exports) -> Applied>(
+    alloc: Global,
+    exports: Result<Exports, ExportError>,
+    apply: &mut F,
+) -> Answer
+    requires { F.IsAlwaysCallable apply.old }
+    ensures callable { F.IsAlwaysCallable apply.new }
+    ensures tells { Tells F.step apply.old (Taken.Apply exports) (bytes_of result) apply.new }
+{
+    match exports {
+        Ok(exports) => match apply(exports) {
+            Applied::Executed => Answer::Applied,
+            Applied::Refused => Answer::OutOfMemory,
+        },
+        Err(error) => refusal(alloc, &error),
+    }
+}
+
+/// The answer where exports are refused.
+fn refusal(alloc: Global, error: &ExportError) -> Answer
+    ensures { IsRefusal error.now (bytes_of result) }
+{
+    if let ExportError::Memory = error {
+        return Answer::OutOfMemory;
+    }
+    match refusal_line(alloc, error) {
+        Ok(line) => Answer::Refused(line),
+        Err(_) => Answer::OutOfMemory,
+    }
+}
+
+/// The line that says what is wrong with exports.
+fn refusal_line(alloc: Global, error: &ExportError) -> Result<Vec<u8>, AllocError>
+    ensures { IfOk result (λ line. (text : List ℕ) × (line.items ≡ codes "refused: " ++ text ++ codes "\n")) }
+{
+    let text = error.to_string(alloc)?;
+    let line = refused_line(alloc, text.as_bytes())?;
+    Ok(line)
+}
+
+/// The line that exports are refused with these words.
+fn refused_line(alloc: Global, text: &[u8]) -> Result<Vec<u8>, AllocError>
+    ensures { IfOk result (λ line. line.items ≡ codes "refused: " ++ text.now ++ codes "\n") }
+{
+    let mut line = Vec::from_slice(alloc, REFUSED_WORD)?;
+    line.extend_from_slice(text)?;
+    line.push(b'\n')?;
+    Ok(line)
+}
+
+/// Writes all of these bytes and sends them on, if they are any. Where that fails a beginning of them may be written.
+fn send<O: Sink>(writer: &mut O, bytes: &[u8]) -> Result<(), StreamFailed>
+    ensures written { OnOk result (Appends (O.written writer.old) (O.written writer.new) bytes.now) }
+    ensures part { OnErr result (WritesPart (O.written writer.old) (O.written writer.new) bytes.now) }
+    ensures sent { OnOk result (O.all_sent writer.old ≡ true → O.all_sent writer.new ≡ true) }
+    ensures fine { OnOk result (O.Counts.failures writer.new ≡ O.Counts.failures writer.old) }
+    ensures failed { OnErr result (O.Counts.failures writer.new ≡ one_more (O.Counts.failures writer.old)) }
+{
+    if bytes.is_empty() {
+        return Ok(());
+    }
+    write_all(writer, bytes)?;
+    writer.flush()?;
+    Ok(())
+}
+
+/// Writes all of these bytes. Where that fails a beginning of them may be written.
+fn write_all<O: Sink>(writer: &mut O, bytes: &[u8]) -> Result<(), StreamFailed>
+    ensures written { OnOk result (Appends (O.written writer.old) (O.written writer.new) bytes.now) }
+    ensures part { OnErr result (WritesPart (O.written writer.old) (O.written writer.new) bytes.now) }
+    ensures fine { OnOk result (O.Counts.failures writer.new ≡ O.Counts.failures writer.old) }
+    ensures failed { OnErr result (O.Counts.failures writer.new ≡ one_more (O.Counts.failures writer.old)) }
+{
+    let mut rest = bytes;
+    'writes: while !rest.is_empty() {
+        let Ok(count) = writer.write(rest) else {
+            return Err(StreamFailed);
+        };
+        let (_, left) = rest.split_at(count);
+        rest = left;
+    }
+    Ok(())
+}
