@@ -158,6 +158,7 @@ fn world_line<'a>(
         "options" => scene.set_options(rest),
         "host" => scene.set_host(rest),
         "xid" => scene.set_xid(small(rest)?),
+        "exports" => scene.exports(line, rest)?,
         _ => {
             let bytes = bytes(scene.alloc, groups, rest)?;
             let taken = scene.take(line, verb, &bytes);

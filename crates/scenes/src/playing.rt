@@ -6,11 +6,11 @@ ghost use Rattle.nfs_schedule.specs.Events.{HasWorker};
 use crate::fault::Fault;
 use crate::messages::words_in;
 use crate::posts::given_post;
-use crate::server::{host_named, new_world};
+use crate::server::{exports, host_named, new_world};
 use crate::steps::{Counts, Difference, Kind, Move, Step, Wanted};
 use crate::world::{HOST, WorldScene};
 use bytes::Bytes;
-use nfs_engine::Received;
+use nfs_engine::{Incoming, Received};
 use nfs_machine::Moment;
 use nfs_schedule::{Answer, Event, World, drive, is_at_rest};
 use std::alloc::{AllocError, Global};
@@ -181,14 +181,22 @@ impl<'a> WorldScene<'a> {
     ) -> Result<(), Fault> {
         match what {
             Move::Arrive { from, record } => {
-                let received = received(self.alloc, from, self.record(record))?;
-                happen(self.alloc, world, answers, Event::Arrive(received))
+                let event = self.arrival(from, record)?;
+                happen(self.alloc, world, answers, event)
             }
             Move::Turn(worker) => happen(self.alloc, world, answers, Event::Turn(worker)),
             Move::Stop(worker) => happen(self.alloc, world, answers, Event::Stop(worker)),
             Move::TakeMessage => happen(self.alloc, world, answers, Event::TakeMessage),
             Move::NewEra => happen(self.alloc, world, answers, Event::NewEra),
             _ => Ok(()),
+        }
+    }
+
+    /// What has this number comes in: a record, from this host, or exports.
+    fn arrival(&self, from: &str, number: usize) -> Result<Event, Fault> {
+        match self.list(number) {
+            Some(list) => Ok(Event::Replace(exports(self.alloc, list)?, moment_of(number))),
+            None => Ok(Event::Arrive(received(self.alloc, from, self.record(number))?)),
         }
     }
 
@@ -211,11 +219,21 @@ impl<'a> WorldScene<'a> {
     fn is_refused(&self, answers: &[Answer], record: usize) -> bool {
         let mut is_refused = false;
         for answer in answers {
-            if answer.received().message.as_slice() == self.record(record) {
+            if self.is_arrival(answer.received(), record) {
                 is_refused = Kind::of(answer) == Kind::Refused;
             }
         }
         is_refused
+    }
+
+    /// Whether this has this number.
+    fn is_arrival(&self, incoming: &Incoming, number: usize) -> bool {
+        match incoming {
+            Incoming::Record(received) => received.message.as_slice() == self.record(number),
+            Incoming::Exports(_, moment) => {
+                self.list(number).is_some() && *moment == moment_of(number)
+            }
+        }
     }
 
     /// The messages that were taken in a world.
@@ -297,9 +315,8 @@ impl<'a> WorldScene<'a> {
 
     /// Whether an answer is the one that is wanted.
     fn is_answered(&self, wanted: &Wanted<'a>, answer: &Answer) -> bool {
-        let received = answer.received();
-        received.host.text().as_slice() == wanted.from.as_bytes()
-            && received.message.as_slice() == self.record(wanted.record)
+        came_from(answer.received(), wanted.from)
+            && self.is_arrival(answer.received(), wanted.record)
             && Kind::of(answer) == wanted.kind
             && answer.bytes() == wanted.bytes.as_slice()
     }
@@ -381,6 +398,22 @@ fn received(alloc: Global, from: &str, bytes: &[u8]) -> Result<Received, Fault> 
             drop(host);
             Err(Fault::Memory)
         }
+    }
+}
+
+/// Whether it came from this host, or from none.
+fn came_from(incoming: &Incoming, host: &str) -> bool {
+    match incoming {
+        Incoming::Record(received) => received.host.text().as_slice() == host.as_bytes(),
+        Incoming::Exports(..) => true,
+    }
+}
+
+/// The moment at which exports with this number come in: so many seconds after records do.
+fn moment_of(number: usize) -> Moment {
+    Moment {
+        seconds: 1000u32.wrapping_add((number & 0xffff) as u32),
+        nanoseconds: 0,
     }
 }
 

@@ -7,7 +7,7 @@ use crate::fault::Fault;
 use crate::posts::given_post;
 use bytes::Bytes;
 use nfs_engine::{Config, Engine};
-use nfs_machine::{Limits, Moment};
+use nfs_machine::{ExportError, ExportText, Exports, Limits, Moment};
 use nfs_rpc::stream::Counted;
 use nfs_schedule::World;
 use nfs_server::{FixedClock, Host, Options, Served, StreamFault, configure, serve_stream};
@@ -166,4 +166,36 @@ fn opened(alloc: Global, config: Config) -> Result<Engine, AllocError>
         Ok(engine) => Ok(engine),
         Err(_fault) => Err(AllocError),
     }
+}
+
+/// The exports that these words tell, each as behind `--export`.
+pub fn exports(alloc: Global, specs: &str) -> Result<Exports, Fault> {
+    let mut list = Vec::new(alloc);
+    for spec in specs.split_whitespace() {
+        list.push(export_text(alloc, spec)?)?;
+    }
+    match Exports::new(alloc, list) {
+        Ok(exports) => Ok(exports),
+        Err(ExportError::Memory) => Err(Fault::Memory),
+        Err(_) => Err(Fault::Line("no exports")),
+    }
+}
+
+/// A path, a mode and hosts, with commas between them.
+fn export_text(alloc: Global, spec: &str) -> Result<ExportText, Fault> {
+    let Some((path, rest)) = spec.split_once(',') else {
+        return Err(Fault::Line("an export has a mode"));
+    };
+    let Some((mode, names)) = rest.split_once(',') else {
+        return Err(Fault::Line("an export has hosts"));
+    };
+    let mut hosts = Vec::new(alloc);
+    for name in names.split(',') {
+        hosts.push(Bytes::copy_from_slice(alloc, name.as_bytes())?)?;
+    }
+    Ok(ExportText {
+        path: Bytes::copy_from_slice(alloc, path.as_bytes())?,
+        mode: Bytes::copy_from_slice(alloc, mode.as_bytes())?,
+        hosts,
+    })
 }

@@ -5,7 +5,7 @@ use nfs_schedule::Answer;
 /// What happens next in a world, or what has to be so then.
 #[derive(Clone, Copy)]
 pub enum Move<'a> {
-    /// The record of this number comes in from this host.
+    /// What has this number comes in: a record, from this host, or exports.
     Arrive { from: &'a str, record: usize },
     /// This worker, from 1, takes a turn.
     Turn(usize),

@@ -23,7 +23,10 @@ pub struct WorldScene<'a> {
     caller: Vec<u8>,
     /// The transaction id of the next record, where that is not the record's number.
     xid: Option<u32>,
+    /// What comes in; no byte where that is exports.
     pub records: Vec<Vec<u8>>,
+    /// The exports that come in, each list with its number.
+    lists: Vec<(usize, &'a str)>,
     pub steps: Vec<Step<'a>>,
     pub wanted: Vec<Wanted<'a>>,
     /// The messages that are taken, in order.
@@ -48,6 +51,7 @@ impl<'a> WorldScene<'a> {
             caller,
             xid: None,
             records: Vec::new(alloc),
+            lists: Vec::new(alloc),
             steps: Vec::new(alloc),
             wanted: Vec::new(alloc),
             posts: Vec::new(alloc),
@@ -106,6 +110,7 @@ impl<'a> WorldScene<'a> {
             "rounds" => self.rounds(line, first),
             "stop" => self.add(line, Move::Stop(first)),
             "counts" => self.counts(line, first, rest),
+            "replaced" => self.replaced(line, first, rest),
             "repeated" => self.repeated(line, first),
             "unanswered" => self.unwritten(line, first, Kind::Unanswered),
             "dropped" => self.unwritten(line, first, Kind::Early),
@@ -133,7 +138,15 @@ impl<'a> WorldScene<'a> {
         self.arrives(line, number)
     }
 
-    /// The record of this number comes in.
+    /// These exports come in, which replace those before.
+    pub fn exports(&mut self, line: u64, list: &'a str) -> Result<(), Fault> {
+        self.records.push(Vec::new(self.alloc))?;
+        let number = self.records.len();
+        self.lists.push((number, list))?;
+        self.arrives(line, number)
+    }
+
+    /// What has this number comes in.
     fn arrives(&mut self, line: u64, record: usize) -> Result<(), Fault> {
         let from = self.from;
         self.add(line, Move::Arrive { from, record })
@@ -183,6 +196,12 @@ impl<'a> WorldScene<'a> {
         let (number, results) = number(rest)?;
         let message = success_message(self.alloc, results)?;
         self.answered(line, record, Kind::Executed(number as u64), &message)
+    }
+
+    /// Exports replace those before, as the record with this number.
+    fn replaced(&mut self, line: u64, arrival: usize, rest: &[u8]) -> Result<(), Fault> {
+        let (number, _rest) = number(rest)?;
+        self.unwritten(line, arrival, Kind::Executed(number as u64))
     }
 
     /// The next message that is taken is this one.
@@ -247,6 +266,16 @@ impl<'a> WorldScene<'a> {
             Some(record) => record,
             None => &[],
         }
+    }
+
+    /// The exports that have this number, if exports have it.
+    pub fn list(&self, number: usize) -> Option<&'a str> {
+        for (at, list) in &self.lists {
+            if *at == number {
+                return Some(list);
+            }
+        }
+        None
     }
 }
 
