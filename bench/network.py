@@ -16,11 +16,13 @@ BODY = 116  # where that of READ and READDIR goes on, behind the attributes
 
 
 class Server:
-    """A run of nfsd that listens."""
+    """A run of nfsd that listens; where it is operated, with the pipes of `--control`."""
 
-    def __init__(self, program, *options, export="/data,rw,*"):
+    def __init__(self, program, *options, export="/data,rw,*", operated=False):
         words = [program, "--tcp", "127.0.0.1:0", "--export", export, "--start", "7", *options]
-        self.process = subprocess.Popen(words, stderr=subprocess.PIPE)
+        pipe = subprocess.PIPE if operated else None
+        self.process = subprocess.Popen(words, stdin=pipe, stdout=pipe, stderr=subprocess.PIPE)
+        self.operator, self.answers = self.process.stdin, self.process.stdout
         said = self.process.stderr.readline().decode()
         port = re.search(r":(\d+) \(TCP\)", said)
         if not port:
