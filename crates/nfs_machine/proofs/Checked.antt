@@ -15,7 +15,7 @@ use Rattle.side_wire.specs.declared.nlm.TestStatus.{TestStatus}
 use Rattle.side_wire.specs.declared.nlm.UnlockArguments.{UnlockArguments}
 use Rattle.nfs_machine.specs.Answers.{Answers}
 use Rattle.nfs_machine.specs.FileLists.{all_but, of_file, with_list}
-use Rattle.nfs_machine.specs.Grants.{ChangesLocks}
+use Rattle.nfs_machine.specs.Grants.{ChangesLocks, ending_grants}
 use Rattle.nfs_machine.specs.Locks.{Conflicts, range_of}
 use Rattle.nfs_machine.specs.LockSteps.{Checked, HeldUp, LockFault, Tests, is_answered, is_request, nlm_status_of}
 use Rattle.nfs_machine.specs.LockSteps.{share_of, test_status_of}
@@ -33,7 +33,7 @@ abbrev pub LockOf : State → Ctx → LockArguments → Bool → Result ℕ Lock
 LockOf old ctx a by_message checked = Checked nlm_status_of old checked (λ file s messages new.
     let Stands = Conflicts (of_file old.locks file) (range_of a.lock) (Some a.exclusive) in
     ((Stands → ⊥) × (s ≡ status.Granted) ×
-    ChangesLocks old file (range_of a.lock) (Some a.exclusive) messages new)
+    ChangesLocks (ending_grants old file (range_of a.lock)) file (range_of a.lock) (Some a.exclusive) messages new)
     ⊎ (Stands × HeldUp old ctx a by_message file a.block
     (list_any (is_request a.exclusive a.lock) (of_file old.waiting file)) s messages new))
 
@@ -51,7 +51,8 @@ CancelOf old a checked = Checked nlm_status_of old checked (λ file. Cancels old
 abbrev pub UnlockOf : State → UnlockArguments → Result ℕ LockFault → NlmStatus → List Message → State →
     Type 0
 UnlockOf old a checked = Checked nlm_status_of old checked (λ file s messages new.
-    (s ≡ status.Granted) × ChangesLocks old file (range_of a.lock) None messages new)
+    (s ≡ status.Granted) ×
+    ChangesLocks (ending_grants old file (range_of a.lock)) file (range_of a.lock) None messages new)
 
 abbrev pub ShareAnswers : State → (file : ℕ) → Share → (conflicts : Bool) → NlmStatus → List Message → State →
     Type 0

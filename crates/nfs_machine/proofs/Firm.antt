@@ -1,6 +1,6 @@
 -- What is true of locks, shares, requests that wait and pending grants in every state, but that nothing conflicts and
 -- that what waits is held up: changes of one file's lists keep it.
-use Rattle.std.proofs.Common.{◌≡◌, ◌==◌, ℕ, ◌+◌, ◌≤◌, Bool, true, false, not, ◌||◌, cond}
+use Rattle.std.proofs.Common.{◌≡◌, ◌==◌, ℕ, ◌+◌, ◌≤◌, Bool, true, false, not, ◌&&◌, ◌||◌, cond}
 use Rattle.std.proofs.Common.{List, [], ◌∷◌, ◌++◌}
 use Rattle.std.proofs.Common.{Some, None, filter, unwrap_or, is_ok, is_some, nat_le, refl, sym, ◌∙◌, ap, subst}
 use Rattle.std.proofs.Common.{arith}
@@ -10,16 +10,17 @@ use Rattle.std.specs.FinMap.{FinMap, contains_key, entries, get, insert, remove,
 use Rattle.std.specs.List.{AllByRecursion, IsDistinct, list_any, sum_by}
 use Rattle.std.specs.Ordering.{nat_cmp}
 use Rattle.nfs_machine.specs.FileLists.{all_but, grants_but, of_file, relisted, with_list}
-use Rattle.nfs_machine.specs.Grants.{AllHeldUp, at_file, with_grants}
+use Rattle.nfs_machine.specs.Grants.{AllHeldUp, at_file, ending_grants, with_grants}
 use Rattle.nfs_machine.specs.OneFile.{FileLocks, IsGranted, Settles, requested}
-use Rattle.nfs_machine.specs.Locks.{AreListed, IsRange, same_sharer}
+use Rattle.nfs_machine.specs.Locks.{AreListed, IsRange, lies_within, same_sharer}
 use Rattle.nfs_machine.specs.LocksFormed.{AreOfFiles, AreWaiting, IsFile, IsPending, LocksFormed, NoConflict, count_of}
 use Rattle.nfs_machine.specs.LocksFormed.{uses_of}
 use Rattle.nfs_machine.specs.LockSteps.{is_grant_number, is_request, same_request}
 use Rattle.nfs_machine.specs.Checks.{bytes_in}
 use Rattle.nfs_machine.specs.RemoveSteps.{losing_name, without_object}
 use Rattle.nfs_machine.specs.Shown.{touched, with_object}
-use Rattle.nfs_machine.specs.State.{Content, Directory, Entry, Living, Lock, PendingGrant, Request, Share, State}
+use Rattle.nfs_machine.specs.State.{Content, Directory, Entry, Living, Lock, PendingGrant, Range, Request, Share}
+use Rattle.nfs_machine.specs.State.{State}
 use Rattle.nfs_wire.specs.declared.attributes.Time.{Time}
 use Rattle.side_wire.specs.declared.mount.lists.MountBody.{MountBody}
 use Rattle.nfs_machine.proofs.Changes.{differs-insert, differs-remove, flipped, itself}
@@ -417,6 +418,21 @@ module _ (m : State) (f : Firm m) where
         let was = f.numbers n in
         omega (arith, fewer, was);
   }
+
+  -- grants that are pending no more
+  pub firm-ended : (file : ℕ) (r : Range) → Firm (ending_grants m file r)
+  firm-ended file r =
+      let ends : PendingGrant → Bool = λ (g : PendingGrant). (g.file == file) && lies_within r (requested g.request) in
+      record {
+        locks = f.locks;
+        shares = f.shares;
+        waiting = f.waiting;
+        listed = f.listed;
+        sharers = f.sharers;
+        requests = f.requests;
+        pending = λ n g at. f.pending n g (grants-left ends m.granted n g at).0;
+        numbers = λ n. (let was = f.numbers n in let fewer = has-left ends m.granted n in omega (arith, was, fewer));
+      }
 
   -- a request that begins to wait, under a number that was not given
   module _ (file : ℕ) (living : IsFile m.objects file) (r : Request) (range : IsRange (requested r))

@@ -7,6 +7,7 @@ pub mod Choosing
 pub mod Continued
 mod Cookies
 mod Distinct
+mod Ended
 pub mod Entered
 pub mod Exported
 pub mod Facts

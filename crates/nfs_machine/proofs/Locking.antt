@@ -28,7 +28,7 @@ use Rattle.side_wire.specs.declared.nlm.UnlockArguments.{UnlockArguments}
 use Rattle.nfs_machine.specs.Bytes.{same_bytes}
 use Rattle.nfs_machine.specs.Checks.{◌>>=◌, bytes_in, holding, is_writable}
 use Rattle.nfs_machine.specs.FileLists.{of_file, with_list}
-use Rattle.nfs_machine.specs.Grants.{ChangesLocks, Grants, SettleInOrder, SettlesFile, at_file}
+use Rattle.nfs_machine.specs.Grants.{ChangesLocks, Grants, SettleInOrder, SettlesFile, at_file, ending_grants}
 use Rattle.nfs_machine.specs.OneFile.{FileLocks, requested}
 use Rattle.nfs_machine.specs.OneFile as one
 use Rattle.nfs_machine.specs.Laws.{KeepsExports}
@@ -46,10 +46,8 @@ use Rattle.nfs_machine.proofs.Checked.{CancelOf, Cancels, LockOf, ShareOf, Share
 use Rattle.nfs_machine.proofs.Checked.{found-pending}
 use Rattle.nfs_machine.proofs.Distinct.{distinct-last, distinct-left, passes-left}
 use Rattle.nfs_machine.proofs.FileMaps.{each-relisted, each-with, get-relisted, kept-is, remade}
-use Rattle.nfs_machine.proofs.Firm.{Firm, firm-answered, firm-cancelled, firm-freed, firm-granted, firm-settled}
-use Rattle.nfs_machine.proofs.Firm.{granting}
-use Rattle.nfs_machine.proofs.Firm.{firm-shares}
-use Rattle.nfs_machine.proofs.Firm.{firm-waits}
+use Rattle.nfs_machine.proofs.Firm.{Firm, firm-answered, firm-cancelled, firm-ended, firm-freed, firm-granted}
+use Rattle.nfs_machine.proofs.Firm.{firm-settled, firm-shares, firm-waits, granting}
 use Rattle.nfs_machine.proofs.Modes.{all-mapped, apart-with, apart-without, sharer-back, shares-left, shares-with}
 use Rattle.nfs_machine.proofs.Modes.{unlocking-free}
 use Rattle.nfs_machine.proofs.Resolved.{resolved-lives}
@@ -229,6 +227,17 @@ module _ (old : State) (file : ℕ) (r : Range) (mode : Mode) (messages : List M
   changed living free = file-granted old file c.after c.granted messages new c.grants (changed-apart free)
       (λ f. changed-firm f (living f))
 
+-- the same where its owner's grants within the range end before
+changed-ended : (old : State) (file : ℕ) (r : Range) (mode : Mode) (messages : List Message) (new : State) →
+    ChangesLocks (ending_grants old file r) file r mode messages new → (Firm old → IsFile old.objects file)
+    → (Conflicts (of_file old.locks file) r mode → ⊥) → Untouched old new
+changed-ended old file r mode messages new c living free =
+    let mid : State = ending_grants old file r in
+    from old (granting mid file c.after c.granted) new refl refl refl
+    (λ h. locks-apart mid file c.after.locks (changed-apart mid file r mode messages new c free h) h)
+    (λ f. changed-firm mid file r mode messages new c (firm-ended old f file r) (living f))
+    c.grants.state_is
+
 tested : (old : State) (a : TestArguments) (checked : Result ℕ LockFault) (s : TestStatus) (messages : List Message)
     (new : State) → TestOf old a checked s messages new → Untouched old new
 tested old a (Err fault) s messages new step = same old new step.state_is
@@ -261,7 +270,7 @@ locked : (old : State) (ctx : Ctx) (a : LockArguments) (by_message : Bool) (chec
     → LockOf old ctx a by_message checked s messages new → Untouched old new
 locked old ctx a by_message (Err fault) s messages new living fits step = same old new step.state_is
 locked old ctx a by_message (Ok file) s messages new living fits (inl free) =
-    changed old file (range_of a.lock) (Some a.exclusive) messages new free.2 (λ f. living) free.0
+    changed-ended old file (range_of a.lock) (Some a.exclusive) messages new free.2 (λ f. living) free.0
 locked old ctx a by_message (Ok file) s messages new living fits (inr held) =
     held-up old ctx a by_message file a.block (list_any (is_request a.exclusive a.lock) (of_file old.waiting file)) s
     messages new living (asked-range a.lock (of_file old.locks file) (Some a.exclusive) fits held.0) refl held.1
@@ -285,7 +294,7 @@ unlocked : (old : State) (a : UnlockArguments) (checked : Result ℕ LockFault) 
     (new : State) → IfOk checked (IsFile old.objects) → UnlockOf old a checked s messages new → Untouched old new
 unlocked old a (Err fault) s messages new living step = same old new step.state_is
 unlocked old a (Ok file) s messages new living step =
-    changed old file (range_of a.lock) None messages new step.1 (λ f. living)
+    changed-ended old file (range_of a.lock) None messages new step.1 (λ f. living)
     (unlocking-free (of_file old.locks file) (range_of a.lock))
 
 answered : (old : State) (number : ℕ) (found : Option PendingGrant) (s : NlmStatus) (messages : List Message)

@@ -22,7 +22,7 @@ use Rattle.side_wire.specs.declared.nlm.TestArguments.{TestArguments}
 use Rattle.side_wire.specs.declared.nlm.UnlockArguments.{UnlockArguments}
 use Rattle.nfs_machine.specs.Bytes.{same_bytes}
 use Rattle.nfs_machine.specs.Grants.{ChangesLocks, Grants, SettleInOrder, SettlesFile, at_file, grant_cookie}
-use Rattle.nfs_machine.specs.Grants.{grant_message}
+use Rattle.nfs_machine.specs.Grants.{ending_grants, grant_message}
 use Rattle.nfs_machine.specs.OneFile.{FileLocks, IsGranted, Settles, requested}
 use Rattle.nfs_machine.specs.OneFile as one
 use Rattle.nfs_machine.specs.FileLists.{of_file, with_list}
@@ -201,7 +201,7 @@ locked old ctx a by_message (Err fault) s messages new lock step fit =
     same old messages new step.state_is step.no_message fit
 locked old ctx a by_message (Ok file) s messages new lock (inl free) fit =
     let c = free.2 in
-    changed old file (range_of a.lock) (Some a.exclusive) messages new c
+    changed (ending_grants old file (range_of a.lock)) file (range_of a.lock) (Some a.exclusive) messages new c
     (owners-with (of_file old.locks file) c.sets.locks (range_of a.lock) (Some a.exclusive) lock.2
     c.sets.lists (fit file).0) fit
 locked old ctx a by_message (Ok file) s messages new lock (inr up) fit =
@@ -229,7 +229,8 @@ unlocked : (old : State) (a : UnlockArguments) (checked : Result ℕ LockFault) 
     (messages : List Message)
     (new : State) → UnlockOf old a checked s messages new → LocksFit old → PutsForms messages new
 unlocked old a (Err fault) s messages new step fit = same old messages new step.state_is step.no_message fit
-unlocked old a (Ok file) s messages new step fit = unlocks old file (range_of a.lock) messages new step.1 fit
+unlocked old a (Ok file) s messages new step fit =
+    unlocks (ending_grants old file (range_of a.lock)) file (range_of a.lock) messages new step.1 fit
 
 answered : (old : State) (number : ℕ) (found : Option PendingGrant) (s : NlmStatus) (messages : List Message)
     (new : State)

@@ -21,7 +21,7 @@ use Rattle.side_wire.specs.declared.nlm.ShareMode.TheVariants as mode
 use Rattle.side_wire.specs.declared.nlm.TestArguments.{TestArguments}
 use Rattle.side_wire.specs.declared.nlm.UnlockArguments.{UnlockArguments}
 use Rattle.nfs_machine.specs.Answers.{Answers}
-use Rattle.nfs_machine.specs.Grants.{ChangesLocks, SettleInOrder, grant_cookie, grant_message}
+use Rattle.nfs_machine.specs.Grants.{ChangesLocks, SettleInOrder, ending_grants, grant_cookie, grant_message}
 use Rattle.nfs_machine.specs.OneFile.{requested}
 use Rattle.nfs_machine.specs.Locks.{Mode, denies, range_of}
 use Rattle.nfs_machine.specs.FileLists.{of_file}
@@ -96,7 +96,7 @@ locked : (old : State) (ctx : Ctx) (a : LockArguments) (by_message : Bool) (chec
     → AllByRecursion IsGrant messages
 locked old ctx a by_message (Err fault) s messages new step = none messages step.no_message
 locked old ctx a by_message (Ok file) s messages new (inl free) =
-    changed old file (range_of a.lock) (Some a.exclusive) messages new free.2
+    changed (ending_grants old file (range_of a.lock)) file (range_of a.lock) (Some a.exclusive) messages new free.2
 locked old ctx a by_message (Ok file) s messages new (inr up) =
     held old ctx a by_message file a.block (list_any (is_request a.exclusive a.lock) (of_file old.waiting file)) s
     messages new up.1
@@ -111,7 +111,8 @@ unlocked : (old : State) (a : UnlockArguments) (checked : Result ℕ LockFault) 
     (messages : List Message)
     (new : State) → UnlockOf old a checked s messages new → AllByRecursion IsGrant messages
 unlocked old a (Err fault) s messages new step = none messages step.no_message
-unlocked old a (Ok file) s messages new step = changed old file (range_of a.lock) None messages new step.1
+unlocked old a (Ok file) s messages new step =
+    changed (ending_grants old file (range_of a.lock)) file (range_of a.lock) None messages new step.1
 
 answered : (old : State) (number : ℕ) (found : Option PendingGrant) (s : NlmStatus) (messages : List Message)
     (new : State)

@@ -21,7 +21,7 @@ use Rattle.side_wire.specs.declared.nlm.TestArguments.{TestArguments}
 use Rattle.side_wire.specs.declared.nlm.TestStatus.{TestStatus}
 use Rattle.side_wire.specs.declared.nlm.UnlockArguments.{UnlockArguments}
 use Rattle.nfs_machine.specs.FileLists.{of_file, with_list}
-use Rattle.nfs_machine.specs.Grants.{AllHeldUp, ChangesLocks, FileWaits, Grants, SettleInOrder, at_file}
+use Rattle.nfs_machine.specs.Grants.{AllHeldUp, ChangesLocks, FileWaits, Grants, SettleInOrder, at_file, ending_grants}
 use Rattle.nfs_machine.specs.OneFile.{AreHeldUp, FileLocks, IsHeldUp}
 use Rattle.nfs_machine.specs.OneFile.{requested}
 use Rattle.nfs_machine.specs.Locks.{Conflicts, Mode, denies, range_of}
@@ -114,7 +114,8 @@ locked : (old : State) (ctx : Ctx) (a : LockArguments) (by_message : Bool) (chec
     AllHeldUp new
 locked old ctx a by_message (Err fault) s messages new step held = stays old new step.state_is held
 locked old ctx a by_message (Ok file) s messages new (inl free) held =
-    changed old file (range_of a.lock) (Some a.exclusive) messages new free.2 held
+    changed (ending_grants old file (range_of a.lock)) file (range_of a.lock) (Some a.exclusive) messages new free.2
+    held
 locked old ctx a by_message (Ok file) s messages new (inr up) held =
     held-up old ctx a by_message file a.block (list_any (is_request a.exclusive a.lock) (of_file old.waiting file)) s
     messages new up.0 up.1 held
@@ -140,7 +141,8 @@ unlocked : (old : State) (a : UnlockArguments) (checked : Result ℕ LockFault) 
     (messages : List Message)
     (new : State) → UnlockOf old a checked s messages new → AllHeldUp old → AllHeldUp new
 unlocked old a (Err fault) s messages new step held = stays old new step.state_is held
-unlocked old a (Ok file) s messages new step held = changed old file (range_of a.lock) None messages new step.1 held
+unlocked old a (Ok file) s messages new step held =
+    changed (ending_grants old file (range_of a.lock)) file (range_of a.lock) None messages new step.1 held
 
 answered : (old : State) (number : ℕ) (found : Option PendingGrant) (s : NlmStatus) (messages : List Message)
     (new : State)

@@ -1,15 +1,15 @@
 -- Changes of what is held of files, and the requests that are granted by them, each with a message (RFC 1813, appendix
 -- II, 6.2: procedures 2, 5 and 10).
-use Rattle.std.specs.Prelude.{◌≡◌, ℕ, ◌<◌, List, [], ◌∷◌, ◌++◌, if◌then◌else◌, map}
+use Rattle.std.specs.Prelude.{◌≡◌, ℕ, ◌<◌, ◌==◌, ◌&&◌, List, [], ◌∷◌, ◌++◌, if◌then◌else◌, map}
 use Rattle.std.specs.FinMap.{FinMap, insert}
 use Rattle.std.specs.Int.{w64, to_be_bytes}
 use Rattle.std.specs.List.{AllByRecursion}
 use Rattle.std.specs.Ordering.{nat_cmp}
 use Rattle.side_wire.specs.declared.message.Callback.TheVariants as callbacks
 use Rattle.side_wire.specs.declared.message.Message.{Message}
-use Rattle.nfs_machine.specs.FileLists.{of_file, with_list}
-use Rattle.nfs_machine.specs.Locks.{Mode}
-use Rattle.nfs_machine.specs.OneFile.{AreHeldUp, FileLocks, SetsMode, Settles}
+use Rattle.nfs_machine.specs.FileLists.{grants_but, of_file, with_list}
+use Rattle.nfs_machine.specs.Locks.{Mode, lies_within}
+use Rattle.nfs_machine.specs.OneFile.{AreHeldUp, FileLocks, SetsMode, Settles, requested}
 use Rattle.nfs_machine.specs.State.{PendingGrant, Range, Request, State}
 
 -- what a file has
@@ -75,3 +75,10 @@ pub record ChangesLocks (old : State) (file : ℕ) (r : Range) (mode : Mode) (me
   pub granted : List Request
   pub sets : SetsMode (at_file old file) r mode granted after
   pub grants : Grants old file after granted messages new
+
+-- the pending grants of the range's owner that lie within it are pending no more: what the host answers to their
+-- messages comes too late
+abbrev pub ending_grants : State → (file : ℕ) → Range → State
+ending_grants m file r = record m {
+  granted = grants_but (λ (g : PendingGrant). (g.file == file) && lies_within r (requested g.request)) m.granted;
+}

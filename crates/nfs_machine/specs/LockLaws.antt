@@ -1,16 +1,21 @@
 -- Laws of locks, shares and requests that wait (RFC 1813, appendix II).
-use Rattle.std.specs.Prelude.{◌≡◌, ℕ, Bool, false, not, ◌&&◌, List, nat_le, Some, None}
+use Rattle.std.specs.Prelude.{◌≡◌, ℕ, Bool, true, false, not, ◌&&◌, Contains, IfOk, List, nat_le, Some, None}
 use Rattle.std.specs.FinMap.{get}
 use Rattle.std.specs.List.{list_any}
 use Rattle.side_wire.specs.declared.message.Message.{Message}
+use Rattle.side_wire.specs.declared.nlm.LockArguments.{LockArguments}
+use Rattle.side_wire.specs.declared.nlm.NlmStatus.TheVariants as status
+use Rattle.side_wire.specs.declared.nlm.UnlockArguments.{UnlockArguments}
 use Rattle.nfs_machine.specs.Chains.{Chain, Transition}
 use Rattle.nfs_machine.specs.Exports.{ExportValue}
 use Rattle.nfs_machine.specs.FileLists.{of_file}
-use Rattle.nfs_machine.specs.Grants.{AllHeldUp}
-use Rattle.nfs_machine.specs.Locks.{Conflicts, Mode, mode_at, modes_conflict, same_owner}
+use Rattle.nfs_machine.specs.Grants.{AllHeldUp, grant_message}
+use Rattle.nfs_machine.specs.Locks.{Conflicts, Mode, lies_within, mode_at, modes_conflict, range_of, same_owner}
+use Rattle.nfs_machine.specs.LockSteps.{LockEnds, UnlockEnds, lock_checked}
 use Rattle.nfs_machine.specs.LocksFormed.{LocksFormed, NoConflict}
 use Rattle.nfs_machine.specs.Opening.{opening}
-use Rattle.nfs_machine.specs.State.{Lock, Owner, State, Range}
+use Rattle.nfs_machine.specs.OneFile.{requested}
+use Rattle.nfs_machine.specs.State.{Lock, Owner, PendingGrant, State, Range}
 use Rattle.nfs_machine.specs.Step.{Step}
 use Rattle.nfs_machine.specs.declared.calls.Call.{Call}
 use Rattle.nfs_machine.specs.declared.calls.Reply.{Reply}
@@ -59,3 +64,20 @@ StepsKeepWaiting = (old : State) (ctx : Ctx) (call : Call) (reply : Reply) (mess
 abbrev pub ChainsKeepWaiting : Type 0
 ChainsKeepWaiting = (first last : State) (steps : List Transition) → Chain first steps last → AllHeldUp first →
     AllHeldUp last
+
+-- a grant to a range's owner that lies within it is pending only where one of these messages tells of it
+abbrev pub AreTold : State → (file : ℕ) → Range → List Message → Type 0
+AreTold m file r messages = (number : ℕ) (grant : PendingGrant) → get m.granted number ≡ Some grant
+    → grant.file ≡ file → lies_within r (requested grant.request) ≡ true
+    → Contains messages (grant_message grant.request)
+
+-- so after a LOCK that is granted, by the messages that it puts itself, and after an UNLOCK
+abbrev pub LocksEndGrants : Type 0
+LocksEndGrants = (old : State) (ctx : Ctx) (a : LockArguments) (by_message : Bool) (messages : List Message)
+    (new : State) → LockEnds old ctx a by_message status.Granted messages new
+    → IfOk (lock_checked old ctx a.exclusive a.lock) (λ file. AreTold new file (range_of a.lock) messages)
+
+abbrev pub UnlocksEndGrants : Type 0
+UnlocksEndGrants = (old : State) (ctx : Ctx) (a : UnlockArguments) (messages : List Message) (new : State)
+    → UnlockEnds old ctx a status.Granted messages new
+    → IfOk (lock_checked old ctx false a.lock) (λ file. AreTold new file (range_of a.lock) messages)

@@ -24,7 +24,7 @@ use Rattle.nfs_machine.specs.Answers.{Answers}
 use Rattle.nfs_machine.specs.Bytes.{same_bytes}
 use Rattle.nfs_machine.specs.Checks.{◌>>=◌, bytes_in, holding, is_writable}
 use Rattle.nfs_machine.specs.FileLists.{all_but, grants_but, of_file, relisted, with_list}
-use Rattle.nfs_machine.specs.Grants.{ChangesLocks, SettleInOrder, grant_cookie}
+use Rattle.nfs_machine.specs.Grants.{ChangesLocks, SettleInOrder, ending_grants, grant_cookie}
 use Rattle.nfs_machine.specs.Locks.{Conflicts, HasModes, Mode, denies, fits_offsets, is_within, mode_at, modes_without}
 use Rattle.nfs_machine.specs.Locks.{range_of, same_owner}
 use Rattle.nfs_machine.specs.OneFile.{is_denied, requested, requests_without, shared, shares_without, unshared}
@@ -157,13 +157,14 @@ HeldUp old ctx a by_message file true false s messages new =
     BeginsToWait old ctx a by_message file s messages new
     ⊎ (NoneLeft old file × Answers status.DeniedNoLocks old s messages new)
 
--- the lock is granted where it conflicts with nothing; an exclusive one asks to write
+-- The lock is granted where it conflicts with nothing; an exclusive one asks to write. Its owner knows so from the
+-- answer, and its pending grants within the range end (a choice: the standard says nothing of them)
 abbrev pub LockEnds : State → Ctx → LockArguments → Bool → NlmStatus → List Message → State → Type 0
 LockEnds old ctx a by_message = Checked nlm_status_of old (lock_checked old ctx a.exclusive a.lock)
     (λ file s messages new.
     let Stands = Conflicts (of_file old.locks file) (range_of a.lock) (Some a.exclusive) in
     ((Stands → ⊥) × (s ≡ status.Granted) ×
-    ChangesLocks old file (range_of a.lock) (Some a.exclusive) messages new)
+    ChangesLocks (ending_grants old file (range_of a.lock)) file (range_of a.lock) (Some a.exclusive) messages new)
     ⊎ (Stands × HeldUp old ctx a by_message file a.block
     (list_any (is_request a.exclusive a.lock) (of_file old.waiting file)) s messages new))
 
@@ -177,10 +178,11 @@ CancelEnds old ctx a = Checked nlm_status_of old (lock_checked old ctx false a.l
     Answers (if cancels then status.Granted else status.Denied)
     (if cancels then record old { waiting = with_list old.waiting file (all_but goes waiting) } else old))
 
--- the owner has the range no more, whether it had it or not
+-- the owner has the range no more, whether it had it or not, and its pending grants within it end
 abbrev pub UnlockEnds : State → Ctx → UnlockArguments → NlmStatus → List Message → State → Type 0
-UnlockEnds old ctx a = Checked nlm_status_of old (lock_checked old ctx false a.lock)
-    (λ file s messages new. (s ≡ status.Granted) × ChangesLocks old file (range_of a.lock) None messages new)
+UnlockEnds old ctx a = Checked nlm_status_of old (lock_checked old ctx false a.lock) (λ file s messages new.
+    (s ≡ status.Granted) ×
+    ChangesLocks (ending_grants old file (range_of a.lock)) file (range_of a.lock) None messages new)
 
 -- ---- GRANTED_RES, procedure 15: the answer to GRANTED
 

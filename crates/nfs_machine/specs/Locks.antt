@@ -66,6 +66,10 @@ range_of l = let last = if l.length == 0 then 2 ^ 64 - 1 else l.offset + l.lengt
       last = last;
     }
 
+-- a range lies within another of the same owner
+abbrev pub lies_within : (whole r : Range) → Bool
+lies_within whole r = same_owner whole.owner r.owner && nat_le whole.first r.first && nat_le r.last whole.last
+
 -- the modes where the range's owner gets this mode on it, and all else is as before
 abbrev pub modes_with : List Lock → Range → Mode → Owner → ℕ → Mode
 modes_with locks r mode owner offset = if is_in r owner offset then mode else mode_at locks owner offset

@@ -9,8 +9,8 @@ ghost use Rattle.nfs_machine.specs.Laws.{StepsGiveOnce, StepsKeepCookies, StepsK
 ghost use Rattle.nfs_machine.specs.Laws.{StepsKeepNumbers, WithinIsTold};
 ghost use Rattle.nfs_machine.specs.Laws.{StepsNumberOnce, ChainsNumberOnce, GoneIsStale, StepsKeepWithin};
 ghost use Rattle.nfs_machine.specs.LockLaws.{ListedLocksTell, OpeningIsApart, OpeningWaitsForNone, ChainsKeepApart};
-ghost use Rattle.nfs_machine.specs.LockLaws.{ChainsKeepWaiting, StepsKeepApart, StepsKeepWaiting};
-ghost use Rattle.nfs_machine.specs.LockLaws.{UnlockedFilesKeepNothing};
+ghost use Rattle.nfs_machine.specs.LockLaws.{ChainsKeepWaiting, LocksEndGrants, StepsKeepApart, StepsKeepWaiting};
+ghost use Rattle.nfs_machine.specs.LockLaws.{UnlockedFilesKeepNothing, UnlocksEndGrants};
 ghost use Rattle.nfs_machine.specs.MountLaws.{MountRepliesAreBounded};
 ghost use Rattle.nfs_machine.specs.Paging.{FullPagesFit, PagesAreOne, PagesExist, PagesFit};
 ghost use Rattle.nfs_machine.specs.Readings.{ReadingsAreWhole};
@@ -201,6 +201,16 @@ pub fn waiting_requests_conflict()
     ensures opening { OpeningWaitsForNone }
     ensures steps { StepsKeepWaiting }
     ensures chains { ChainsKeepWaiting }
+{}
+
+/// After a LOCK that is granted, and after an UNLOCK past its checks, no grant to its owner on that file that lies within
+/// its range waits for its answer, but those that the call itself put a GRANTED for. So a late answer to an earlier one
+/// changes nothing.
+///
+/// Such calls are in `worked_ending`.
+pub fn answered_owners_have_no_grants()
+    ensures locks { LocksEndGrants }
+    ensures unlocks { UnlocksEndGrants }
 {}
 
 /// A reply of MOUNT or NLM has a spelling, and so has each message, where the byte strings of the call and of what is
