@@ -1,3 +1,4 @@
+mod EndingWorked
 mod ExportsWorked
 mod LockingWorked
 mod LongestMatch

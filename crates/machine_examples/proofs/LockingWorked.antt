@@ -13,10 +13,11 @@ use Rattle.side_wire.specs.declared.nlm.NlmStatus.TheVariants as status
 use Rattle.side_wire.specs.declared.nlm.TestStatus.TheVariants as tested
 use Rattle.side_wire.specs.declared.message.NlmLock.{NlmLock}
 use Rattle.nfs_machine.specs.Checks.{◌>>=◌, bytes_in, holding, is_writable}
-use Rattle.nfs_machine.specs.FileLists.{all_but, of_file, with_list}
-use Rattle.nfs_machine.specs.Grants.{ChangesLocks, at_file}
-use Rattle.nfs_machine.specs.OneFile.{IsHeldUp, is_denied, shared, unshared}
-use Rattle.nfs_machine.specs.Locks.{Conflicts, HasModes, fits_offsets, is_within, mode_at, modes_with, same_owner}
+use Rattle.nfs_machine.specs.FileLists.{all_but, grants_but, of_file, with_list}
+use Rattle.nfs_machine.specs.Grants.{ChangesLocks, at_file, ending_grants}
+use Rattle.nfs_machine.specs.OneFile.{IsHeldUp, is_denied, requested, shared, unshared}
+use Rattle.nfs_machine.specs.Locks.{Conflicts, HasModes, fits_offsets, is_within, lies_within, mode_at, modes_with}
+use Rattle.nfs_machine.specs.Locks.{same_owner}
 use Rattle.nfs_machine.specs.LockSteps.{CancelEnds, TestEnds, UnlockEnds}
 use Rattle.nfs_machine.specs.LockSteps.{HeldUp, IsHolder, LockFault, NotRegular, RangeTooBig, ReadOnly, StaleHandle}
 use Rattle.nfs_machine.specs.LockSteps.{is_request, share_of}
@@ -29,7 +30,7 @@ use Rattle.machine_examples.specs.WorkedSetting.{unwritable}
 use Rattle.nfs_machine.specs.Resolve.{Named, Resolved, Names, living_at, resolve}
 use Rattle.side_wire.specs.declared.nlm.ShareAccess.TheVariants as access
 use Rattle.side_wire.specs.declared.nlm.ShareMode.TheVariants as mode
-use Rattle.nfs_machine.specs.State.{Living, Lock, Owner, Request, Share}
+use Rattle.nfs_machine.specs.State.{Living, Lock, Owner, PendingGrant, Range, Request, Share, State}
 use Rattle.machine_examples.specs.Worked.{open_export, root_bytes, root_handle}
 use Rattle.machine_examples.specs.WorkedLocks.{a, b, holder, lock, range_at, reading, reading_too, split, whole}
 use Rattle.machine_examples.specs.WorkedLocks.{Unlocked}
@@ -40,7 +41,7 @@ use Rattle.machine_examples.specs.WorkedLocking.{with_waiting, with_whole}
 use Rattle.machine_examples.specs.WorkedRun.{nobody, read_only, root_with_x, with_hi, x_bytes, x_written}
 use Rattle.nfs_machine.specs.NlmSteps.{NlmStep}
 use Rattle.nfs_machine.proofs.Checked.{CancelOf, Cancels, LockOf, ShareOf, ShareAnswers, TestOf, UnlockOf, UnshareOf}
-use Rattle.nfs_machine.proofs.FileMaps.{no-list, of-there}
+use Rattle.nfs_machine.proofs.FileMaps.{grants-none, no-list, of-there}
 use Rattle.machine_examples.proofs.OneFile.{first-list, next-list, with-again}
 use Rattle.nfs_machine.proofs.Modes.{listed_locks_tell, holds, mode_by}
 use Rattle.nfs_machine.proofs.Opened.{le_or, none_of}
@@ -240,32 +241,40 @@ locks-free : Conflicts none_held (range_at a 0 100) Exclusive → ⊥
 locks-free = subst (λ l. Conflicts l (range_at a 0 100) Exclusive → ⊥) (sym (none_of 5))
     (listed_locks_tell [] (range_at a 0 100) Exclusive refl)
 
-locks-whole : ChangesLocks with_hi 5 (range_at a 0 100) Exclusive [] with_whole
-locks-whole = record {
-  after = record (at_file with_hi 5) { locks = whole };
-  granted = [];
-  sets = record {
-    locks = whole;
-    lists = subst (λ l. HasModes whole (modes_with l (range_at a 0 100) Exclusive)) (sym (none_of 5)) locked;
-    settles = (quiet whole, refl);
-  };
-  grants = record { messages_are = refl; state_is = ap (λ x. record with_whole { waiting = x }) still-none };
-}
+-- no pending grant ends where there is none
+pub none-ends : (m : State) (r : Range) → m.granted ≡ empty → m ≡ ending_grants m 5 r
+none-ends m r none =
+    let ends : PendingGrant → Bool = λ (g : PendingGrant). (g.file == 5) && lies_within r (requested g.request) in
+    λ i. record m { granted = sym (ap (grants_but ends) none ∙ grants-none ends ∙ sym none) i }
 
-locks-split : ChangesLocks with_whole 5 (range_at a 40 20) Unlocked [] with_split
-locks-split = record {
-  after = record (at_file with_whole 5) { locks = split };
-  granted = [];
-  sets = record {
-    locks = split;
-    lists = subst (λ l. HasModes split (modes_with l (range_at a 40 20) Unlocked)) (sym is-whole) given-back;
-    settles = (quiet split, refl);
-  };
-  grants = record {
-    messages_are = refl;
-    state_is = λ i. record with_hi { locks = sym (with-again empty 5 whole split) i; waiting = still-none i };
-  };
-}
+locks-whole : ChangesLocks (ending_grants with_hi 5 (range_at a 0 100)) 5 (range_at a 0 100) Exclusive [] with_whole
+locks-whole = subst (λ m. ChangesLocks m 5 (range_at a 0 100) Exclusive [] with_whole)
+    (none-ends with_hi (range_at a 0 100) refl) (record {
+      after = record (at_file with_hi 5) { locks = whole };
+      granted = [];
+      sets = record {
+        locks = whole;
+        lists = subst (λ l. HasModes whole (modes_with l (range_at a 0 100) Exclusive)) (sym (none_of 5)) locked;
+        settles = (quiet whole, refl);
+      };
+      grants = record { messages_are = refl; state_is = ap (λ x. record with_whole { waiting = x }) still-none };
+    })
+
+locks-split : ChangesLocks (ending_grants with_whole 5 (range_at a 40 20)) 5 (range_at a 40 20) Unlocked [] with_split
+locks-split = subst (λ m. ChangesLocks m 5 (range_at a 40 20) Unlocked [] with_split)
+    (none-ends with_whole (range_at a 40 20) refl) (record {
+      after = record (at_file with_whole 5) { locks = split };
+      granted = [];
+      sets = record {
+        locks = split;
+        lists = subst (λ l. HasModes split (modes_with l (range_at a 40 20) Unlocked)) (sym is-whole) given-back;
+        settles = (quiet split, refl);
+      };
+      grants = record {
+        messages_are = refl;
+        state_is = λ i. record with_hi { locks = sym (with-again empty 5 whole split) i; waiting = still-none i };
+      };
+    })
 
 -- a MSG call and an NM_LOCK that are denied
 is-denied : (by_message : Bool) →

@@ -82,6 +82,31 @@ grants-gone k n y x goes other gone stays =
     second true = ap (λ b. cond (not b) (Some y) None) stays
     second false = refl
 
+-- the only grant goes, or stays
+module _ (k : ℕ) (y : PendingGrant) (goes : PendingGrant → Bool) where
+  left-of-one : (q : ℕ) → get (grants_but goes (insert empty k y)) q ≡ left_of goes (cond (q == k) (Some y) None)
+  left-of-one q = get-grants_but goes (insert empty k y) q ∙ ap (left_of goes) (get-one k y q)
+
+  pub grant-gone : goes y ≡ true → grants_but goes (insert empty k y) ≡ empty
+  grant-gone gone =
+      same_map nat_cmp_total nat_cmp-IsAntisymmetric _ _ (λ q.
+      left-of-one q
+      ∙ elim (q == k) as (λ b. left_of goes (cond b (Some y) None) ≡ None) [
+        | true ↦ ap (λ b. cond (not b) (Some y) None) gone
+        | false ↦ refl
+      ]
+      ∙ sym (get-empty nat_cmp q))
+
+  pub grant-stays : goes y ≡ false → grants_but goes (insert empty k y) ≡ insert empty k y
+  grant-stays stays =
+      same_map nat_cmp_total nat_cmp-IsAntisymmetric _ _ (λ q.
+      left-of-one q
+      ∙ elim (q == k) as (λ b. left_of goes (cond b (Some y) None) ≡ cond b (Some y) None) [
+        | true ↦ ap (λ b. cond (not b) (Some y) None) stays
+        | false ↦ refl
+      ]
+      ∙ sym (get-one k y q))
+
 -- the only key goes
 pub removed-one : {X : Type 0} (k : ℕ) (y : X) → remove {R = nat_cmp} (insert empty k y) k ≡ empty
 removed-one k y =

@@ -6,7 +6,7 @@ use Rattle.std.proofs.Common.{arith}
 use Rattle.std.specs.FinMap.{empty}
 use Rattle.side_wire.specs.declared.nlm.NlmStatus.TheVariants as status
 use Rattle.side_wire.specs.declared.nlm.TestStatus.TheVariants as tested
-use Rattle.nfs_machine.specs.Grants.{ChangesLocks, at_file, grant_message}
+use Rattle.nfs_machine.specs.Grants.{ChangesLocks, at_file, ending_grants, grant_message}
 use Rattle.nfs_machine.specs.Locks.{HasModes, is_within, modes_with, same_owner}
 use Rattle.nfs_machine.specs.NlmSteps.{NlmStep}
 use Rattle.nfs_machine.specs.OneFile.{FileLocks, SetsMode, requested}
@@ -16,7 +16,7 @@ use Rattle.nfs_machine.proofs.FileMaps.{no-list, of-there}
 use Rattle.nfs_machine.proofs.Firm.{none-listed}
 use Rattle.nfs_machine.proofs.Modes.{listed_locks_tell, mode_by, narrower}
 use Rattle.nfs_machine.proofs.Opened.{none_of}
-use Rattle.machine_examples.proofs.LockingWorked.{cancels-b, is-x, lock_by, tests-b, unlocks-part}
+use Rattle.machine_examples.proofs.LockingWorked.{cancels-b, is-x, lock_by, none-ends, tests-b, unlocks-part}
 use Rattle.machine_examples.proofs.OneFile.{with-again}
 use Rattle.machine_examples.proofs.Ranges.{one-has}
 use Rattle.machine_examples.proofs.Settled.{grants-one, having}
@@ -58,8 +58,8 @@ all-given = record { modes_are = modes; listed = none-listed }
           | false ↦ refl
         ]
 
-gives-all : ChangesLocks with_waiting 5 (range_at a 0 100) Unlocked (grant_message waiting ∷ []) with_granted
-gives-all =
+gives-it : ChangesLocks with_waiting 5 (range_at a 0 100) Unlocked (grant_message waiting ∷ []) with_granted
+gives-it =
     let b_has : List Lock = lock b 30 30 true ∷ [] in
     let after : FileLocks = having [] b_has [] in
     let has : having [] split (waiting ∷ []) ≡ at_file with_waiting 5 =
@@ -86,6 +86,13 @@ gives-all =
         };
       };
     }
+
+-- no grant is pending before
+gives-all : ChangesLocks (ending_grants with_waiting 5 (range_at a 0 100)) 5 (range_at a 0 100) Unlocked
+    (grant_message waiting ∷ []) with_granted
+gives-all =
+    subst (λ m. ChangesLocks m 5 (range_at a 0 100) Unlocked (grant_message waiting ∷ []) with_granted)
+    (none-ends with_waiting (range_at a 0 100) refl) gives-it
 
 pub worked-posting : WorkedPosting
 unfolding NlmStep

@@ -1,6 +1,7 @@
 pub mod Worked
 pub mod WorkedChanging
 pub mod WorkedCreate
+pub mod WorkedEnding
 pub mod WorkedExports
 pub mod WorkedFiles
 pub mod WorkedLocking

@@ -2,6 +2,7 @@
 
 ghost use Rattle.machine_examples.specs.Worked.{WorkedExports, WorkedHandles, WorkedPaths, WorkedRights, WorkedWalks};
 ghost use Rattle.machine_examples.specs.WorkedChanging.{WorkedChanging, WorkedLockChanging, WorkedMountChanging};
+ghost use Rattle.machine_examples.specs.WorkedEnding.{WorkedEnding};
 ghost use Rattle.machine_examples.specs.WorkedExports.{WorkedExporting};
 ghost use Rattle.machine_examples.specs.WorkedFiles.{WorkedContent, WorkedNames, WorkedTimes};
 ghost use Rattle.machine_examples.specs.WorkedCreate.{WorkedAttributes, WorkedExisting, WorkedNewFile};
@@ -229,6 +230,12 @@ pub fn worked_settling()
 /// What FREE_ALL grants, and what becomes of a grant that is answered.
 pub fn worked_freed()
     ensures { WorkedFreed }
+{}
+
+/// A LOCK that is granted, and an UNLOCK, end the pending grants of their owner within their range, so that a late answer
+/// to GRANTED changes nothing. Another owner's stay, and one of which the range has only a part.
+pub fn worked_ending()
+    ensures { WorkedEnding }
 {}
 
 /// A run of two records: a file is made, and written.
