@@ -5,9 +5,9 @@ ghost use Rattle.std.specs.Prelude.{IfNone, IfOk, IfSome};
 ghost use Rattle.std.specs.Arc.{arc_value};
 ghost use Rattle.std.specs.List.{list_any};
 ghost use Rattle.nfs_machine.specs.FileLists.{all_but};
-ghost use Rattle.nfs_machine.specs.Locks.{Conflicts};
+ghost use Rattle.nfs_machine.specs.Locks.{Conflicts, lies_within};
 ghost use Rattle.nfs_machine.specs.LockSteps.{is_request, share_of};
-ghost use Rattle.nfs_machine.specs.OneFile.{is_denied, shared, unshared};
+ghost use Rattle.nfs_machine.specs.OneFile.{is_denied, requested, shared, unshared};
 ghost use Rattle.nlm_ranges.specs.Files.{has_nothing, no_file};
 ghost use Rattle.nlm_ranges.specs.Granting.{IsFreed, IsSet, IsSettled};
 ghost use Rattle.nlm_ranges.specs.Held.{IsInTheWay};
@@ -279,6 +279,25 @@ impl OneFile {
             { pending = all_but (λ r. r.number == number) self.now.pending }) }
     {
         let pending = self.pending.without(alloc, Going::Under(number))?;
+        let mut file = self.clone()?;
+        file.pending = Arc::new(alloc, pending)?;
+        Ok(file)
+    }
+
+    /// The file where no grant to the range's owner that lies within it is waited for any more.
+    ///
+    /// # Errors
+    ///
+    /// `AllocError` where the memory for it was refused.
+    pub fn without_pending_within(
+        &self,
+        alloc: Global,
+        range: &LockRange<'_>,
+    ) -> Result<OneFile, AllocError>
+        ensures { IfOk result (λ file. file ≡ record self.now
+            { pending = all_but (λ r. lies_within range.now (requested r)) self.now.pending }) }
+    {
+        let pending = self.pending.without(alloc, Going::Within(range))?;
         let mut file = self.clone()?;
         file.pending = Arc::new(alloc, pending)?;
         Ok(file)

@@ -1,7 +1,7 @@
 //! Ranges that calls name.
 
 ghost use Rattle.std.specs.Prelude.{◌≡◌, ◌↔◌, ◌≤◌, ◌&&◌, true, nat_le, IfSome, IsSome};
-ghost use Rattle.nfs_machine.specs.Locks.{fits_offsets, range_of, same_owner};
+ghost use Rattle.nfs_machine.specs.Locks.{fits_offsets, lies_within, range_of, same_owner};
 
 use crate::owner::LockOwner;
 use side_wire::message::NlmLock;
@@ -94,6 +94,17 @@ impl<'a> LockRange<'a> {
         ensures { result ≡ same_owner self.now.owner owner.now }
     {
         owner.is_named_by(self.lock)
+    }
+
+    /// Whether another range is its owner's and lies within it.
+    pub(crate) fn contains(&self, other: &LockRange<'_>) -> bool
+        ensures { result ≡ lies_within self.now other.now }
+    {
+        self.lock.caller_name == other.lock.caller_name
+            && self.lock.owner == other.lock.owner
+            && self.lock.process == other.lock.process
+            && self.first <= other.first
+            && other.last <= self.last
     }
 
     /// Whether it has one of these offsets.

@@ -10,6 +10,7 @@ ghost use Rattle.nfs_machine.specs.OneFile.{IsHeldUp};
 ghost use Rattle.nlm_ranges.specs.Requests.{IsFirstFree, goes};
 
 use crate::locks::LockTable;
+use crate::range::LockRange;
 use crate::request::LockRequest;
 use side_wire::message::NlmLock;
 use std::alloc::{AllocError, Global};
@@ -25,6 +26,8 @@ pub enum Going<'a> {
     Of(&'a [u8]),
     /// That under a number (NLMPROC4_GRANTED_RES).
     Under(u64),
+    /// Those of a range's owner that lie within it (NLMPROC4_LOCK, NLMPROC4_UNLOCK).
+    Within(&'a LockRange<'a>),
 }
 
 impl<'a> Going<'a> {
@@ -36,6 +39,7 @@ impl<'a> Going<'a> {
             Going::For { exclusive, lock } => request.is_for(exclusive, lock),
             Going::Of(caller_name) => request.is_of_caller(caller_name),
             Going::Under(number) => request.number() == number,
+            Going::Within(range) => range.contains(&request.range()),
         }
     }
 }

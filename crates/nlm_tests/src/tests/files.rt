@@ -88,14 +88,20 @@ fn locked(
     if file.test(&range, exclusive).is_some() {
         return Ok(None);
     }
-    Ok(Some(file.set(alloc, &range, exclusive)?))
+    let left = file.without_pending_within(alloc, &range)?;
+    let settled = left.set(alloc, &range, exclusive);
+    drop(left);
+    Ok(Some(settled?))
 }
 
 fn unlocked(alloc: Global, file: &OneFile, lock: &NlmLock) -> Result<Option<Settled>, AllocError> {
     let Some(range) = LockRange::of(lock) else {
         return Ok(None);
     };
-    Ok(Some(file.clear(alloc, &range)?))
+    let left = file.without_pending_within(alloc, &range)?;
+    let settled = left.clear(alloc, &range);
+    drop(left);
+    Ok(Some(settled?))
 }
 
 /// Whether the lock conflicts with one that is held, and whether an equal request waits for it as told.
@@ -325,6 +331,30 @@ fn a_downgrade_grants_what_waits(rt: HostRuntime) -> Result<(), AllocError> {
 }
 
 #[test]
+fn a_grant_ends_where_its_owner_locks_or_unlocks(rt: HostRuntime) -> Result<(), AllocError> {
+    assert!(rt;
+        end_with(
+            rt.alloc(),
+            &[
+                calls(Who::A, Call::Lock(true), 0, 30),
+                calls(Who::B, Call::Wait(true, 64), 0, 10),
+                calls(Who::C, Call::Wait(true, 128), 10, 10),
+                calls(Who::A, Call::Unlock, 0, 30).granting_both(64, 128),
+                calls(Who::B, Call::Lock(true), 1, 9),
+                calls(Who::C, Call::Unlock, 0, 10),
+                calls(Who::B, Call::Lock(false), 0, 10),
+                calls(Who::B, Call::AnswerNone(64), 0, 10),
+                calls(Who::C, Call::Unlock, 10, 10),
+                calls(Who::C, Call::AnswerNone(128), 10, 10),
+            ],
+            0,
+            0,
+        )?
+    );
+    Ok(())
+}
+
+#[test]
 fn a_part_given_back_grants_no_more_than_fits(rt: HostRuntime) -> Result<(), AllocError> {
     assert!(rt;
         end_with(
@@ -339,7 +369,7 @@ fn a_part_given_back_grants_no_more_than_fits(rt: HostRuntime) -> Result<(), All
                 calls(Who::C, Call::Unlock, 40, 10).granting(64),
             ],
             1,
-            2,
+            1,
         )?
     );
     Ok(())
