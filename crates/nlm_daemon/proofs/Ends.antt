@@ -37,11 +37,10 @@ use Rattle.nfs_objects.specs.Stands.{Kept, file_there}
 use Rattle.nfs_objects.specs.Store.{Store, with_writes}
 use Rattle.nfs_objects.specs.Values.{DraftValue}
 use Rattle.nfs_inodes.specs.Locks.{HasLocks, IsFileAt, IsNextNumber, MayHave, NoNumberIsLeft, locks_set, number_spent}
-use Rattle.nlm_daemon.proofs.Owning.{grants_told, nothing-changes, own-still, set-changes, set-own, shares-instead}
-use Rattle.nlm_daemon.proofs.Owning.{shares-still}
-use Rattle.nlm_daemon.proofs.Owning.{waits-instead}
+use Rattle.nlm_daemon.proofs.Owning.{ended-changes, ended-own, grants_told, nothing-changes, own-still}
+use Rattle.nlm_daemon.proofs.Owning.{shares-instead, shares-still, waits-instead}
 use Rattle.nlm_daemon.proofs.Coming.{comes-as, comes-unchanged, sent-comes}
-use Rattle.nlm_daemon.proofs.Laid.{IsLaid, laid-there}
+use Rattle.nlm_daemon.proofs.Laid.{IsLaid, fewer_grants, laid-there}
 use Rattle.nlm_daemon.proofs.Turning.{sends-nothing, set-sound, spent-sound, where-after}
 use Rattle.nlm_daemon.specs.Comes.{ComesTo, KnowsEnd, TurnsSending}
 use Rattle.nlm_daemon.specs.Holders.{holder_of}
@@ -198,10 +197,13 @@ module _ (old new : DraftValue) (a : LockArguments) (by_message : Bool) where
     stands-as s k w = sym (ap (λ (x : FileLocks). x.locks) (has s k w).held)
 
     pub lock-granted : (e : ℕ) → Knows old (λ k. IsFileAt k.state n e) → (settled : Settled) →
-        (Stands f.held.locks → ⊥) → IsSet f (range_of a.lock) (Some a.exclusive) settled →
+        (Stands f.held.locks → ⊥) → (left : FileValue) → left ≡ fewer_grants f (range_of a.lock) →
+        IsSet left (range_of a.lock) (Some a.exclusive) settled →
         TurnsSending (May n e settled.file) old new (grants_told settled) (locks_set n settled.file) →
         ComesTo old new LocksSo statuses.Granted
-    lock-granted e lives settled free set sending =
+    lock-granted e lives settled free left is sets sending =
+        let set : IsSet (fewer_grants f (range_of a.lock)) (range_of a.lock) (Some a.exclusive) settled =
+        subst (λ x. IsSet x (range_of a.lock) (Some a.exclusive) settled) is sets in
         sent-comes old new LocksSo statuses.Granted (May n e settled.file)
         (grants_told settled) (locks_set n settled.file) sending (set-sound n settled.file) (λ s k w formed.
         let laid = laid-at old s k w formed in
@@ -209,14 +211,14 @@ module _ (old new : DraftValue) (a : LockArguments) (by_message : Bool) where
         let there = file_there (with_writes s old.writes) k.state.exports in (
           record {
             lives = lives s k w;
-            own = set-own k.state there laid firm n f (has s k w) (range_of a.lock) (Some a.exclusive) settled set;
+            own = ended-own k.state there laid firm n f (has s k w) (range_of a.lock) (Some a.exclusive) settled set;
           },
           goes-on (λ c. LockOf k.state old.ctx a by_message c statuses.Granted (grants_told settled)
               (locks_set n settled.file k).state) (lock_of k.state) n (found s k w)
               (inl (
                 subst (λ l. Stands l → ⊥) (stands-as s k w) free,
                 refl,
-                set-changes k.state there laid firm n f (has s k w) (range_of a.lock) (Some a.exclusive) settled set,
+                ended-changes k.state there laid firm n f (has s k w) (range_of a.lock) (Some a.exclusive) settled set,
               )),
         ))
 
@@ -434,10 +436,13 @@ module _ (old new : DraftValue) (a : UnlockArguments) where
 
     pub unlock-granted : (f : FileValue) → Knows old (λ k. HasLocks k.state n f) → (e : ℕ) →
         Knows old (λ k. IsFileAt k.state n e) →
-        (settled : Settled) → IsSet f (range_of a.lock) None settled →
+        (settled : Settled) (left : FileValue) → left ≡ fewer_grants f (range_of a.lock) →
+        IsSet left (range_of a.lock) None settled →
         TurnsSending (May n e settled.file) old new (grants_told settled) (locks_set n settled.file) →
         ComesTo old new UnlocksSo statuses.Granted
-    unlock-granted f has e lives settled set sending =
+    unlock-granted f has e lives settled left is sets sending =
+        let set : IsSet (fewer_grants f (range_of a.lock)) (range_of a.lock) None settled =
+        subst (λ x. IsSet x (range_of a.lock) None settled) is sets in
         sent-comes old new UnlocksSo statuses.Granted (May n e settled.file)
         (grants_told settled) (locks_set n settled.file) sending (set-sound n settled.file) (λ s k w formed.
         let laid = laid-at old s k w formed in
@@ -445,11 +450,11 @@ module _ (old new : DraftValue) (a : UnlockArguments) where
         let there = file_there (with_writes s old.writes) k.state.exports in (
           record {
             lives = lives s k w;
-            own = set-own k.state there laid firm n f (has s k w) (range_of a.lock) None settled set;
+            own = ended-own k.state there laid firm n f (has s k w) (range_of a.lock) None settled set;
           },
           goes-on (λ c. UnlockOf k.state a c statuses.Granted (grants_told settled) (locks_set n settled.file k).state)
               (lock_named k.state) n (found s k w)
-              (refl, set-changes k.state there laid firm n f (has s k w) (range_of a.lock) None settled set),
+              (refl, ended-changes k.state there laid firm n f (has s k w) (range_of a.lock) None settled set),
         ))
 
 -- ---- SHARE

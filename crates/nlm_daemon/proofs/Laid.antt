@@ -12,11 +12,11 @@ use Rattle.std.specs.Ordering.{nat_cmp}
 use Rattle.std.specs.Prelude.{◌↔◌}
 use Rattle.nfs_machine.specs.Bytes.{same_bytes}
 use Rattle.nfs_machine.specs.FileLists.{all_but, grants_but, of_file, relisted, with_list}
-use Rattle.nfs_machine.specs.Grants.{at_file, with_grants}
+use Rattle.nfs_machine.specs.Grants.{at_file, ending_grants, with_grants}
 use Rattle.nfs_machine.specs.LockSteps.{freed_with}
-use Rattle.nfs_machine.specs.Locks.{HasModes, is_in, is_within, mode_at, modes_without}
-use Rattle.nfs_machine.specs.OneFile.{FileLocks, requests_without, shares_without}
-use Rattle.nfs_machine.specs.State.{Lock, Owner, PendingGrant, Request, State}
+use Rattle.nfs_machine.specs.Locks.{HasModes, is_in, is_within, lies_within, mode_at, modes_without}
+use Rattle.nfs_machine.specs.OneFile.{FileLocks, requested, requests_without, shares_without}
+use Rattle.nfs_machine.specs.State.{Lock, Owner, PendingGrant, Range, Request, State}
 use Rattle.nfs_machine.proofs.Changes.{differs-remove, itself}
 use Rattle.nfs_machine.proofs.FileMaps.{differs-with, get-grants_but, get-relisted, grants-left, kept, kept-is}
 use Rattle.nfs_machine.proofs.FileMaps.{kept-some}
@@ -419,6 +419,76 @@ module _ (m : State) (there : ℕ → FileValue) (laid : IsLaid m there) (n : �
       | false ↦ λ other. laid.held q
     ] refl;
     pending = λ k q r. (now-removed k q r, back-removed k q r);
+    locks = laid.locks;
+    shares = laid.shares;
+    waiting = laid.waiting;
+  }
+
+-- a file of which the grants to a range's owner that lie within it ended
+abbrev pub fewer_grants : FileValue → Range → FileValue
+fewer_grants f r = record f { pending = all_but (λ (x : Request). lies_within r (requested x)) f.pending }
+
+-- they end
+module _ (m : State) (there : ℕ → FileValue) (laid : IsLaid m there) (n : ℕ) (old : FileValue) (has : HasLocks m n old)
+    (r : Range) where
+  abbrev is_part : Request → Bool
+  is_part x = lies_within r (requested x)
+
+  abbrev ends : PendingGrant → Bool
+  ends g = (g.file == n) && is_part g.request
+
+  abbrev fewer : FileValue
+  fewer = fewer_grants old r
+
+  abbrev ended : State
+  ended = ending_grants m n r
+
+  -- a grant that doesn't end is pending still
+  pub ended-still : (number q : ℕ) (x : Request) → IsPendingIn m number q x → ((q == n) && is_part x) ≡ false →
+      IsPendingIn ended number q x
+  ended-still number q x was stays =
+      get-grants_but ends m.granted number
+      ∙ (λ i. cond (not (option_map_or ends (was i) false)) (was i) None)
+      ∙ ap (λ b. cond (not b) (Some (record { file = q; request = x })) None) stays
+
+  now-ended : (number q : ℕ) (x : Request) → IsPendingIn ended number q x →
+      Contains (put_there there n fewer q).pending x × (x.number ≡ number)
+  now-ended number q x at =
+      let left = grants-left ends m.granted number (record { file = q; request = x }) at in
+      let was = (laid.pending number q x).0 left.0 in (
+        elim (q == n) as (λ b. (q == n) ≡ b → (b && is_part x) ≡ false →
+        Contains (cond b fewer (there q)).pending x) [
+          | true ↦ λ same stays.
+              (let mine = (has.pending number x).0
+              (subst (λ y. IsPendingIn m number y x) ((unsigned_Decides q n).0 same) left.0) in
+              has-filter (λ (y : Request). not (is_part y)) old.pending x mine.0 (ap not stays))
+          | false ↦ λ apart stays. was.0
+        ] refl left.1,
+        was.1,
+      )
+
+  back-ended : (number q : ℕ) (x : Request) → Contains (put_there there n fewer q).pending x × (x.number ≡ number) →
+      IsPendingIn ended number q x
+  back-ended number q x have =
+      elim (q == n) as (λ b. (q == n) ≡ b → Contains (cond b fewer (there q)).pending x →
+      IsPendingIn ended number q x) [
+        | true ↦ λ same here.
+            (let is : q ≡ n = (unsigned_Decides q n).0 same in
+            let kept = filter-has (λ (y : Request). not (is_part y)) old.pending x here in
+            ended-still number q x
+            (subst (λ y. IsPendingIn m number y x) (sym is) ((has.pending number x).1 (kept.0, have.1)))
+            (ap (λ b. b && is_part x) same ∙ denied (is_part x) kept.1))
+        | false ↦ λ apart elsewhere.
+            ended-still number q x ((laid.pending number q x).1 (elsewhere, have.1)) (ap (λ b. b && is_part x) apart)
+      ] refl have.0
+
+  pub laid-ended : IsLaid ended (put_there there n fewer)
+  laid-ended = record {
+    held = λ q. elim (q == n) as (λ b. (q == n) ≡ b → at_file m q ≡ (cond b fewer (there q)).held) [
+      | true ↦ λ same. ap (at_file m) ((unsigned_Decides q n).0 same) ∙ has.held
+      | false ↦ λ other. laid.held q
+    ] refl;
+    pending = λ number q x. (now-ended number q x, back-ended number q x);
     locks = laid.locks;
     shares = laid.shares;
     waiting = laid.waiting;

@@ -1,29 +1,31 @@
 -- What a file has changes: whose the numbers of its grants are then, and what the machine comes to.
-use Rattle.std.proofs.Common.{◌≡◌, ◌==◌, ◌⊎◌, ℕ, ◌+◌, ◌≤◌, Bool, true, false, cond, not, List, [], ◌∷◌, ◌++◌}
+use Rattle.std.proofs.Common.{◌≡◌, ◌==◌, ◌&&◌, ◌⊎◌, ℕ, ◌+◌, ◌≤◌, Bool, true, false, cond, not, List, [], ◌∷◌, ◌++◌}
 use Rattle.std.proofs.Common.{Option, Some, None, inl, inr, is_some, map, refl, sym, ◌∙◌, ap, subst, arith}
 use Rattle.std.proofs.lemmas.List.Elements.{Contains-append_cases}
 use Rattle.std.proofs.lemmas.List.Sums.{sum_by-cons}
 use Rattle.std.specs.Cmp.{unsigned_Decides}
-use Rattle.std.specs.FinMap.{contains_key, get, remove}
+use Rattle.std.specs.FinMap.{FinMap, contains_key, get, remove}
 use Rattle.std.specs.List.{Contains}
+use Rattle.std.specs.Ordering.{nat_cmp}
 use Rattle.side_wire.specs.declared.message.Message.{Message}
 use Rattle.nfs_machine.specs.FileLists.{all_but, of_file, with_list}
-use Rattle.nfs_machine.specs.Grants.{ChangesLocks, Grants, SettlesFile, grant_message}
-use Rattle.nfs_machine.specs.Locks.{Mode, is_in}
+use Rattle.nfs_machine.specs.Grants.{ChangesLocks, Grants, SettlesFile, ending_grants, grant_message}
+use Rattle.nfs_machine.specs.Locks.{Mode, is_in, lies_within}
 use Rattle.nfs_machine.specs.LocksFormed.{count_of}
-use Rattle.nfs_machine.specs.OneFile.{AreHeldUp, FileLocks, SetsMode, Settles}
+use Rattle.nfs_machine.specs.OneFile.{AreHeldUp, FileLocks, SetsMode, Settles, requested}
 use Rattle.nfs_machine.specs.State.{PendingGrant, Range, Request, Share, State}
 use Rattle.nfs_machine.proofs.Changes.{differs-remove}
 use Rattle.nfs_machine.proofs.FileMaps.{count-joined, total-with}
-use Rattle.nfs_machine.proofs.Firm.{Firm, firm-answered, granting, none-listed}
+use Rattle.nfs_machine.proofs.Firm.{Firm, firm-answered, firm-ended, granting, none-listed}
 use Rattle.nlm_ranges.specs.Files.{FileValue, no_file}
 use Rattle.nlm_ranges.specs.Granting.{IsSet, IsSettled, granted_in}
 use Rattle.nlm_ranges.specs.declared.file.Settled.{Settled}
 use Rattle.nfs_objects.specs.Stands.{IsPendingIn}
 use Rattle.nfs_inodes.proofs.Locking.{cons-cases}
 use Rattle.nfs_inodes.specs.Locks.{AreOwnNumbers, HasLocks, with_file}
-use Rattle.nlm_daemon.proofs.Laid.{AreFresh, IsLaid, SameLists, filter-has, laid-as, laid-granted, laid-known, laid-put}
-use Rattle.nlm_daemon.proofs.Laid.{laid-removed, laid-same, put-has, put_there}
+use Rattle.nlm_daemon.proofs.Laid.{AreFresh, IsLaid, SameLists, ended-still, fewer_grants, filter-has, laid-as}
+use Rattle.nlm_daemon.proofs.Laid.{laid-ended, laid-granted, laid-known, laid-put, laid-removed, laid-same, put-has}
+use Rattle.nlm_daemon.proofs.Laid.{put_there}
 
 -- ---- how often a number is used
 module _ (number : ℕ) where
@@ -310,6 +312,42 @@ module _ (m : State) (there : ℕ → FileValue) (laid : IsLaid m there) (firm :
           ] refl;
     }
 
+-- a file's locks change where some of its grants ended before
+module _ (m : State) (there : ℕ → FileValue) (laid : IsLaid m there) (granted : FinMap nat_cmp PendingGrant) (n : ℕ)
+    (less : FileValue) (laid-less : IsLaid (record m { granted = granted }) (put_there there n less))
+    (firm : Firm (record m { granted = granted })) (r : Range) (mode : Mode) (settled : Settled)
+    (set : IsSet less r mode settled) where
+  abbrev ended : State
+  ended = record m { granted = granted }
+
+  has-less : HasLocks ended n less
+  has-less = put-has ended there n less laid-less
+
+  pub own-less : AreOwnNumbers ended n settled.file.pending
+  own-less = set-own ended (put_there there n less) laid-less firm n less has-less r mode settled set
+
+  pub changes-less : AreOwnNumbers m n settled.file.pending →
+      ChangesLocks ended n r mode (grants_told settled) (with_file m n settled.file)
+  changes-less own =
+      let twice : (q : ℕ) → put_there (put_there there n less) n settled.file q ≡ put_there there n settled.file q =
+      λ q. elim (q == n) as (λ b. cond b settled.file (cond b less (there q)) ≡ cond b settled.file (there q)) [
+        | true ↦ refl
+        | false ↦ refl
+      ] in
+      let same = laid-same (with_file ended n settled.file) (with_file m n settled.file)
+      (put_there there n settled.file)
+      (laid-as (with_file ended n settled.file) _ (put_there there n settled.file) twice
+      (laid-put ended (put_there there n less) laid-less n settled.file own-less))
+      (laid-put m there laid n settled.file own) in
+      subst (ChangesLocks ended n r mode (grants_told settled))
+      (λ i. record m {
+        locks = same.locks i;
+        shares = same.shares i;
+        waiting = same.waiting i;
+        granted = same.granted i;
+      })
+      (set-changes ended (put_there there n less) laid-less firm n less has-less r mode settled set)
+
 -- the lock of a grant that is answered is given back
 module _ (m : State) (there : ℕ → FileValue) (laid : IsLaid m there) (firm : Firm m) (n : ℕ) (old : FileValue)
     (has : HasLocks m n old) (number : ℕ) (request : Request) (stands : IsPendingIn m number n request) (r : Range)
@@ -326,37 +364,45 @@ module _ (m : State) (there : ℕ → FileValue) (laid : IsLaid m there) (firm :
   firm-without : Firm without
   firm-without = firm-answered m firm number
 
-  has-without : HasLocks without n less
-  has-without = put-has without there n less laid-without
-
   module _ (set : IsSet less r None settled) where
-    own-without : AreOwnNumbers without n settled.file.pending
-    own-without =
-        set-own without (put_there there n less) laid-without firm-without n less has-without r None settled set
-
     pub back-own : AreOwnNumbers m n settled.file.pending
-    back-own = own-before m there laid firm n old has number request stands settled.file.pending own-without
+    back-own = own-before m there laid firm n old has number request stands settled.file.pending
+        (own-less m there laid without.granted n less laid-without firm-without r None settled set)
 
     pub back-changes : ChangesLocks without n r None (grants_told settled) (with_file m n settled.file)
     back-changes =
-        let twice : (q : ℕ) → put_there (put_there there n less) n settled.file q ≡ put_there there n settled.file q =
-        λ q. elim (q == n) as (λ b. cond b settled.file (cond b less (there q)) ≡ cond b settled.file (there q)) [
-          | true ↦ refl
-          | false ↦ refl
-        ] in
-        let same = laid-same (with_file without n settled.file) (with_file m n settled.file)
-        (put_there there n settled.file)
-        (laid-as (with_file without n settled.file) _ (put_there there n settled.file) twice
-        (laid-put without (put_there there n less) laid-without n settled.file own-without))
-        (laid-put m there laid n settled.file back-own) in
-        subst (ChangesLocks without n r None (grants_told settled))
-        (λ i. record m {
-          locks = same.locks i;
-          shares = same.shares i;
-          waiting = same.waiting i;
-          granted = same.granted i;
-        })
-        (set-changes without (put_there there n less) laid-without firm-without n less has-without r None settled set)
+        changes-less m there laid without.granted n less laid-without firm-without r None settled set back-own
+
+-- a range's owner has it in another mode, and its pending grants within the range ended before
+module _ (m : State) (there : ℕ → FileValue) (laid : IsLaid m there) (firm : Firm m) (n : ℕ) (old : FileValue)
+    (has : HasLocks m n old) (r : Range) (mode : Mode) (settled : Settled) where
+  abbrev fewer : FileValue
+  fewer = fewer_grants old r
+
+  abbrev no_more : State
+  no_more = ending_grants m n r
+
+  laid-fewer : IsLaid no_more (put_there there n fewer)
+  laid-fewer = laid-ended m there laid n old has r
+
+  module _ (set : IsSet fewer r mode settled) where
+    -- what is another's where the grants ended was another's before
+    pub ended-own : AreOwnNumbers m n settled.file.pending
+    ended-own =
+        let own = own-less m there laid no_more.granted n fewer laid-fewer (firm-ended m firm n r) r mode settled
+        set in record {
+          once = own.once;
+          own = λ x mine other q at.
+              elim (other == n) as (λ b. (other == n) ≡ b → other ≡ n) [
+                | true ↦ λ same. (unsigned_Decides other n).0 same
+                | false ↦ λ apart. own.own x mine other q (ended-still m there laid n old has r x.number other q at
+                    (ap (λ b. b && lies_within r (requested q)) apart))
+              ] refl;
+        }
+
+    pub ended-changes : ChangesLocks no_more n r mode (grants_told settled) (with_file m n settled.file)
+    ended-changes = changes-less m there laid no_more.granted n fewer laid-fewer (firm-ended m firm n r) r mode
+        settled set ended-own
 
 -- ---- a file that has nothing
 nothing-set : (r : Range) → SetsMode no_file.held r None [] no_file.held
@@ -374,20 +420,29 @@ nothing-set r = record {
 }
 
 pub nothing-changes : (m : State) (there : ℕ → FileValue) → IsLaid m there → (n : ℕ) → HasLocks m n no_file →
-    (r : Range) → ChangesLocks m n r None [] m
-nothing-changes m there laid n has r = record {
-  after = no_file.held;
-  granted = [];
-  sets = subst (λ f. SetsMode f r None [] no_file.held) (sym has.held) (nothing-set r);
-  grants = record {
-    messages_are = refl;
-    state_is = λ i. record m {
-      locks = sym same.locks i;
-      waiting = sym same.waiting i;
-    };
-  };
-}
+    (r : Range) → ChangesLocks (ending_grants m n r) n r None [] m
+nothing-changes m there laid n has r =
+    subst (λ x. ChangesLocks x n r None [] m) (λ i. record m { granted = sym none.granted i }) changes
   where
+    -- no grant of it is pending
+    none : SameLists (ending_grants m n r) m
+    none = laid-same (ending_grants m n r) m (put_there there n no_file) (laid-ended m there laid n no_file has r)
+        (laid-known m there laid n no_file has)
+
     same : SameLists (with_file m n no_file) m
     same = laid-same (with_file m n no_file) m (put_there there n no_file)
         (laid-put m there laid n no_file (own-still m n no_file has)) (laid-known m there laid n no_file has)
+
+    changes : ChangesLocks m n r None [] m
+    changes = record {
+      after = no_file.held;
+      granted = [];
+      sets = subst (λ f. SetsMode f r None [] no_file.held) (sym has.held) (nothing-set r);
+      grants = record {
+        messages_are = refl;
+        state_is = λ i. record m {
+          locks = sym same.locks i;
+          waiting = sym same.waiting i;
+        };
+      };
+    }

@@ -64,7 +64,8 @@ fn lock(
         let status = held_up(draft, &place, &locks, arguments, by_message)?;
         return Ok(status);
     }
-    let settled = locks.set(draft.alloc(), &place.range, arguments.exclusive)?;
+    let left = locks.without_pending_within(draft.alloc(), &place.range)?;
+    let settled = left.set(draft.alloc(), &place.range, arguments.exclusive)?;
     put_settled(
         draft,
         place.file.known.number,

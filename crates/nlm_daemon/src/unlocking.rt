@@ -99,7 +99,8 @@ fn unlocked(draft: &mut Draft<'_>, arguments: &UnlockArguments) -> Result<NlmSta
     let Some(locks) = locks_of(draft, file.number)? else {
         return Ok(NlmStatus::Granted);
     };
-    let settled = locks.clear(draft.alloc(), &place.range)?;
+    let left = locks.without_pending_within(draft.alloc(), &place.range)?;
+    let settled = left.clear(draft.alloc(), &place.range)?;
     put_settled(draft, file.number, file.export, settled)?;
     Ok(NlmStatus::Granted)
 }

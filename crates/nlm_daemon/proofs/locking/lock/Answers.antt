@@ -76,11 +76,15 @@ returns-clause-ends c =
     lock-granted c.args.draft.now c.put_settled.new.draft c.args.arguments.now c.args.by_message
     c.in-Ok.place.file.known.number (rw c.in-Ok.is at c.in_ok-place.ensures.checked) c.in_ok-locks.locks
     c.in_ok-locks.ensures c.in-Ok.place.file.known.export place.lives c.in_ok-settled.settled
-    (rw place.range at c.in_default.ensures.free)
+    (rw place.range at c.in_default.ensures.free) c.in_ok-left.left (rw place.range at c.in_ok-left.ensures)
     (rw place.range at c.in_ok-settled.ensures) c.in_ok-put_settled.ensures
 
 pub returns-in_err-locks-clause-first : goal.returns-in_err-locks-clause-first
 returns-in_err-locks-clause-first c =
+    first-past c.args.draft.now.modes c.args.draft.now.view _ _ c.in_ok-place.ensures.first _
+
+pub returns-in_err-left-clause-first : goal.returns-in_err-left-clause-first
+returns-in_err-left-clause-first c =
     first-past c.args.draft.now.modes c.args.draft.now.view _ _ c.in_ok-place.ensures.first _
 
 pub returns-in_err-settled-clause-first : goal.returns-in_err-settled-clause-first

@@ -60,7 +60,7 @@ returns-clause-ends c =
     unlock-granted c.args.draft.now c.put_settled.new.draft c.args.arguments.now c.in-Ok.place.file.known.number
     (rw c.in-Ok.is at c.in_ok-place.ensures.checked) c.in-Some.locks.now
     (rw c.in-Some.is at c.in_ok-locks.ensures) c.in-Ok.place.file.known.export place.lives c.in_ok-settled.settled
-    (rw place.range at c.in_ok-settled.ensures)
+    c.in_ok-left.left (rw place.range at c.in_ok-left.ensures) (rw place.range at c.in_ok-settled.ensures)
     c.in_ok-put_settled.ensures
 
 pub returns-in_err-locks-clause-first : goal.returns-in_err-locks-clause-first
@@ -69,6 +69,10 @@ returns-in_err-locks-clause-first c =
 
 pub returns-in_default-clause-first : goal.returns-in_default-clause-first
 returns-in_default-clause-first c =
+    first-past c.args.draft.now.modes c.args.draft.now.view _ _ c.in_ok-place.ensures.first _
+
+pub returns-in_err-left-clause-first : goal.returns-in_err-left-clause-first
+returns-in_err-left-clause-first c =
     first-past c.args.draft.now.modes c.args.draft.now.view _ _ c.in_ok-place.ensures.first _
 
 pub returns-in_err-settled-clause-first : goal.returns-in_err-settled-clause-first
