@@ -1,6 +1,6 @@
 -- Pending grants that end before they are answered, worked through: each change of locks, at every offset.
-use Rattle.std.proofs.Common.{◌≡◌, ◌==◌, ℕ, ◌≤◌, Bool, true, false, ◌&&◌, cond, if◌then◌else◌, List, [], ◌∷◌}
-use Rattle.std.proofs.Common.{Option, Some, None, inl, refl, sym, ◌∙◌, ap, subst, arith}
+use Rattle.std.proofs.Common.{◌≡◌, ◌==◌, ℕ, ◌≤◌, Bool, true, false, ◌&&◌, cond, if◌then◌else◌, List, []}
+use Rattle.std.proofs.Common.{Some, None, inl, refl, sym, ◌∙◌, ap, subst, arith}
 use Rattle.std.proofs.lemmas.Bool.{and_parts}
 use Rattle.std.specs.FinMap.{FinMap, empty, get-empty}
 use Rattle.std.specs.Ordering.{nat_cmp}
