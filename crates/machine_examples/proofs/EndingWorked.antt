@@ -142,8 +142,8 @@ worked-ending = record {
   );
   late = (
     refl,
-    subst (λ f. GrantEnds with_none 5 (if is_answered nobody.host (grant_cookie 5) 5 f then f else None) status.Denied []
-        with_none) (sym (get-empty nat_cmp 5)) (refl, refl),
+    subst (λ f. GrantEnds with_none 5 (if is_answered nobody.host (grant_cookie 5) 5 f then f else None)
+        status.Denied [] with_none) (sym (get-empty nat_cmp 5)) (refl, refl),
   );
   unlocks = (
     status.Granted,

@@ -232,8 +232,8 @@ pub fn worked_freed()
     ensures { WorkedFreed }
 {}
 
-/// A LOCK that is granted, and an UNLOCK, end the pending grants of their owner within their range, so that a late answer
-/// to GRANTED changes nothing. Another owner's stay, and one of which the range has only a part.
+/// A LOCK that is granted, and an UNLOCK, end the pending grants of their owner within their range, so that a late
+/// answer to GRANTED changes nothing. Another owner's stay, and one of which the range has only a part.
 pub fn worked_ending()
     ensures { WorkedEnding }
 {}

@@ -203,9 +203,9 @@ pub fn waiting_requests_conflict()
     ensures chains { ChainsKeepWaiting }
 {}
 
-/// After a LOCK that is granted, and after an UNLOCK past its checks, no grant to its owner on that file that lies within
-/// its range waits for its answer, but those that the call itself put a GRANTED for. So a late answer to an earlier one
-/// changes nothing.
+/// After a LOCK that is granted, and after an UNLOCK past its checks, no grant to its owner on that file that lies
+/// within its range waits for its answer, but those that the call itself put a GRANTED for. So a late answer to an
+/// earlier one changes nothing.
 ///
 /// Such calls are in `worked_ending`.
 pub fn answered_owners_have_no_grants()
