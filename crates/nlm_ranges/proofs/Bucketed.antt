@@ -1,14 +1,14 @@
 -- The files of a bucket: what is left without one, and one more.
-use Rattle.std.proofs.Common.{◌≡◌, ◌==◌, ◌+◌, ◌<◌, ℕ, Bool, true, false, cond, not, List, [], ◌∷◌, ◌++◌}
+use Rattle.std.proofs.Common.{◌≡◌, ◌==◌, ℕ, Bool, true, false, cond, not, List, [], ◌∷◌, ◌++◌}
 use Rattle.std.proofs.Common.{Option, Some, None, arith, filter, find, refl, sym, ◌∙◌, ap, subst}
 use Rattle.std.proofs.lemmas.List.{append-nil}
 use Rattle.std.proofs.lemmas.List.Folds.{find-append}
 use Rattle.std.specs.Cmp.{unsigned_Decides}
-use Rattle.std.specs.List.{AllByRecursion, IsDistinct}
+use Rattle.std.specs.List.{AllByRecursion}
 use Rattle.std.specs.Option.{option_or}
 use Rattle.nfs_machine.proofs.Modes.{all-joined, all-left, all-mapped}
 use Rattle.nlm_ranges.proofs.Once.{left-once, more-once, none-once, passes-left}
-use Rattle.nlm_ranges.specs.Buckets.{BucketValue, IsBucket, IsInserted, LockedValue, given_most, no_bucket, same_number}
+use Rattle.nlm_ranges.specs.Buckets.{BucketValue, IsBucket, IsInserted, LockedValue, no_bucket, same_number}
 use Rattle.nlm_ranges.specs.Buckets.{without_file}
 use Rattle.nlm_ranges.specs.Files.{has_nothing}
 
@@ -37,7 +37,7 @@ find-kept p keep (x ∷ xs) stays =
           ∙ sym (ap (λ b. cond b (Some x) (find p xs)) is)
     ] refl
 
-none-behind : {X : Type 0} (o : Option X) → option_or o None ≡ o
+pub none-behind : {X : Type 0} (o : Option X) → option_or o None ≡ o
 none-behind None = refl
 none-behind (Some x) = refl
 
@@ -145,17 +145,3 @@ file-put b file is =
         some = all-joined HasSome (filter (others file.number) b.files) (file ∷ []) left.some (something, tt);
       }
     ] refl
-
-pub number-given : (b : BucketValue) (files : List LockedValue) → IsBucket b → b.given < given_most →
-    files ≡ b.files → IsBucket (record { given = b.given + 1; files = files })
-number-given b files is less same = record {
-  given = omega (arith, less);
-  once = subst (IsDistinct same_number) (sym same) is.once;
-  some = subst (AllByRecursion HasSome) (sym same) is.some;
-}
-
--- what is put among others
-pub put-among : (n : ℕ) (file : LockedValue) (fs slice left all : List LockedValue) → n ≡ file.number → slice ≡ fs →
-    left ≡ filter (others n) slice → all ≡ left ++ cond (has_nothing file.file) [] (file ∷ []) → all ≡ put file fs
-put-among n file fs slice left all number whole rest more =
-    more ∙ (λ i. (rest ∙ (λ j. filter (others (number j)) (whole j))) i ++ cond (has_nothing file.file) [] (file ∷ []))

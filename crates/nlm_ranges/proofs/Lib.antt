@@ -1,6 +1,7 @@
 pub mod Asked
 pub mod Bucketed
 pub mod Granted
+pub mod InParts
 pub mod Listed
 pub mod Once
 pub mod Parted

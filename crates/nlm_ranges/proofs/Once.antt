@@ -37,3 +37,16 @@ module _ {X : Type 0} (same : X → X → Bool) where
     all-joined (λ z. same x z ≡ false) xs (y ∷ []) once.0 (others.0, tt),
     more-once xs y others.1 once.1,
   )
+
+  pub rest-once : (x : X) (xs : List X) → IsDistinct same (x ∷ xs) → IsDistinct same xs
+  unfolding IsDistinct
+  rest-once x xs once = once.1
+
+  pub joined-once : (xs ys : List X) → IsDistinct same xs → IsDistinct same ys →
+      AllByRecursion (λ x. AllByRecursion (λ y. same x y ≡ false) ys) xs → IsDistinct same (xs ++ ys)
+  unfolding IsDistinct
+  joined-once [] ys once others apart = others
+  joined-once (x ∷ xs) ys once others apart = (
+    all-joined (λ y. same x y ≡ false) xs ys once.0 apart.0,
+    joined-once xs ys once.1 others apart.1,
+  )

@@ -3,6 +3,7 @@ pub mod Cutting
 pub mod Files
 pub mod Granting
 pub mod Held
+pub mod Parts
 pub mod Requests
 pub mod Same
 pub mod SameLaws

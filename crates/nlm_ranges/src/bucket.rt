@@ -1,42 +1,49 @@
 //! What files have of locks, in 64 buckets by their numbers.
 //!
 //! The files whose numbers are the same modulo 64 share a bucket, so that all that one caller has is found in so many
-//! values. A bucket also counts the numbers that it gave to grants, each of which is the bucket's index modulo 64. A
-//! look-up passes over the files of a bucket, and a change copies their list, a count and two numbers for each.
+//! values. A bucket also counts the numbers that it gave to grants, each of which is the bucket's index modulo 64. Its
+//! files stand in at most 64 parts, those whose numbers are the same modulo 4,096 in one. A look-up passes over the
+//! parts and the files of one of them; a change copies the list of parts and that of the files of one, a count and a
+//! number or two for each, and shares all other parts.
 
-ghost use Rattle.std.specs.Prelude.{◌≡◌, ◌==◌, ◌<◌, ◌+◌, ◌%◌, ◌++◌, ◌∷◌, [], filter};
-ghost use Rattle.std.specs.Prelude.{find, if◌then◌else◌, not};
-ghost use Rattle.std.specs.Prelude.{IfOk, MatchOption, option_copied};
+ghost use Rattle.std.specs.Prelude.{◌≡◌, ◌<◌, ◌+◌, ◌%◌, IfOk, MatchOption, option_copied};
 ghost use Rattle.nlm_ranges.specs.Buckets.{IsInserted, bucket_count, file_in, given_most, has_none, number_given};
 ghost use Rattle.nlm_ranges.specs.Buckets.{without_file};
-ghost use Rattle.nlm_ranges.specs.Files.{has_nothing};
+ghost use Rattle.nlm_ranges.specs.Parts.{part_index};
 
+use crate::files::{LockedFiles, are_same};
 use crate::locked::LockedFile;
+use crate::part::{Part, files_at, others, push_parts, with_file, with_part};
 use std::alloc::{AllocError, Global};
 use std::marker::Model;
 
 /// How many buckets there are.
 pub const LOCK_BUCKETS: u8 = 64;
 
+/// How many parts a bucket has at most.
+const LOCK_PARTS: u64 = 64;
+
 /// How many numbers a bucket gives to grants at most: those below 2^64 that are its index modulo 64.
 const GIVEN_MOST: u64 = 1 << 58;
 
 /// The files of a bucket that have anything, each once, and how many numbers it gave to grants. A bucket is never
-/// changed: a change makes another one, which shares what the files have.
+/// changed: a change makes another one, which shares all parts but one, and what the files have.
 #[derive(Drop)]
 pub struct LockBucket {
     given: u64,
-    files: Vec<LockedFile>,
+    parts: Vec<Part>,
 }
 
 impl Model for LockBucket {
-    ghost use Rattle.nlm_ranges.specs.Buckets.{BucketValue, IsBucket};
+    ghost use Rattle.std.specs.Prelude.{◌≤◌};
+    ghost use Rattle.nlm_ranges.specs.Buckets.{BucketValue, given_most};
+    ghost use Rattle.nlm_ranges.specs.Parts.{AreParts, files_of};
 
     ghost Value = { BucketValue };
 
-    ghost view = { λ b. record { given = b.given; files = b.files.items } };
+    ghost view = { λ b. record { given = b.given; files = files_of b.parts.items } };
 
-    ghost invariant = { λ b. IsBucket (record { given = b.given; files = b.files.items }) };
+    ghost invariant = { λ b. (b.given ≤ given_most) × AreParts b.parts.items };
 }
 
 impl PartialEq for LockBucket {
@@ -53,7 +60,7 @@ impl PartialEq for LockBucket {
         ensures test { result ≡ same_bucket self.now other.now }
         ensures same { Decides result (self.now ≡ other.now) }
     {
-        self.given == other.given && self.files == other.files
+        self.given == other.given && are_same(self.files(), other.files())
     }
 }
 
@@ -74,7 +81,7 @@ impl LockBucket {
     {
         LockBucket {
             given: 0,
-            files: Vec::new(alloc),
+            parts: Vec::new(alloc),
         }
     }
 
@@ -82,22 +89,23 @@ impl LockBucket {
     pub fn is_empty(&self) -> bool
         ensures { result ≡ has_none self.now }
     {
-        self.given == 0 && self.files.is_empty()
+        self.given == 0 && self.parts.is_empty()
     }
 
     /// The files that have anything.
-    pub fn files(&self) -> &[LockedFile]
-        ensures files { result.now ≡ self.now.files }
+    pub fn files(&self) -> LockedFiles<'_>
+        ensures files { result ≡ self.now.files }
         ensures bucket { IsBucket self.now }
     {
-        &self.files
+        LockedFiles::of(&self.parts)
     }
 
     /// The file with this number, if it has anything.
     pub fn find(&self, number: u64) -> Option<&LockedFile>
         ensures { option_copied result ≡ file_in self.now number }
     {
-        self.files.iter().find(|file| file.number() == number)
+        let files = files_at(&self.parts, part_index(number));
+        files.iter().find(|file| file.number() == number)
     }
 
     /// The number of the next grant, in the bucket with this index; None where all were given.
@@ -121,10 +129,11 @@ impl LockBucket {
         requires { self.now.given < given_most }
         ensures { IfOk result (λ bucket. bucket ≡ record self.now { given = self.now.given + 1 }) }
     {
-        let files = copied(alloc, &self.files)?;
+        let mut parts = Vec::with_capacity(alloc, self.parts.len())?;
+        push_parts(&mut parts, &self.parts)?;
         Ok(LockBucket {
             given: self.given + 1,
-            files,
+            parts,
         })
     }
 
@@ -136,11 +145,13 @@ impl LockBucket {
     pub fn with_file(&self, alloc: Global, file: LockedFile) -> Result<LockBucket, AllocError>
         ensures { IfOk result (IsInserted self.now file) }
     {
-        let others = others(alloc, &self.files, file.number())?;
+        let index = part_index(file.number());
+        let others = others(alloc, files_at(&self.parts, index), file.number())?;
         let files = with_file(others, file)?;
+        let parts = with_part(alloc, &self.parts, index, files)?;
         Ok(LockBucket {
             given: self.given,
-            files,
+            parts,
         })
     }
 
@@ -152,48 +163,14 @@ impl LockBucket {
     pub fn without_file(&self, alloc: Global, number: u64) -> Result<LockBucket, AllocError>
         ensures { IfOk result (λ bucket. bucket ≡ without_file number self.now) }
     {
-        let files = others(alloc, &self.files, number)?;
+        let index = part_index(number);
+        let files = others(alloc, files_at(&self.parts, index), number)?;
+        let parts = with_part(alloc, &self.parts, index, files)?;
         Ok(LockBucket {
             given: self.given,
-            files,
+            parts,
         })
     }
-}
-
-/// Copies of these files.
-fn copied(alloc: Global, files: &[LockedFile]) -> Result<Vec<LockedFile>, AllocError>
-    ensures { IfOk result (λ copies. copies.items ≡ files.now) }
-{
-    let mut copies = Vec::with_capacity(alloc, files.len())?;
-    for file in files {
-        copies.push(file.clone()?)?;
-    }
-    Ok(copies)
-}
-
-/// The files but the one with this number.
-fn others(alloc: Global, files: &[LockedFile], number: u64) -> Result<Vec<LockedFile>, AllocError>
-    ensures { IfOk result (λ others. others.items ≡ filter (λ f. not (f.number == number)) files.now) }
-{
-    let mut others = Vec::new(alloc);
-    for file in files {
-        if file.number() != number {
-            others.push(file.clone()?)?;
-        }
-    }
-    Ok(others)
-}
-
-/// The files with one more, unless it has nothing.
-fn with_file(mut files: Vec<LockedFile>, file: LockedFile) -> Result<Vec<LockedFile>, AllocError>
-    ensures { IfOk result (λ all.
-        all.items ≡ files.items ++ (if has_nothing file.file then [] else file ∷ [])) }
-{
-    if file.file().is_empty() {
-        return Ok(files);
-    }
-    files.push(file)?;
-    Ok(files)
 }
 
 /// The index of the bucket that the file with this number is in, and that gave a grant this number.
@@ -202,4 +179,11 @@ pub fn bucket_index(number: u64) -> u8
     ensures within { result < bucket_count }
 {
     (number % u64::from(LOCK_BUCKETS)) as u8
+}
+
+/// The index of the part, in its bucket, that the file with this number is in.
+fn part_index(number: u64) -> u8
+    ensures { result ≡ part_index number }
+{
+    (number / u64::from(LOCK_BUCKETS) % LOCK_PARTS) as u8
 }

@@ -13,17 +13,20 @@
 //! Requests stand in order of arrival. What waits is tried behind each change of the locks (`OneFile::set`, `clear`,
 //! `settle`), from the earliest on and again after each grant.
 //!
-//! Files with the same number modulo 64 share a `LockBucket`.
+//! Files with the same number modulo 64 share a `LockBucket`, in which those with the same number modulo 4,096 share a
+//! part.
 #![tactic(auto)]
 
 mod bucket;
 mod file;
+mod files;
 mod held;
 mod iter;
 mod list;
 mod locked;
 mod locks;
 mod owner;
+mod part;
 mod piece;
 mod range;
 mod request;
@@ -33,6 +36,7 @@ mod shares;
 
 pub use bucket::{LOCK_BUCKETS, LockBucket, bucket_index};
 pub use file::{OneFile, Settled};
+pub use files::LockedFiles;
 pub use held::HeldLock;
 pub use iter::Locks;
 pub use locked::LockedFile;

@@ -1,8 +1,7 @@
-use Rattle.std.proofs.Common.{subst, sym}
-use Rattle.nlm_ranges.proofs.Bucketed.{no-files}
+use Rattle.std.proofs.Common.{arith, subst, sym}
+use Rattle.nlm_ranges.proofs.InParts.{no-parts}
 use Rattle.nlm_ranges.proofs.bucket.LockBucket.new.Goals as goal
-use Rattle.nlm_ranges.specs.Buckets.{IsBucket}
+use Rattle.nlm_ranges.specs.Parts.{AreParts}
 
 pub invariant_of-result : goal.invariant_of-result
-invariant_of-result c =
-    subst (λ fs. IsBucket (record { given = 0; files = fs })) (sym c.new.ensures.items) no-files
+invariant_of-result c = (omega arith, subst AreParts (sym c.new.ensures.items) no-parts)

@@ -1,21 +1,32 @@
 use Rattle.std.proofs.Common.{subst, sym}
-use Rattle.nlm_ranges.proofs.Bucketed.{file-put, put-among, put-inserted}
+use Rattle.nlm_ranges.proofs.InParts.{are-put, put-in-parts, put-parts}
 use Rattle.nlm_ranges.proofs.bucket.LockBucket.with_file.Goals as goal
-use Rattle.nlm_ranges.specs.Buckets.{BucketValue, IsBucket, IsInserted}
+use Rattle.nlm_ranges.specs.Buckets.{IsInserted}
+use Rattle.nlm_ranges.specs.Parts.{AreParts, files_of}
 
 pub invariant_of-result : goal.invariant_of-result
-invariant_of-result c =
-    let old : BucketValue = record { given = c.self.inside.given; files = c.self.inside.files.items } in
-    subst (λ fs. IsBucket (record { given = c.self.inside.given; files = fs }))
-    (sym (put-among c.number.result c.args.file old.files c.deref.result.now c.in_ok-others.others.items
-    c.in_ok-files.files.items c.number.ensures c.deref.ensures.value c.in_ok-others.ensures c.in_ok-files.ensures))
-    (file-put old c.args.file c.self.invariant)
+invariant_of-result c = (
+  c.self.invariant.0,
+  subst AreParts
+      (sym (put-parts c.args.file c.self.inside.parts.items c.number.result c.number-2.result c.part_index-index.result
+      c.deref.result.now c.deref-2.result.now c.files_at.result.now c.in_ok-others.others.items
+      c.in_ok-files.files.items c.in_ok-parts.parts.items c.number.ensures c.number-2.ensures c.part_index-index.ensures
+      c.deref.ensures.value c.deref-2.ensures.value c.files_at.ensures c.in_ok-others.ensures c.in_ok-files.ensures
+      c.in_ok-parts.ensures))
+      (are-put c.self.inside.parts.items c.args.file c.self.invariant.1),
+)
 
 pub returns : goal.returns
 returns c =
-    let old : BucketValue = record { given = c.self.inside.given; files = c.self.inside.files.items } in
-    subst (λ b. IsInserted b c.args.file (record { given = c.self.inside.given; files = c.in_ok-files.files.items }))
+    subst (λ b. IsInserted b c.args.file (record {
+      given = c.self.inside.given;
+      files = files_of c.in_ok-parts.parts.items;
+    }))
     c.self.view_is
-    (put-inserted old c.args.file c.in_ok-files.files.items (put-among c.number.result c.args.file old.files
-    c.deref.result.now c.in_ok-others.others.items c.in_ok-files.files.items c.number.ensures c.deref.ensures.value
-    c.in_ok-others.ensures c.in_ok-files.ensures))
+    (subst (λ ps. IsInserted (record { given = c.self.inside.given; files = files_of c.self.inside.parts.items })
+    c.args.file (record { given = c.self.inside.given; files = files_of ps }))
+    (sym (put-parts c.args.file c.self.inside.parts.items c.number.result c.number-2.result c.part_index-index.result
+    c.deref.result.now c.deref-2.result.now c.files_at.result.now c.in_ok-others.others.items c.in_ok-files.files.items
+    c.in_ok-parts.parts.items c.number.ensures c.number-2.ensures c.part_index-index.ensures c.deref.ensures.value
+    c.deref-2.ensures.value c.files_at.ensures c.in_ok-others.ensures c.in_ok-files.ensures c.in_ok-parts.ensures))
+    (put-in-parts c.self.inside.parts.items c.args.file c.self.invariant.1 c.self.inside.given))

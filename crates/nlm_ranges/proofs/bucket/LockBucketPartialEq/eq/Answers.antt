@@ -4,6 +4,3 @@ use Rattle.nlm_ranges.proofs.bucket.LockBucketPartialEq.eq.Goals as goal
 
 pub returns-then-self-other-clause-same : goal.returns-then-self-other-clause-same
 returns-then-self-other-clause-same c = told_so bucket_decides _ _ _ (search rules)
-
-pub returns-else-self-other-clause-same : goal.returns-else-self-other-clause-same
-returns-else-self-other-clause-same c = told_so bucket_decides _ _ _ (search rules)
