@@ -68,7 +68,7 @@ fn files_come_and_go(alloc: Global) -> Result<bool, AllocError> {
         bucket = next;
     }
     all = all
-        && bucket.files().len() == 2
+        && bucket.files().count() == 2
         && is_locked(&bucket, 5, Who::A)
         && !is_locked(&bucket, 5, Who::C)
         && !is_locked(&bucket, 69, Who::B)
@@ -88,6 +88,43 @@ fn each_file_stands_once(rt: HostRuntime) -> Result<(), AllocError> {
     Ok(())
 }
 
+/// Whether a bucket has these files of caller A, and no others.
+fn has_files(bucket: &LockBucket, numbers: &[u64]) -> bool {
+    bucket.files().count() == numbers.len()
+        && numbers
+            .iter()
+            .all(|number| is_locked(bucket, *number, Who::B))
+}
+
+/// Files of three parts come; the only one of a part and one of two go, and one comes back.
+fn parts_come_and_go(alloc: Global) -> Result<bool, AllocError> {
+    let mut bucket = LockBucket::new(alloc);
+    for number in [5, 69, 4_101, 133, 4_165] {
+        let next = with(alloc, &bucket, number, Some(Who::A))?;
+        bucket = next;
+    }
+    let mut all = has_files(&bucket, &[5, 69, 133, 4_101, 4_165]);
+    for number in [5, 133, 4_229] {
+        let next = bucket.without_file(alloc, number)?;
+        bucket = next;
+    }
+    all = all
+        && has_files(&bucket, &[69, 4_101, 4_165])
+        && bucket.find(5).is_none()
+        && bucket.find(133).is_none();
+    let next = with(alloc, &bucket, 5, Some(Who::A))?;
+    bucket = next;
+    all = all && has_files(&bucket, &[5, 69, 4_101, 4_165]);
+    drop(bucket);
+    Ok(all)
+}
+
+#[test]
+fn files_of_other_parts_stay(rt: HostRuntime) -> Result<(), AllocError> {
+    assert!(rt; parts_come_and_go(rt.alloc())?);
+    Ok(())
+}
+
 fn numbers_are_given_once(alloc: Global) -> Result<bool, AllocError> {
     let none = LockBucket::new(alloc);
     let first = none.next_number(5);
@@ -104,5 +141,6 @@ fn numbers_are_given_once(alloc: Global) -> Result<bool, AllocError> {
 fn a_bucket_gives_its_own_numbers(rt: HostRuntime) -> Result<(), AllocError> {
     assert!(rt; numbers_are_given_once(rt.alloc())?);
     assert!(rt; bucket_index(69) == 5);
+    assert!(rt; bucket_index(4_101) == 5);
     Ok(())
 }
