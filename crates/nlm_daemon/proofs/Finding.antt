@@ -25,7 +25,7 @@ use Rattle.nfs_objects.specs.Stands.{IsPendingIn, IsPlaced, StandLocks, bucket_t
 use Rattle.nfs_objects.specs.Store.{Store}
 use Rattle.nfs_inodes.proofs.Locking.{cons-cases, later, once-found}
 use Rattle.nfs_inodes.specs.Locks.{HasLocks, IsFileAt}
-use Rattle.nlm_daemon.specs.Granted.{HasGrant, IsPendingNow, grant_answered, grant_of}
+use Rattle.nlm_daemon.specs.Granted.{FindsPending, HasGrant, IsPendingNow, grant_answered, grant_of}
 use Rattle.nlm_daemon.specs.declared.granting.Pending.{Pending}
 
 -- ---- lists
@@ -56,23 +56,6 @@ module _ (exports : List LivingExport) (number : ℕ) where
   pub none-first : NoGrant []
   none-first f r has = nothing-in f has.listed
 
-  -- of one file more
-  pub none-more : (files : List LockedValue) (file : LockedValue) → NoGrant files → NoGrant (file ∷ []) →
-      NoGrant (files ++ file ∷ [])
-  none-more files file none last f r has = elim (Contains-append_cases files (file ∷ []) f has.listed) [
-    | inl before ↦ none f r
-        (record { listed = before; lives = has.lives; pending = has.pending; number_is = has.number_is })
-    | inr here ↦ last f r
-        (record { listed = here; lives = has.lives; pending = has.pending; number_is = has.number_is })
-  ]
-
-  pub none-next : (files : List LockedValue) (i : ℕ) (file : LockedValue) → i < length files →
-      file ≡ get_or files i file → NoGrant (take i files) → NoGrant (file ∷ []) → NoGrant (take (i + 1) files)
-  none-next files i file within is none last =
-      subst NoGrant
-      (ap (λ x. take i files ++ x ∷ []) is ∙ sym (take_more files i file within))
-      (none-more (take i files) file none last)
-
   none-alone : (file : LockedValue) → (lives_in exports file.export ≡ true → (r : Request) →
       Contains file.file.pending r → r.number ≡ number → ⊥) → NoGrant (file ∷ [])
   none-alone file last f r has = elim (cons-cases file [] f has.listed) [
@@ -81,18 +64,36 @@ module _ (exports : List LivingExport) (number : ℕ) where
     | inr never ↦ nothing-in f never
   ]
 
-  -- a grant of one of the files is one among them
-  pub grant-there : (files : List LockedValue) (i : ℕ) (file : LockedValue) (f : LockedValue) (r : Request) →
-      i < length files → file ≡ get_or files i file → HasGrant exports (file ∷ []) number f r →
-      HasGrant exports files number f r
-  grant-there files i file f r within is has = record {
+  -- what is found in the first of these files, or else in the others, is found in all of them
+  pub grant-first : (file : LockedValue) (files : List LockedValue) (f : LockedValue) (r : Request) →
+      HasGrant exports (file ∷ []) number f r → HasGrant exports (file ∷ files) number f r
+  grant-first file files f r has = record {
     listed = elim (cons-cases file [] f has.listed) [
-      | inl same ↦ (i, within, get_or_default files i f file within ∙ sym is ∙ same)
-      | inr (k, never, at) ↦ absurd (omega (arith, never))
+      | inl same ↦ (zero, omega arith, same)
+      | inr never ↦ absurd (nothing-in f never)
     ];
     lives = has.lives;
     pending = has.pending;
     number_is = has.number_is;
+  }
+
+  pub finds-later : (file : LockedValue) (files : List LockedValue) (found : Option Pending) → NoGrant (file ∷ []) →
+      FindsPending exports files number found → FindsPending exports (file ∷ files) number found
+  finds-later file files None none finds = λ f r has. elim (cons-cases file files f has.listed) [
+    | inl same ↦ none f r (record {
+      listed = (zero, omega arith, same);
+      lives = has.lives;
+      pending = has.pending;
+      number_is = has.number_is;
+    })
+    | inr there ↦ finds f r
+        (record { listed = there; lives = has.lives; pending = has.pending; number_is = has.number_is })
+  ]
+  finds-later file files (Some pending) none finds = record {
+    listed = later file files pending.file finds.listed;
+    lives = finds.lives;
+    pending = finds.pending;
+    number_is = finds.number_is;
   }
 
   -- what does not live has none

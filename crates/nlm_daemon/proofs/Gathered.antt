@@ -52,37 +52,18 @@ module _ {X : Type 0} (same : X → X → Bool) where
     distinct-append xs ys once.1 others (λ a b mine theirs. apart a b (later x xs a mine) theirs),
   )
 
-  distinct-last : (xs : List X) (y : X) → AllByRecursion (λ x. same x y ≡ false) xs → IsDistinct same xs →
-      IsDistinct same (xs ++ y ∷ [])
+  -- the first, and the others
+  distinct-parts : (x : X) (xs : List X) → IsDistinct same (x ∷ xs) →
+      AllByRecursion (λ y. same x y ≡ false) xs × IsDistinct same xs
   unfolding IsDistinct
-  distinct-last [] y others once = (tt, tt)
-  distinct-last (x ∷ xs) y others once = (
-    all-joined (λ z. same x z ≡ false) xs (y ∷ []) once.0 (others.0, tt),
-    distinct-last xs y others.1 once.1,
-  )
+  distinct-parts x xs once = once
 
-  -- without the last
-  distinct-front : (xs : List X) (y : X) → IsDistinct same (xs ++ y ∷ []) →
-      IsDistinct same xs × ((x : X) → Contains xs x → same x y ≡ false)
+  distinct-more : (x : X) (xs : List X) → AllByRecursion (λ y. same x y ≡ false) xs → IsDistinct same xs →
+      IsDistinct same (x ∷ xs)
   unfolding IsDistinct
-  distinct-front [] y once = (tt, λ x has. absurd (nothing-in x has))
-  distinct-front (x ∷ xs) y once =
-      let rest = distinct-front xs y once.1 in (
-        (
-          all-of (λ z. same x z ≡ false) xs
-              (λ z has. all-has (λ w. same x w ≡ false) (xs ++ y ∷ []) z once.0
-              (Contains-append_left xs (y ∷ []) z has)),
-          rest.0,
-        ),
-        λ z has. elim (cons-cases x xs z has) [
-          | inl is ↦ subst (λ w. same w y ≡ false) is
-              (all-has (λ w. same x w ≡ false) (xs ++ y ∷ []) y once.0
-              (Contains-append_right xs (y ∷ []) y (zero, omega arith, refl)))
-          | inr there ↦ rest.1 z there
-        ],
-      )
+  distinct-more x xs others once = (others, once)
 
--- ---- the files of one bucket, so far
+-- ---- the files of one bucket
 module _ (exports : List LivingExport) (name : List ℕ) where
   pub freed-none : AreFreedOf exports name [] []
   freed-none = record {
@@ -91,92 +72,62 @@ module _ (exports : List LivingExport) (name : List ℕ) where
     rest = λ old has. absurd (nothing-in old has);
   }
 
-  module _ (files freed : List LockedValue) (file : LockedValue) (are : AreFreedOf exports name files freed) where
-    abbrev longer : List LockedValue
-    longer = files ++ file ∷ []
-
-    earlier : (f : LockedValue) → Contains files f → Contains longer f
-    earlier f has = Contains-append_left files (file ∷ []) f has
-
-    -- the caller had nothing of one more
-    freed-kept : IsFreedOne exports name file None → AreFreedOf exports name longer freed
+  module _ (file : LockedValue) (files freed : List LockedValue) (are : AreFreedOf exports name files freed) where
+    -- the caller had nothing of one before them
+    freed-kept : IsFreedOne exports name file None → AreFreedOf exports name (file ∷ files) freed
     freed-kept nothing = record {
-      from = λ new has. (let old = are.from new has in (old.0, earlier old.0 old.1, old.2, old.3));
-      once = λ once. are.once (distinct-front same_number files file once).0;
-      rest = λ old has lives none. elim (Contains-append_cases files (file ∷ []) old has) [
-        | inl before ↦ are.rest old before lives none
-        | inr here ↦ elim (cons-cases file [] old here) [
-          | inl same ↦ subst (λ (f : LockedValue). IsFreed f.file name f.file) same
-              (nothing (ap (λ (f : LockedValue). lives_in exports f.export) same ∙ lives))
-          | inr never ↦ absurd (nothing-in old never)
-        ]
+      from = λ new has. (let old = are.from new has in (old.0, later file files old.0 old.1, old.2, old.3));
+      once = λ once. are.once (distinct-parts same_number file files once).1;
+      rest = λ old has lives none. elim (cons-cases file files old has) [
+        | inl same ↦ subst (λ (f : LockedValue). IsFreed f.file name f.file) same
+            (nothing (ap (λ (f : LockedValue). lives_in exports f.export) same ∙ lives))
+        | inr there ↦ are.rest old there lives none
       ];
     }
 
     -- or it is freed
     freed-more : (new : LockedValue) → IsFreedOne exports name file (Some new) →
-        AreFreedOf exports name longer (freed ++ new ∷ [])
+        AreFreedOf exports name (file ∷ files) (new ∷ freed)
     freed-more new one = record {
-      from = λ f has. elim (Contains-append_cases freed (new ∷ []) f has) [
-        | inl before ↦ (let old = are.from f before in (old.0, earlier old.0 old.1, old.2, old.3))
-        | inr here ↦ elim (cons-cases new [] f here) [
-          | inl same ↦ (
-            file,
-            Contains-append_right files (file ∷ []) file (zero, omega arith, refl),
-            one.0,
-            subst (IsFreedFile name file) same one.1,
-          )
-          | inr never ↦ absurd (nothing-in f never)
-        ]
+      from = λ f has. elim (cons-cases new freed f has) [
+        | inl same ↦ (file, (zero, omega arith, refl), one.0, subst (IsFreedFile name file) same one.1)
+        | inr there ↦ (let old = are.from f there in (old.0, later file files old.0 old.1, old.2, old.3))
       ];
       once = λ once.
-          let parts = distinct-front same_number files file once in
-          distinct-last same_number freed new
-          (all-of (λ f. same_number f new ≡ false) freed (λ f has.
+          let parts = distinct-parts same_number file files once in
+          distinct-more same_number new freed
+          (all-of (λ f. same_number new f ≡ false) freed (λ f has.
           (let old = are.from f has in
-          ap (λ n. n == new.number) old.3.number ∙ ap (λ n. old.0.number == n) one.1.number ∙ parts.1 old.0 old.1)))
-          (are.once parts.0);
-      rest = λ old has lives none. elim (Contains-append_cases files (file ∷ []) old has) [
-        | inl before ↦ are.rest old before lives
-            (λ f listed same. none f (Contains-append_left freed (new ∷ []) f listed) same)
-        | inr here ↦ elim (cons-cases file [] old here) [
-          | inl same ↦ absurd (none new (Contains-append_right freed (new ∷ []) new (zero, omega arith, refl))
-              (one.1.number ∙ ap (λ (f : LockedValue). f.number) same))
-          | inr never ↦ absurd (nothing-in old never)
-        ]
+          ap (λ n. n == f.number) one.1.number ∙ ap (λ n. file.number == n) old.3.number
+          ∙ all-has (λ g. same_number file g ≡ false) files old.0 parts.0 old.1)))
+          (are.once parts.1);
+      rest = λ old has lives none. elim (cons-cases file files old has) [
+        | inl same ↦ absurd (none new (zero, omega arith, refl)
+            (one.1.number ∙ ap (λ (f : LockedValue). f.number) same))
+        | inr there ↦ are.rest old there lives (λ f listed is. none f (later new freed f listed) is)
       ];
     }
 
-  -- one file more, of those of the bucket so far
-  module _ (files : List LockedValue) (i : ℕ) (file : LockedValue) (within : i < length files)
-      (is-file : file ≡ get_or files i file) (old mid new : List LockedValue)
-      (adds : AddsFreed exports name (take i files) old mid) (one : AddsOne exports name file mid new) where
-    one-more : take i files ++ file ∷ [] ≡ take (i + 1) files
-    one-more = ap (λ f. take i files ++ f ∷ []) is-file ∙ sym (take_more files i file within)
-
+  -- one file, and then the others
+  module _ (file : LockedValue) (files old mid new : List LockedValue) (one : AddsOne exports name file old mid)
+      (adds : AddsFreed exports name files mid new) where
     abbrev listed : Option LockedValue → List LockedValue
     listed o = elim o [ None ↦ [] | Some f ↦ f ∷ [] ]
 
     longer-freed : (o : Option LockedValue) → IsFreedOne exports name file o →
-        AreFreedOf exports name (take i files ++ file ∷ []) (adds.more ++ listed o)
-    longer-freed None is = subst (AreFreedOf exports name (take i files ++ file ∷ [])) (sym (append-nil adds.more))
-        (freed-kept (take i files) adds.more file adds.freed is)
-    longer-freed (Some f) is = freed-more (take i files) adds.more file adds.freed f is
+        AreFreedOf exports name (file ∷ files) (listed o ++ adds.more)
+    longer-freed None is = freed-kept file files adds.more adds.freed is
+    longer-freed (Some f) is = freed-more file files adds.more adds.freed f is
 
-    pub adds-next : AddsFreed exports name (take (i + 1) files) old new
-    adds-next = record {
-      more = adds.more ++ listed one.left;
-      grown = one.grown ∙ ap (λ l. l ++ listed one.left) adds.grown ∙ append_assoc old adds.more (listed one.left);
-      freed = subst (λ l. AreFreedOf exports name l (adds.more ++ listed one.left)) one-more
-          (longer-freed one.left one.freed);
+    pub adds-later : AddsFreed exports name (file ∷ files) old new
+    adds-later = record {
+      more = listed one.left ++ adds.more;
+      grown = adds.grown ∙ ap (λ l. l ++ adds.more) one.grown ∙ append_assoc old (listed one.left) adds.more;
+      freed = longer-freed one.left one.freed;
     }
 
   pub adds-first : (old : List LockedValue) → AddsFreed exports name [] old old
   adds-first old = record { more = []; grown = sym (append-nil old); freed = freed-none }
-
-  pub adds-whole : (files : List LockedValue) (i : ℕ) (old new : List LockedValue) → length files ≤ i →
-      AddsFreed exports name (take i files) old new → AddsFreed exports name files old new
-  adds-whole files i old new whole adds = subst (λ l. AddsFreed exports name l old new) (take_all i files whole) adds
 
 -- ---- bucket by bucket
 -- what has nothing has nothing less

@@ -18,7 +18,7 @@ use crate::granting::put_settled;
 use nfs_inodes::{Asking, exports, lives, set_locks};
 use nfs_machine::Reply;
 use nfs_objects::{Addr, Change, Draft, Halt, LivingExport, Mode};
-use nlm_ranges::{LOCK_BUCKETS, LockedFile};
+use nlm_ranges::{LOCK_BUCKETS, LockedFile, LockedFiles};
 use side_wire::{FreeAllArguments, NlmCall, NlmReply};
 use std::alloc::{AllocError, Global};
 
@@ -130,13 +130,13 @@ fn add_bucket(
 fn add_freed(
     alloc: Global,
     exports: &[LivingExport],
-    files: &[LockedFile],
+    mut files: LockedFiles<'_>,
     caller_name: &[u8],
     freed: &mut Vec<LockedFile>,
 ) -> Result<(), AllocError>
-    ensures { OnOk result (AddsFreed exports.now caller_name.now files.now freed.old.items freed.new.items) }
+    ensures { OnOk result (AddsFreed exports.now caller_name.now files.entry freed.old.items freed.new.items) }
 {
-    for file in files {
+    while let Some(file) = files.next() {
         add_file(alloc, exports, file, caller_name, freed)?;
     }
     Ok(())

@@ -26,7 +26,7 @@ use bytes::Bytes;
 use nfs_inodes::{exports, lives};
 use nfs_machine::Reply;
 use nfs_objects::{Addr, Change, Draft, Halt, LivingExport, Mode};
-use nlm_ranges::{Going, LockRequest, LockedFile, Settled, bucket_index};
+use nlm_ranges::{Going, LockRequest, LockedFile, LockedFiles, Settled, bucket_index};
 use side_wire::{Callback, Message, NlmCall, NlmReply, NlmResult, NlmStatus, TestArguments};
 use std::alloc::{AllocError, Global};
 use std::sync::Arc;
@@ -115,12 +115,12 @@ fn number_in(cookie: &Bytes) -> Option<u64>
 /// The grant with this number, among the files of a bucket whose exports live.
 fn pending_in(
     exports: &[LivingExport],
-    files: &[LockedFile],
+    mut files: LockedFiles<'_>,
     number: u64,
 ) -> Result<Option<Pending>, AllocError>
-    ensures { IfOk result (FindsPending exports.now files.now number) }
+    ensures { IfOk result (FindsPending exports.now files.entry number) }
 {
-    for file in files {
+    while let Some(file) = files.next() {
         if let Some(pending) = pending_of(exports, file, number)? {
             return Ok(Some(pending));
         }

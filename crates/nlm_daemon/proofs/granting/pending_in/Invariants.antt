@@ -1,7 +1,9 @@
--- No file so far has such a grant.
-use Rattle.std.proofs.Common.{take}
-use Rattle.nlm_daemon.proofs.Finding.{NoGrant}
+-- What is found in the files that are left is found in all of them.
+use Rattle.std.proofs.Common.{Option}
+use Rattle.nlm_daemon.specs.Granted.{FindsPending}
+use Rattle.nlm_daemon.specs.declared.granting.Pending.{Pending}
 use Rattle.nlm_daemon.proofs.granting.pending_in.Given as goal
 
 abbrev pub invariant-loop-file : goal.invariant-loop-file
-invariant-loop-file l = NoGrant l.exports l.number (take l.file-index l.files)
+invariant-loop-file l = (found : Option Pending) → FindsPending l.exports l.files l.number found →
+    FindsPending l.exports l.fn.files l.number found
