@@ -148,11 +148,13 @@ worked-ending = record {
   unlocks = (
     status.Granted,
     subst (λ r. UnlockOf with_pending (unlocking b 10) (lock_by false (unlocking b 10).lock r) status.Granted []
-        with_hi) (sym is-x)
-        (refl, subst (ChangesLocks (ending_grants with_pending 5 (range_at b 30 10)) 5 (range_at b 30 10) Unlocked [])
-            (ap (λ l. record with_hi { locks = l }) (no-list 5))
-            (changes (range_at b 30 10) Unlocked [] gives-back empty
-            (grant-gone 5 (pending asking) (ends_by (range_at b 30 10)) refl))),
+        with_hi) (sym is-x) (
+          refl,
+          subst (ChangesLocks (ending_grants with_pending 5 (range_at b 30 10)) 5 (range_at b 30 10) Unlocked [])
+              (ap (λ l. record with_hi { locks = l }) (no-list 5))
+              (changes (range_at b 30 10) Unlocked [] gives-back empty
+              (grant-gone 5 (pending asking) (ends_by (range_at b 30 10)) refl)),
+        ),
     refl,
   );
   locks_again = (
@@ -164,9 +166,11 @@ worked-ending = record {
   of_other = (
     status.Granted,
     subst (λ r. UnlockOf with_pending (unlocking a 10) (lock_by false (unlocking a 10).lock r) status.Granted []
-        with_pending) (sym is-x)
-        (refl, changes (range_at a 30 10) Unlocked b_has gives-nothing with_pending.granted
-            (grant-stays 5 (pending asking) (ends_by (range_at a 30 10)) refl)),
+        with_pending) (sym is-x) (
+          refl,
+          changes (range_at a 30 10) Unlocked b_has gives-nothing with_pending.granted
+              (grant-stays 5 (pending asking) (ends_by (range_at a 30 10)) refl),
+        ),
     refl,
   );
   part = (

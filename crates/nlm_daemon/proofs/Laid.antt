@@ -457,13 +457,13 @@ module _ (m : State) (there : ℕ → FileValue) (laid : IsLaid m there) (n : �
       let left = grants-left ends m.granted number (record { file = q; request = x }) at in
       let was = (laid.pending number q x).0 left.0 in (
         elim (q == n) as (λ b. (q == n) ≡ b → (b && is_part x) ≡ false →
-        Contains (cond b fewer (there q)).pending x) [
-          | true ↦ λ same stays.
-              (let mine = (has.pending number x).0
-              (subst (λ y. IsPendingIn m number y x) ((unsigned_Decides q n).0 same) left.0) in
-              has-filter (λ (y : Request). not (is_part y)) old.pending x mine.0 (ap not stays))
-          | false ↦ λ apart stays. was.0
-        ] refl left.1,
+            Contains (cond b fewer (there q)).pending x) [
+              | true ↦ λ same stays.
+                  (let mine = (has.pending number x).0
+                  (subst (λ y. IsPendingIn m number y x) ((unsigned_Decides q n).0 same) left.0) in
+                  has-filter (λ (y : Request). not (is_part y)) old.pending x mine.0 (ap not stays))
+              | false ↦ λ apart stays. was.0
+            ] refl left.1,
         was.1,
       )
 
