@@ -55,6 +55,17 @@ fn with(
     bucket.with_file(alloc, file_of(alloc, number, who)?)
 }
 
+/// Whether a bucket has so many files.
+fn has_count(bucket: &LockBucket, count: usize) -> bool {
+    let mut files = bucket.files();
+    for _ in 0..count {
+        if files.next().is_none() {
+            return false;
+        }
+    }
+    files.next().is_none()
+}
+
 fn files_come_and_go(alloc: Global) -> Result<bool, AllocError> {
     let mut bucket = LockBucket::new(alloc);
     let mut all = bucket.is_empty();
@@ -68,7 +79,7 @@ fn files_come_and_go(alloc: Global) -> Result<bool, AllocError> {
         bucket = next;
     }
     all = all
-        && bucket.files().count() == 2
+        && has_count(&bucket, 2)
         && is_locked(&bucket, 5, Who::A)
         && !is_locked(&bucket, 5, Who::C)
         && !is_locked(&bucket, 69, Who::B)
@@ -90,7 +101,7 @@ fn each_file_stands_once(rt: HostRuntime) -> Result<(), AllocError> {
 
 /// Whether a bucket has these files of caller A, and no others.
 fn has_files(bucket: &LockBucket, numbers: &[u64]) -> bool {
-    bucket.files().count() == numbers.len()
+    has_count(bucket, numbers.len())
         && numbers
             .iter()
             .all(|number| is_locked(bucket, *number, Who::B))
