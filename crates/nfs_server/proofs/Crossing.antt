@@ -11,6 +11,7 @@ use Rattle.nfs_pool.proofs.seat.Seat.TheSendSync as seat
 use Rattle.nfs_server.proofs.callbacks.Callbacks.TheSendSync as callbacks
 use Rattle.nfs_server.proofs.clock.ServerClock.TheSendSync as clock
 use Rattle.nfs_server.proofs.network.bell.Bell.TheSendSync as bell
+use Rattle.nfs_server.proofs.network.failures.Failures.TheSendSync as failures
 use Rattle.nfs_server.proofs.network.jobs.Job.TheSendSync as job
 use Rattle.nfs_server.proofs.network.line.Line.TheSendSync as line
 use Rattle.nfs_server.specs.contracts.network.clerk.Clerk as Clerk
@@ -59,5 +60,10 @@ module _ (L : RattleType) (g : Ghosts L.Denot) (s : IsSend L) (y : IsSync L) whe
 
   pub sender_send : (C : RattleType) → IsSend C → IsSend (Sender.the_row L C g)
   sender_send C c =
-      declared_send (Sender.the_type L C g)
-      (clerk_send C c, (search (sendable, crosses, callbacks.the_send) depth 20, tt))
+      declared_send (Sender.the_type L C g) (
+        clerk_send C c,
+        (
+          search (sendable, crosses, callbacks.the_send) depth 20,
+          (search (sendable, crosses, failures.the_send) depth 20, tt),
+        ),
+      )

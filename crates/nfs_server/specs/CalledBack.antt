@@ -1,5 +1,7 @@
 -- Messages that are sent to hosts, and what becomes of what these answer (RFC 5531, 9; RFC 1813, appendix II).
-use Rattle.std.specs.Prelude.{◌≡◌, ◌^◌, ◌%◌, ℕ, List, Option, Some, None}
+use Rattle.std.specs.Prelude.{◌≡◌, ◌≢◌, ◌^◌, ◌%◌, ℕ, List, [], Option, Some, None, Result, Ok, Err, true}
+use Rattle.std.specs.Arc.{arc_value}
+use Rattle.nfs_rpc.specs.Records.{fragment}
 use Rattle.nfs_xdr.specs.Programs.{IsFrontedBy}
 use Rattle.nfs_xdr.specs.Types.{Xdr, Word, Pair, Value, Spells}
 use Rattle.side_wire.specs.Messages.{message_bytes, opaque_auth}
@@ -8,6 +10,11 @@ use Rattle.side_wire.specs.declared.message.Callback.{Callback}
 use Rattle.side_wire.specs.declared.message.Callback.TheVariants.{Granted, GrantedRes}
 use Rattle.side_wire.specs.declared.message.Message.{Message}
 use Rattle.side_wire.specs.declared.nlm.NlmResult.{NlmResult}
+use Rattle.nfs_schedule.specs.declared.answer.Answer.{Answer}
+use Rattle.nfs_schedule.specs.declared.answer.Answer.TheVariants.{Executed}
+use Rattle.nfs_server.specs.declared.callbacks.CallbackAddress.{CallbackAddress}
+use Rattle.nfs_server.specs.declared.network.clerk.Closed.{Closed}
+use Rattle.nfs_server.specs.declared.network.messages.Letter.{Letter}
 
 -- the transaction id of the message with this number: its low 32 bits
 abbrev pub xid_of : ℕ → ℕ
@@ -21,6 +28,17 @@ reply_header = Pair Word (Pair Word (Pair Word (Pair opaque_auth Word)))
 abbrev pub done_value : ℕ → Value opaque_auth → Value reply_header
 done_value xid verifier = (xid, (1, (0, (verifier, 0))))
 
+-- the message with this number, as one fragment, for where its host is called back
+pub record IsLetter (callback : CallbackAddress) (number : ℕ) (message : Message) (letter : Letter) : Type 0 where
+  pub address : letter.callback.now ≡ callback
+  pub bytes : letter.bytes.items ≡ fragment true (message_bytes (xid_of number) message)
+
+-- what is sent of a message: one letter, or nothing where its host is not called back
+abbrev pub IsAddressed : Option CallbackAddress → (number : ℕ) → Message → Option Letter → Type 0
+IsAddressed (Some callback) number message (Some letter) = IsLetter callback number message letter
+IsAddressed None number message None = Unit {0}
+IsAddressed _ _ _ _ = ⊥
+
 -- the bytes spell a reply to GRANTED that is accepted and done, with this result
 abbrev pub SpellsAnswer : ℕ → NlmResult → List ℕ → Type 0
 SpellsAnswer xid granted bytes = (verifier : Value opaque_auth)
@@ -33,6 +51,12 @@ IsNoAnswer xid bytes = (granted : NlmResult) → IsFrontedBy (SpellsAnswer xid) 
 abbrev pub IsGranted : Callback → Type 0
 IsGranted (Granted arguments) = Unit {0}
 IsGranted _ = ⊥
+
+-- a call may have put a message that waits now: it did, or how it ended is not told
+abbrev pub MayHavePosted : Result Answer Closed → Type 0
+MayHavePosted (Ok (Executed receipt)) = (arc_value receipt.executed).messages.items ≢ []
+MayHavePosted (Ok answer) = ⊥
+MayHavePosted (Err closed) = Unit {0}
 
 -- What a host's answer to a message comes in as: an answer to GRANTED as the call GRANTED_RES of its result, under the
 -- message's transaction id and from its host. Any other comes in as nothing.

@@ -6,4 +6,5 @@ pub mod Control
 pub mod Exits
 pub mod ExportTexts
 pub mod Limits
+pub mod PassedOver
 pub mod Started

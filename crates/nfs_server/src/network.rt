@@ -6,6 +6,7 @@
 mod attendance;
 mod bell;
 mod clerk;
+mod failures;
 mod jobs;
 mod line;
 mod listening;
@@ -23,6 +24,7 @@ use crate::callbacks::Callbacks;
 use crate::clock::{ServerClock, start_number};
 use crate::exit::Exit;
 use crate::network::attendance::Attendance;
+use crate::network::failures::Failures;
 use crate::network::jobs::{JOBS, Job};
 pub use crate::network::listening::Sockets;
 use crate::network::listening::{Service, let_in, take_datagrams};
@@ -291,9 +293,11 @@ fn start_sender<
         + Sync
         + 'static,
 >(rt: R, alloc: Global, service: &Service<L>, callbacks: Callbacks) -> Result<(), AllocError> {
+    let failures = Failures::new(alloc, callbacks.list.len())?;
     let mut sender = Sender {
         clerk: service.clerk(rt)?,
         callbacks,
+        failures,
     };
     thread::spawn(&rt, move || sender.work(&rt, alloc))?;
     Ok(())

@@ -1,8 +1,9 @@
 //! What answers records: each is executed on a place, and no place is held while answers are sent.
 
-ghost use Rattle.std.specs.Prelude.{◌≡◌, false};
+ghost use Rattle.std.specs.Prelude.{◌≡◌, false, true};
 ghost use Rattle.nfs_engine.specs.Arrivals.{incoming_value};
 ghost use Rattle.nfs_engine.specs.Asked.{IsAskedBy};
+ghost use Rattle.nfs_server.specs.CalledBack.{MayHavePosted};
 
 use crate::clock::ServerClock;
 use crate::controlling::Applied;
@@ -251,7 +252,9 @@ impl<L: Ledger, C: Clock> Clerk<L, C> {
 }
 
 /// Whether a call may have been executed that put a message. Where there was no memory for its answer that is not told.
-fn may_have_posted(answered: &Answered) -> bool {
+fn may_have_posted(answered: &Answered) -> bool
+    ensures { MayHavePosted answered.now → result ≡ true }
+{
     match answered {
         Ok(Answer::Executed(receipt)) => !receipt.executed.messages.is_empty(),
         Ok(_) => false,
@@ -260,7 +263,7 @@ fn may_have_posted(answered: &Answered) -> bool {
 }
 
 /// Whether a call was refused, for want of memory or of a number.
-fn is_refusal(answer: &Answer) -> bool {
+pub(crate) fn is_refusal(answer: &Answer) -> bool {
     matches!(answer, Answer::Refused(_))
 }
 

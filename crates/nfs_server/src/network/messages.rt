@@ -9,8 +9,10 @@ ghost use Rattle.nfs_xdr.specs.declared.XdrError.TheVariants.{Memory};
 ghost use Rattle.side_wire.specs.Messages.{HasCallbackForm, message_bytes};
 ghost use Rattle.side_wire.specs.Nlm.{HasResultForm};
 ghost use Rattle.side_wire.specs.declared.message.Callback.TheVariants.{GrantedRes};
-ghost use Rattle.nfs_server.specs.CalledBack.{ComesIn, IsNoAnswer, SpellsAnswer, reply_header, xid_of};
+ghost use Rattle.nfs_server.specs.CalledBack.{ComesIn, IsAddressed, IsNoAnswer, SpellsAnswer, reply_header, xid_of};
+ghost use Rattle.nfs_server.specs.Callbacks.{callback_of};
 
+use crate::callbacks::{CallbackAddress, Callbacks};
 use bytes::Bytes;
 use nfs_engine::Posted;
 use nfs_rpc::{Record, finish_record, start_record};
@@ -42,12 +44,43 @@ struct ReplyHeader<'a> {
     end: u32,
 }
 
+/// A message as it is sent, and where.
+#[derive(Drop)]
+pub(crate) struct Letter<'a> {
+    /// Where its host is called back.
+    pub(crate) callback: &'a CallbackAddress,
+    /// The message as one fragment.
+    pub(crate) bytes: Vec<u8>,
+}
+
+/// A message for where its host is called back; None where the host is not.
+///
+/// # Errors
+///
+/// There is no memory to spell it.
+pub(crate) fn addressed<'a>(
+    alloc: Global,
+    callbacks: &'a Callbacks,
+    posted: &Posted,
+) -> Result<Option<Letter<'a>>, XdrError>
+    ensures { IfOk result (IsAddressed (callback_of callbacks.now.list.items posted.now.message.host)
+        posted.now.number posted.now.message) }
+{
+    match callbacks.of_host(&posted.message.host) {
+        Some(callback) => {
+            let bytes = spelled(alloc, posted)?;
+            Ok(Some(Letter { callback, bytes }))
+        }
+        None => Ok(None),
+    }
+}
+
 /// A message as one fragment.
 ///
 /// # Errors
 ///
 /// There is no memory for it.
-pub(crate) fn spelled(alloc: Global, posted: &Posted) -> Result<Vec<u8>, XdrError>
+fn spelled(alloc: Global, posted: &Posted) -> Result<Vec<u8>, XdrError>
     ensures ok { IfOk result (λ bytes.
         bytes.items ≡ fragment true (message_bytes (xid_of posted.now.number) posted.now.message)) }
     ensures err { IfErr result (λ e. e ≡ Memory) }

@@ -1,18 +1,20 @@
 //! The thread that sends messages to hosts, and takes in what they answer to GRANTED (RFC 1813, appendix II).
 
 use crate::callbacks::Callbacks;
-use crate::network::clerk::Clerk;
-use crate::network::messages::{call_of_answer, spelled};
-use nfs_engine::Posted;
-use nfs_rpc::{Record, Records};
+use crate::network::clerk::{Clerk, is_refusal};
+use crate::network::failures::Failures;
+use crate::network::messages::{Letter, addressed, call_of_answer};
+use nfs_engine::{Host, Posted};
+use nfs_rpc::{Record, RecordError, Records};
+use side_wire::Callback;
 use std::alloc::Global;
-use std::io;
 use std::io::{Read, Write};
 use std::net::{Net, SocketAddr, TcpListener, TcpStream};
 use std::rt::Clock;
 use std::sync::Wait;
 use std::sync::ledger::Ledger;
-use std::time::Duration;
+use std::time::{Duration, Instant};
+use std::{io, thread};
 
 /// How long a host is waited for, in seconds, at each step: until it lets the server in, takes a message, and sends a
 /// piece of its answer.
@@ -24,16 +26,24 @@ const PIECE_SIZE: usize = 4_096;
 /// In how many pieces an answer may come, so that no host has the messages behind this one wait for long.
 const MOST_PIECES: usize = 4;
 
+/// How often a message is spelled, or an answer taken in, where memory is wanting.
+const TRIES: usize = 20;
+
+/// How long is waited for memory before the next try, in milliseconds.
+const PAUSE: u64 = 50;
+
 /// What sends messages.
 #[derive(Drop)]
 pub(crate) struct Sender<L: Ledger, C> {
     pub(crate) clerk: Clerk<L, C>,
     pub(crate) callbacks: Callbacks,
+    /// Where hosts are passed over.
+    pub(crate) failures: Failures,
 }
 
 impl<L: Ledger, C: Clock> Sender<L, C> {
     /// Sends messages as they come, the oldest first.
-    pub(crate) fn work<R: Wait + Net<Listener = TcpListener, Stream = TcpStream>>(
+    pub(crate) fn work<R: Wait + Clock + Net<Listener = TcpListener, Stream = TcpStream>>(
         &mut self,
         rt: &R,
         alloc: Global,
@@ -58,41 +68,88 @@ impl<L: Ledger, C: Clock> Sender<L, C> {
         posted
     }
 
-    /// Sends a message, and takes in what its host answers to GRANTED. A message whose host is not called back, or
-    /// can't be reached, is dropped.
-    fn send<R: Wait + Net<Listener = TcpListener, Stream = TcpStream>>(
+    /// Sends a message, and takes in what its host answers to GRANTED. A message whose host is not called back, or is
+    /// passed over, is dropped; so is one that there is no memory to spell in all that time.
+    fn send<R: Wait + Clock + Net<Listener = TcpListener, Stream = TcpStream>>(
         &mut self,
         rt: &R,
         alloc: Global,
         posted: &Posted,
     ) {
-        let Some(callback) = self.callbacks.of_host(&posted.message.host) else {
-            return;
-        };
-        let Some(answer) = asked(rt, alloc, callback.address, posted) else {
-            return;
-        };
-        let Ok(Some(call)) = call_of_answer(alloc, posted, &answer) else {
-            return;
-        };
-        match self.clerk.answer_alone(rt, alloc, &callback.host, call) {
-            Ok(answer) => drop(answer),
-            Err(_) => self.clerk.places.relieve(rt),
+        for _ in 0..TRIES {
+            match addressed(alloc, &self.callbacks, posted) {
+                Ok(Some(letter)) => {
+                    deliver(
+                        rt,
+                        alloc,
+                        &mut self.clerk,
+                        &mut self.failures,
+                        &letter,
+                        posted,
+                    );
+                    drop(letter);
+                    return;
+                }
+                Ok(None) => return,
+                Err(_) => self.clerk.make_room(rt),
+            }
         }
     }
 }
 
-/// Sends a message to an address. The record that comes back; None where none comes in time.
-fn asked<R: Net<Listener = TcpListener, Stream = TcpStream>>(
+/// Sends a letter and takes in what is answered, unless its address is passed over. From a failure on it is.
+fn deliver<L: Ledger, C: Clock, R: Wait + Clock + Net<Listener = TcpListener, Stream = TcpStream>>(
     rt: &R,
     alloc: Global,
-    address: SocketAddr,
+    clerk: &mut Clerk<L, C>,
+    failures: &mut Failures,
+    letter: &Letter<'_>,
     posted: &Posted,
-) -> Option<Record> {
-    let message = spelled(alloc, posted).ok()?;
-    let stream = connected(rt, address).ok()?;
-    (&stream).write_all(&message).ok()?;
-    first_record(alloc, &stream)
+) {
+    let address = letter.callback.address;
+    if is_passed_over(rt, failures, address) {
+        return;
+    }
+    match asked(rt, alloc, clerk, letter, posted) {
+        Ok(Some(answer)) => clerk.take_in(rt, alloc, &letter.callback.host, posted, &answer),
+        Ok(None) => {}
+        Err(_) => pass_over(rt, failures, address),
+    }
+}
+
+/// Whether an address is passed over now. Where the time is not known none is.
+fn is_passed_over<R: Clock>(rt: &R, failures: &Failures, address: SocketAddr) -> bool {
+    match Instant::now(rt) {
+        Ok(now) => failures.has(address, now),
+        Err(_) => false,
+    }
+}
+
+/// Has an address passed over for a while.
+fn pass_over<R: Clock>(rt: &R, failures: &mut Failures, address: SocketAddr) {
+    if let Ok(now) = Instant::now(rt) {
+        failures.add(address, now);
+    }
+}
+
+/// Sends a letter. The record that comes back; None where none does.
+///
+/// # Errors
+///
+/// The connection failed, or no answer to GRANTED came in time. Other messages need no answer.
+fn asked<L: Ledger, C: Clock, R: Wait + Clock + Net<Listener = TcpListener, Stream = TcpStream>>(
+    rt: &R,
+    alloc: Global,
+    clerk: &Clerk<L, C>,
+    letter: &Letter<'_>,
+    posted: &Posted,
+) -> io::Result<Option<Record>> {
+    let stream = connected(rt, letter.callback.address)?;
+    (&stream).write_all(&letter.bytes)?;
+    match first_record(rt, alloc, clerk, &stream) {
+        Err(_) if !matches!(&posted.message.call, Callback::Granted(_)) => Ok(None),
+        answered => answered,
+    }
 }
 
 /// A connection to an address, whose peer is waited for so long.
@@ -107,19 +164,89 @@ fn connected<R: Net<Listener = TcpListener, Stream = TcpStream>>(
     Ok(stream)
 }
 
-/// The first record that comes; None where none comes in time.
-fn first_record(alloc: Global, stream: &TcpStream) -> Option<Record> {
+/// The first record that comes; None where the peer sends none.
+fn first_record<L: Ledger, C: Clock, R: Wait + Clock>(
+    rt: &R,
+    alloc: Global,
+    clerk: &Clerk<L, C>,
+    stream: &TcpStream,
+) -> io::Result<Option<Record>> {
     let mut records = Records::new(alloc);
-    let mut piece = Vec::from_elem(alloc, 0u8, PIECE_SIZE).ok()?;
+    let mut piece = [0u8; PIECE_SIZE];
     let mut stream = stream;
     for _ in 0..MOST_PIECES {
-        let count = stream.read(piece.as_mut_slice()).ok()?;
-        if count == 0 || records.feed(&piece[..count]).is_err() {
-            return None;
+        let count = stream.read(&mut piece)?;
+        if count == 0 || !clerk.feed(rt, &mut records, &piece[..count]) {
+            return Ok(None);
         }
         if let Some(record) = records.next() {
-            return Some(record);
+            return Ok(Some(record));
         }
     }
-    None
+    Ok(None)
+}
+
+impl<L: Ledger, C: Clock> Clerk<L, C> {
+    /// Has what was recorded let go, and waits a while for memory.
+    fn make_room<R: Wait + Clock>(&self, rt: &R) {
+        self.places.relieve(rt);
+        thread::sleep(rt, Duration::from_millis(PAUSE));
+    }
+
+    /// Takes in a piece of an answer, and tries again where memory is wanting. Whether it was taken in.
+    fn feed<R: Wait + Clock>(&self, rt: &R, records: &mut Records, piece: &[u8]) -> bool {
+        for _ in 0..TRIES {
+            match records.feed(piece) {
+                Ok(()) => return true,
+                Err(RecordError::TooLarge) => return false,
+                Err(RecordError::Memory) => self.make_room(rt),
+            }
+        }
+        false
+    }
+
+    /// Takes in what a host answered to a message, and tries again where memory is wanting.
+    fn take_in<R: Wait + Clock>(
+        &mut self,
+        rt: &R,
+        alloc: Global,
+        host: &Host,
+        posted: &Posted,
+        answer: &Record,
+    ) {
+        for _ in 0..TRIES {
+            if self.is_settled(rt, alloc, host, posted, answer) {
+                return;
+            }
+            self.make_room(rt);
+        }
+    }
+
+    /// Whether an answer was taken in, or is none that comes in; else there was no memory for that.
+    fn is_settled<R: Wait>(
+        &mut self,
+        rt: &R,
+        alloc: Global,
+        host: &Host,
+        posted: &Posted,
+        answer: &Record,
+    ) -> bool {
+        match call_of_answer(alloc, posted, answer) {
+            Ok(Some(call)) => self.is_executed(rt, alloc, host, call),
+            Ok(None) => true,
+            Err(_) => false,
+        }
+    }
+
+    /// Whether a call was taken in and not refused.
+    fn is_executed<R: Wait>(&mut self, rt: &R, alloc: Global, host: &Host, call: Record) -> bool {
+        match self.answer_alone(rt, alloc, host, call) {
+            Ok(answer) => {
+                let is_refused = is_refusal(&answer);
+                drop(answer);
+                !is_refused
+            }
+            Err(_) => false,
+        }
+    }
 }
