@@ -19,7 +19,7 @@ import nfsd
 import network
 
 PACKAGES = ("nfs-common", "libtirpc3")
-MODULES = ("virtio_pci", "virtio_net", "nfsv3")
+MODULES = ("virtio_pci", "virtio_blk", "virtio_net", "nfsv3")
 HERE = pathlib.Path(__file__).parent
 
 
@@ -98,8 +98,9 @@ def machine(folder, port, network="", **more):
     return (
         "qemu-system-x86_64", "-m", "512", "-nographic", "-no-reboot",
         "-kernel", next(folder.glob("boot/vmlinuz-*")), "-initrd", folder / "root.cpio",
-        "-append", f"console=ttyS0 quiet panic=1 rdinit=/init nfs_port={port}{told}",
-        "-netdev", f"user,id=net{network}", "-device", "virtio-net-pci,netdev=net",
+        # (the kernel's look at its timer fails where others have the processor)
+        "-append", f"console=ttyS0 quiet panic=1 no_timer_check rdinit=/init nfs_port={port}{told}",
+        "-netdev", f"user,id=net{network}", "-device", "virtio-net-pci,netdev=net,romfile=",
     )  # fmt: skip
 
 

@@ -1,21 +1,30 @@
 #!/usr/bin/env python3
 """Tries locks with Linux' own client, whose programs are as they are, and contrib/lockd: in a virtual machine its
-kernel mounts the export with `lock`, and it and this machine lock one file in turn. Each lock that either has is seen
-by the other; one that the client waits for is given to it by a call, and not when it asks again, which is after 30
-seconds; and when its sm-notify tells that it has started anew, its locks are free.
+kernel mounts the export with `lock`, and processes of it (linux_locks.c) lock ranges of a file, as do two other hosts,
+which are this machine at 127.0.0.2 and 127.0.0.3.
+
+Locks are exclusive and shared, beside each other and not, and become the one and the other; who waits for one gets it
+by a call within a second, and not when the client asks again, which is after 30; nothing is left of a process that is
+killed as it waits. A GRANTED that is late, since nobody lets in the one that stands before it, comes when the client
+asked again and has its lock: it stays the client's until this gives it back. At last the client is switched off, and
+its locks are free once it comes back and its sm-notify tells so.
 
 It fetches Debian's kernel, mount.nfs, rpcbind and rpc.statd (apt-get download), as bench/linux.py does. lockd is the
 port mapper of 127.0.0.1, at port 111, so this has to be root's, and no port mapper may run. QEMU hides the client
 behind this machine's address, so the port of its lock manager is fixed, and handed on, as is that of its port mapper.
 
-Wanted are Debian's qemu-system-x86, busybox-static and cpio (apt-get install --no-install-recommends).
+Wanted are Debian's qemu-system-x86, busybox-static and cpio (apt-get install --no-install-recommends), and gcc.
 
 usage: bench/linux_locks.py [PROGRAM]
 """
+import contextlib
 import pathlib
 import re
 import shutil
+import socket
+import struct
 import subprocess
+import sys
 import tempfile
 import time
 
@@ -24,83 +33,282 @@ import lockd
 import locking
 import network
 import nfsd
-from locking import IS_DENIED, IS_GRANTED
+from locking import IS_BLOCKED, IS_DENIED, IS_GRANTED
 
-PATIENCE = 300  # seconds for the machine to start, on a busy processor
-SOON = 10  # seconds in which a client is called back, where it would ask again after 30
+HERE, OTHER, SILENT = "127.0.0.1", "127.0.0.2", "127.0.0.3"  # the client, and the other hosts
+PROCESSES = 4
+PATIENCE = 600  # seconds for the machine to start, on a busy processor
+SOON = 1  # seconds in which a client is called back
+ASKS_AGAIN = 30  # seconds after which Linux asks again for a lock that it waits for
+BEFORE = 2.5  # so many seconds before that the lock is given back: half of those that a host is waited for
+LATE = 10  # seconds in which a GRANTED comes that waits for another host
 PROGRAMS = ("sbin/rpcbind", "sbin/rpc.statd", "sbin/sm-notify")
 USERS = "root:x:0:0:root:/:/bin/sh\n_rpc:x:100:100::/run/rpcbind:/bin/false\nstatd:x:101:100::/var/lib/nfs:/bin/false\n"
 
 
-class Other:
-    """This machine, as the client that locks the same file."""
+class Process:
+    """A process of the client, which does what it is told."""
 
-    def __init__(self, port, guest):
-        self.connection, self.guest = network.Connection(port), guest
+    def __init__(self, connection):
+        connection.settimeout(PATIENCE)
+        self.connection, self.stream = connection, connection.makefile("rw")
+        self.number = int(self.hear())
+
+    def hear(self):
+        return self.stream.readline().strip()
+
+    def tell(self, *words):
+        print(*words, file=self.stream, flush=True)
+
+    def ask(self, *words):
+        self.tell(*words)
+        return self.hear()
+
+    def locks(self, kind, start, length, way="try"):
+        """Whether it gets this lock; `kind` is r, w, or u where it is to be given back."""
+        said = self.ask(way, kind, start, length)
+        assert said in ("done", "denied"), said
+        return said == "done"
+
+    def waits(self, kind, start, length, beside):
+        """It waits for this lock, as another process of the client sees. When that began."""
+        self.tell("wait", kind, start, length)
+        begin = time.monotonic()
+        while beside.ask("where", self.number) != "nlmclnt_block":
+            assert time.monotonic() < begin + ASKS_AGAIN, "it waits"
+            time.sleep(0.05)
+        return time.monotonic()
+
+
+class Client:
+    """A run of the machine, with its processes."""
+
+    def __init__(self, words, listener, said):
+        self.machine = subprocess.Popen(words, stdin=subprocess.DEVNULL, stdout=said)
+        self.begin = time.monotonic()
+        self.processes = [self.next_process(listener) for _ in range(PROCESSES)]
+
+    def next_process(self, listener):
+        while self.machine.poll() is None and time.monotonic() < self.begin + PATIENCE:
+            with contextlib.suppress(TimeoutError):
+                return Process(listener.accept()[0])
+        raise AssertionError("the client runs and mounts the export")
+
+    def switch_off(self):
+        self.machine.kill()
+        self.machine.wait()
+
+    def end(self):
+        """It ends by itself."""
+        for process in self.processes:
+            process.connection.shutdown(socket.SHUT_RDWR)
+        self.machine.wait(PATIENCE)
+
+
+class Owner:
+    """An owner of locks of a file, at some address of this machine."""
+
+    def __init__(self, port, address, number, file=None):
+        self.connection, self.number = network.Connection(port, address), number
+        self.file = file or self.connection.make(b"file")
         self.xid = 0
 
-    def ask(self, make, *words, **ways):
+    def ask(self, make, start, length, **ways):
         self.xid += 1
-        return self.connection.ask(make(self.xid, *words, **ways))
+        return locking.status(self.connection.ask(make(self.xid, self.file, self.number, start, length, **ways)))
 
-    def await_file(self, name, patience=PATIENCE):
-        """The handle of a file that the client makes, and how long that took."""
-        begin = time.monotonic()
-        while time.monotonic() < begin + patience and self.guest.poll() is None:
-            reply = self.ask(nfsd.lookup, name)
-            if network.status(reply) == 0:
-                return reply[network.STATUS + 4 :][: network.NODE], time.monotonic() - begin
-            time.sleep(0.05)
-        raise AssertionError(f"the client runs, and makes {name.decode()} within {patience} seconds")
+    def locks(self, start, length, **ways):
+        return self.ask(locking.locking, start, length, **ways) == IS_GRANTED
 
-    def make(self, name):
-        assert network.status(self.ask(nfsd.create, name)) == 0
+    def waits(self, start, length, **ways):
+        assert self.ask(locking.locking, start, length, block=True, **ways) == IS_BLOCKED
 
-    def lock(self, make, file, **ways):
-        """The status of a call about all of the file."""
-        return locking.status(self.ask(make, file, 1, 0, 0, **ways))
+    def unlocks(self):
+        assert self.ask(locking.unlocking, 0, 0) == IS_GRANTED
+
+    def may_lock(self, start=0, length=0):
+        """Whether nobody has a lock that stands in the way of an exclusive one."""
+        return self.ask(locking.testing, start, length) == IS_GRANTED
 
 
-def contend(other):
-    """The client and this machine lock the file in turn."""
-    other.await_file(b"held")
-    file, _ = other.await_file(b"file")
-    assert other.lock(locking.testing, file) == IS_DENIED, "the client's lock is seen"
-    other.make(b"seen")
-    while other.lock(locking.locking, file) != IS_GRANTED:
-        time.sleep(0.05)
-    other.make(b"taken")
-    other.await_file(b"waits")
-    time.sleep(2)
-    assert other.lock(locking.unlocking, file) == IS_GRANTED
-    _, passed = other.await_file(b"woken")
-    assert passed < SOON, f"the client is called back, and waits {passed:.1f} s"
-    print(f"linux: the client had the lock {passed:.1f} s after it was free")
-    assert other.lock(locking.testing, file) == IS_DENIED
-    other.make(b"counted")
-    return file
+class Relay(locking.Host):
+    """Hands its calls on to a port, and keeps when each came and with which status it was answered."""
+
+    def __init__(self, to_port):
+        self.to_port, self.answers = to_port, []
+        super().__init__()
+
+    def answer(self, record):
+        came = time.monotonic()
+        reply = network.Connection(self.to_port).ask(struct.pack(">I", 0x80000000 | len(record)) + record)
+        self.answers.append((came, *struct.unpack(">I", reply[-4:])))
+        return reply
 
 
-def start_anew(other, file):
-    """The client's notice frees its locks."""
-    other.await_file(b"kept")
-    assert other.lock(locking.testing, file) == IS_DENIED
-    other.make(b"again")
+class Full:
+    """A port that lets nobody in: as many wait for that as may."""
+
+    def __init__(self):
+        self.listener = socket.create_server((HERE, 0), backlog=0)
+        self.port = self.listener.getsockname()[1]
+        self.waiting = [socket.socket() for _ in range(4)]
+        for each in self.waiting:
+            each.setblocking(False)
+            each.connect_ex((HERE, self.port))
+
+
+def is_called(process, relay, what, give):
+    """What `give` gives free a process gets that waits for it, by a call that comes soon."""
     begin = time.monotonic()
-    while other.lock(locking.testing, file) == IS_DENIED:
-        assert time.monotonic() < begin + PATIENCE, "its locks are freed"
-        time.sleep(0.05)
-    print(f"linux: the client's locks were free {time.monotonic() - begin:.1f} s after its notice was asked for")
-    other.make(b"gone")
+    give()
+    assert process.hear() == "done"
+    passed = time.monotonic() - begin
+    relay.next()
+    came, status = relay.answers[-1]
+    print(f"locks: {what}: called back after {came - begin:.2f} s, and held after {passed:.2f} s")
+    assert status == IS_GRANTED and came < begin + SOON and passed < ASKS_AGAIN / 2
+
+
+def excludes(client, other):
+    """An exclusive lock stands in the way of all others, whoever has it; also one of flock."""
+    one, two = client.processes[:2]
+    assert one.locks("w", 0, 100)
+    assert not two.locks("w", 99, 1) and not two.locks("r", 0, 1)
+    assert not other.locks(99, 1) and not other.locks(0, 1, exclusive=False) and not other.may_lock(50, 1)
+    assert other.locks(100, 100)
+    assert not one.locks("w", 199, 1) and not one.locks("r", 100, 1)
+    assert one.ask("test", "r", 0, 0) == "w 100 100" and two.ask("test", "r", 50, 100) == "w 0 100"
+    assert one.ask("test", "w", 200, 0) == "free"
+    assert one.locks("u", 0, 0) and other.may_lock()
+    other.unlocks()
+    assert one.locks("w", 0, 0, "flock") and not two.locks("r", 0, 0, "flock") and not other.locks(1 << 40, 1)
+    assert one.locks("u", 0, 0, "flock") and other.may_lock()
+    print("locks: exclusive: nobody else gets it")
+
+
+def shares(client, other):
+    """Shared locks stand beside each other, and in the way of exclusive ones."""
+    one, two = client.processes[:2]
+    assert one.locks("r", 0, 100) and two.locks("r", 50, 100) and other.locks(0, 200, exclusive=False)
+    assert not one.locks("w", 160, 1) and not other.locks(149, 1)
+    assert one.ask("test", "r", 0, 0) == "free" and two.ask("test", "w", 160, 10) == "r 0 200"
+    assert two.locks("u", 0, 0) and other.locks(100, 50) and not one.locks("r", 149, 1)
+    other.unlocks()
+    assert not other.locks(99, 1) and one.locks("u", 0, 0) and other.may_lock()
+    print("locks: shared: they stand beside each other, and exclude exclusive ones")
+
+
+def divides(client, other):
+    """Ranges stand beside each other; what is given back from within one is free alone."""
+    one, two = client.processes[:2]
+    assert one.locks("w", 0, 100) and other.locks(100, 100) and two.locks("w", 200, 100)
+    assert not one.locks("w", 50, 100) and not two.locks("w", 150, 100) and not other.locks(0, 0)
+    assert one.locks("u", 40, 20) and other.locks(40, 20) and not other.locks(39, 21) and not other.locks(40, 21)
+    assert two.locks("w", 300, 0) and not other.locks(1 << 62, 1), "to the end of all bytes"
+    for process in (one, two):
+        assert process.locks("u", 0, 0)
+    assert other.may_lock() and one.ask("test", "w", 0, 0) == "w 40 20"
+    other.unlocks()
+    print("locks: ranges: beside each other, overlapping, and in parts")
+
+
+def upgrades(client, other, relay):
+    """A shared lock becomes exclusive: at once where nobody else has one, and else after that."""
+    one, two = client.processes[:2]
+    assert one.locks("r", 0, 100) and one.locks("w", 0, 100) and not other.locks(0, 100, exclusive=False)
+    assert one.locks("r", 0, 100) and other.locks(0, 100, exclusive=False) and not one.locks("w", 0, 100)
+    one.waits("w", 0, 100, two)
+    assert not other.locks(50, 1), "what it has stays"
+    is_called(one, relay, "an upgrade that was waited for", other.unlocks)
+    assert not other.locks(50, 1, exclusive=False) and one.locks("u", 0, 0) and other.may_lock()
+
+
+def downgrades(client, other, called, relay):
+    """An exclusive lock becomes shared, which wakes those who wait for a shared one."""
+    one, two = client.processes[:2]
+    assert one.locks("w", 0, 100)
+    other.waits(0, 100, exclusive=False)
+    assert one.locks("r", 0, 100)
+    called.next()
+    assert two.ask("test", "w", 0, 0) == "r 0 100" and not one.locks("w", 0, 100)
+    assert one.locks("u", 0, 0) and other.locks(0, 100)
+    one.waits("r", 0, 100, two)
+    is_called(one, relay, "a shared lock, by a downgrade", lambda: other.locks(0, 100, exclusive=False))
+    assert not other.locks(0, 100) and one.locks("u", 0, 0)
+    other.unlocks()
+
+
+def waits(client, other, called, relay):
+    """A process that waits gets its lock by a call, in turn with another host."""
+    one, two = client.processes[:2]
+    assert other.locks(0, 0)
+    for length in (10, 100, 0):
+        one.waits("w", 0, length, two)
+        is_called(one, relay, "a lock that was waited for", other.unlocks)
+        assert not other.locks(9, 1)
+        other.waits(0, 0)
+        assert one.locks("u", 0, 0)
+        called.next()
+    other.unlocks()
+    assert other.may_lock()
+
+
+def is_killed(client, other, third):
+    """Nothing is left of a process that is killed as it waits."""
+    one, *_, killed = client.processes
+    assert other.locks(0, 100)
+    killed.waits("w", 0, 100, one)
+    assert one.ask("kill", killed.number) == "done" and killed.hear() == ""
+    other.unlocks()
+    assert third.locks(0, 100), "another host gets the lock"
+    third.unlocks()
+    assert other.may_lock() and one.ask("test", "w", 0, 0) == "free", "no lock stays"
+    print("locks: killed: nothing is left of a process that waited")
+
+
+def is_late(client, other, silent, relay):
+    """A GRANTED that is late comes to a client that has asked again meanwhile and works under its lock."""
+    one, two = client.processes[:2]
+    assert other.locks(0, 200)
+    silent.waits(0, 100)
+    since = one.waits("w", 100, 100, two)
+    heard = len(relay.answers)
+    time.sleep(since + ASKS_AGAIN - BEFORE - time.monotonic())
+    begin = time.monotonic()
+    other.unlocks()
+    assert one.hear() == "done" and len(relay.answers) == heard, "it has its lock before it is called back"
+    print(f"locks: late: the client asked again and had its lock after {time.monotonic() - begin:.1f} s")
+    while time.monotonic() < begin + LATE:
+        said = [status for _, status in relay.answers[heard:]]
+        assert not other.locks(100, 100), f"the client works under a lock and another has it too: it said {said}"
+        time.sleep(0.02)
+    assert said == [IS_DENIED], f"the client waits for no lock any more: it said {said}"
+    assert one.locks("u", 100, 100) and other.locks(100, 100)
+    other.unlocks()
+    silent.unlocks()
+    assert other.may_lock()
+    print("locks: late: the client denied a GRANTED, and had its lock until it gave this back")
+
+
+def tell(said):
+    """What the client said, and all of its last words where it did not come to its end."""
+    said.seek(0)
+    told = said.read()
+    lines = re.findall(r"linux: .*\w", told)
+    print("\n".join(lines))
+    if not lines or lines[-1] != "linux: the end":
+        print(told[-1000:])
 
 
 def prepare(folder):
-    """The machine's root file system, with what a client that locks has."""
+    """The machine's root file system, with what a client that locks has, and its disk."""
     linux.fetch(folder, "rpcbind", "libwrap0")
     root = folder / "root"
     linux.build(folder, root, "linux_locks.sh", PROGRAMS)
-    shutil.copy("/usr/bin/flock", root / "bin/flock")
-    for name in ("run/rpcbind", "var/lib/nfs/sm", "var/lib/nfs/sm.bak", "etc"):
+    words = ["gcc", "-std=gnu11", "-O2", "-static", "-o", root / "bin/linux_locks", linux.HERE / "linux_locks.c"]
+    if subprocess.run(words).returncode != 0:
+        sys.exit("linux_locks: gcc does not compile linux_locks.c")
+    for name in ("run/rpcbind", "var/lib/nfs", "etc"):
         (root / name).mkdir(parents=True, exist_ok=True)
     (root / "etc/passwd").write_text(USERS)
     (root / "etc/group").write_text("root:x:0:\n_rpc:x:100:\n")
@@ -108,6 +316,20 @@ def prepare(folder):
     (root / "etc/hosts").write_text("127.0.0.1 localhost\n10.0.2.15 guest\n")
     (root / "etc/nsswitch.conf").write_text("passwd: files\ngroup: files\nhosts: files\n")
     linux.archive(root, folder / "root.cpio")
+    linux.run("mke2fs", "-q", "-t", "ext4", folder / "disk", "8M")
+
+
+def comes_back(client, other, start, lockd_run):
+    """The client's locks stay when it is switched off, and are free once it has started anew. The new run of it."""
+    assert client.processes[0].locks("w", 0, 100)
+    client.switch_off()
+    assert not other.may_lock(), "nobody has told that it is gone"
+    client = start()
+    assert "the locks of guest are freed" in lockd_run.hear("has started anew")
+    assert other.may_lock(), "its old locks are free"
+    assert client.processes[0].locks("w", 0, 100) and not other.locks(99, 1), "it locks anew"
+    print("locks: switched off: the client's locks were free once it came back and told so")
+    return client
 
 
 def main():
@@ -116,28 +338,42 @@ def main():
     program = words.parse_args().program
     first = lockd.free_ports(3)
     mapper, manager = first + 1, first + 2
-    ports = ((mapper, 111), (manager, manager))
-    handed_on = "".join(f",hostfwd=tcp:127.0.0.1:{ours}-:{theirs}" for ours, theirs in ports)
-    callback = f"127.0.0.1=127.0.0.1:{first}"
-    with network.Server(program, "--callback", callback) as server, tempfile.TemporaryDirectory() as folder:
-        folder = pathlib.Path(folder)
+    called, relay, full = locking.Host(IS_GRANTED), Relay(first), Full()
+    places = ((HERE, relay), (OTHER, called), (SILENT, full))
+    callbacks = [f"--callback={address}={HERE}:{place.port}" for address, place in places]
+    with contextlib.ExitStack() as stack:
+        folder = pathlib.Path(stack.enter_context(tempfile.TemporaryDirectory()))
         prepare(folder)
-        options = ["--clients", "127.0.0.1", "--first-port", first, "--server", f"127.0.0.1:{server.port}"]
-        options += ["--listen", "127.0.0.1", "--client-mapper", mapper, "--mapper", "own"]
-        with lockd.Lockd(*options), open(folder / "said", "w+") as said:
-            guest = subprocess.Popen(linux.machine(folder, server.port, handed_on, nlm_port=manager), stdout=said)
-            try:
-                other = Other(server.port, guest)
-                start_anew(other, contend(other))
-                guest.wait(PATIENCE)
-            finally:
-                guest.kill()
-                guest.wait()
-                said.seek(0)
-                told = said.read()
-                lines = re.findall(r"linux: .*\w", told)
-                print("\n".join(lines))
-    assert lines and lines[-1] == "linux: the end", f"the client comes to its end: {told[-1000:]}"
+        said = stack.enter_context(open(folder / "said", "w+"))
+        stack.callback(tell, said)
+        server = stack.enter_context(network.Server(program, *callbacks))
+        mine = ["--clients", HERE, "--first-port", first, "--server", f"{HERE}:{server.port}", "--listen", HERE]
+        lockd_run = stack.enter_context(lockd.Lockd(*mine, "--client-mapper", mapper, "--mapper", "own"))
+        listener = stack.enter_context(socket.create_server((HERE, 0)))
+        listener.settimeout(1)
+        told = {"nlm_port": manager, "told_port": listener.getsockname()[1], "processes": PROCESSES}
+        handed_on = f",hostfwd=tcp:{HERE}:{mapper}-:111,hostfwd=tcp:{HERE}:{manager}-:{manager}"
+        machine = [*linux.machine(folder, server.port, handed_on, **told)]
+        machine += ["-drive", f"file={folder}/disk,if=virtio,format=raw"]
+
+        def start():
+            client = Client(machine, listener, said)
+            stack.callback(client.switch_off)
+            return client
+
+        other = Owner(server.port, OTHER, 1)
+        third = Owner(server.port, SILENT, 2, other.file)
+        client = start()
+        excludes(client, other)
+        shares(client, other)
+        divides(client, other)
+        upgrades(client, other, relay)
+        downgrades(client, other, called, relay)
+        waits(client, other, called, relay)
+        is_killed(client, other, third)
+        is_late(client, other, third, relay)
+        comes_back(client, other, start, lockd_run).end()
+    print("locks: the end")
 
 
 if __name__ == "__main__":

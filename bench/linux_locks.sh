@@ -1,6 +1,7 @@
 #!/bin/busybox sh
-# The first process of the machine that bench/linux_locks.py starts: mounts the export as a client that locks, and
-# locks. Its lock manager listens at $nlm_port. It and the other machine tell each other by files how far they are.
+# The first process of the machine that bench/linux_locks.py starts: mounts the export as a client that locks, and lets
+# linux_locks lock there as the other machine tells it, at $told_port. Its own lock manager listens at $nlm_port. What
+# rpc.statd keeps stays on a disk; when it starts it has sm-notify tell those whom it finds there.
 export PATH=/sbin:/bin
 /bin/busybox --install -s /bin
 /bin/busybox mount -t proc proc /proc
@@ -11,46 +12,24 @@ hostname guest
 ifconfig lo 127.0.0.1 up
 ifconfig eth0 10.0.2.15 netmask 255.255.255.0 up
 echo "$nlm_port" > /proc/sys/fs/nfs/nlm_tcpport
-sleep 1
-rpcbind
-rpc.statd --no-notify
-sleep 1
-pidof rpcbind > /dev/null || echo "rpcbind does not run"
-pidof rpc.statd > /dev/null || echo "rpc.statd does not run"
 
 say() { echo "linux: $*"; }
 fail() { say "failed: $*"; poweroff -f; }
-# Waits until the other machine has made this file.
-await() {
-    i=0
-    until [ -e "/mnt/$1" ]; do
-        i=$((i + 1))
-        [ $i -lt 600 ] || fail "nobody made $1"
-        sleep 0.1
-    done
-}
 
 say "$(uname -r)"
+sleep 1
+mount.linux -t ext4 /dev/vda /var/lib/nfs || fail "the disk"
+mkdir -p /var/lib/nfs/sm /var/lib/nfs/sm.bak
+rpcbind
+rpc.statd
+sleep 1
+pidof rpcbind > /dev/null || fail "rpcbind does not run"
+pidof rpc.statd > /dev/null || fail "rpc.statd does not run"
+
 # (10.0.2.2 is the loopback address of the machine that runs QEMU; its port mapper says where NFS and MOUNT are)
 mount.linux -t nfs -o vers=3,proto=tcp,lock,noac 10.0.2.2:/data /mnt || fail "mount"
 say "mounted with lock"
-: > /mnt/file
-
-flock -n /mnt/file true || fail "a free lock is not given"
-say "a lock that is free"
-flock /mnt/file sh -c ': > /mnt/held; while [ ! -e /mnt/seen ]; do sleep 0.1; done'
-say "a lock that the other machine saw"
-
-await taken
-flock -n /mnt/file true && fail "a lock that the other machine has is given"
-say "a lock that the other machine has is denied"
-: > /mnt/waits
-flock /mnt/file sh -c ': > /mnt/woken; while [ ! -e /mnt/counted ]; do sleep 0.1; done'
-say "a lock that was waited for"
-
-flock /mnt/file sh -c ': > /mnt/kept; while [ ! -e /mnt/gone ]; do sleep 0.1; done' &
-await again
-sm-notify -f
-await gone
+linux_locks /mnt/file "$told_port" "$processes" || fail "linux_locks"
+umount.linux /mnt || fail "umount"
 say "the end"
 poweroff -f

@@ -68,14 +68,18 @@ class Host:
                 stream = connection.makefile("rwb")
                 (mark,) = struct.unpack(">I", stream.read(4))
                 record = stream.read(mark & 0x7FFFFFFF)
-                (xid,) = struct.unpack_from(">I", record)
-                cookie = record[40:52]
-                answer = self.statuses[0] if len(self.statuses) == 1 else self.statuses.pop(0)
-                body = struct.pack(">6I", xid, 1, 0, 0, 0, 0) + cookie + struct.pack(">I", answer)
-                stream.write(struct.pack(">I", 0x80000000 | len(body)) + body)
+                reply = self.answer(record)
+                stream.write(struct.pack(">I", 0x80000000 | len(reply)) + reply)
                 stream.flush()
             self.calls.append(record)
             self.came.release()
+
+    def answer(self, record):
+        """The reply to a call."""
+        (xid,) = struct.unpack_from(">I", record)
+        cookie = record[40:52]
+        status = self.statuses[0] if len(self.statuses) == 1 else self.statuses.pop(0)
+        return struct.pack(">6I", xid, 1, 0, 0, 0, 0) + cookie + struct.pack(">I", status)
 
     def next(self):
         """The next call that came, once its answer was sent."""
