@@ -40,7 +40,7 @@ PROCESSES = 4
 PATIENCE = 600  # seconds for the machine to start, on a busy processor
 SOON = 1  # seconds in which a client is called back
 ASKS_AGAIN = 30  # seconds after which Linux asks again for a lock that it waits for
-BEFORE = 2.5  # so many seconds before that the lock is given back: half of those that a host is waited for
+BEFORE = 2  # so many seconds before that the lock is given back, where a host is waited for 5
 LATE = 10  # seconds in which a GRANTED comes that waits for another host
 PROGRAMS = ("sbin/rpcbind", "sbin/rpc.statd", "sbin/sm-notify")
 USERS = "root:x:0:0:root:/:/bin/sh\n_rpc:x:100:100::/run/rpcbind:/bin/false\nstatd:x:101:100::/var/lib/nfs:/bin/false\n"
@@ -81,28 +81,50 @@ class Process:
 
 
 class Client:
-    """A run of the machine, with its processes."""
+    """The machine, which is switched on and off, with its processes."""
 
-    def __init__(self, words, listener, said):
-        self.machine = subprocess.Popen(words, stdin=subprocess.DEVNULL, stdout=said)
-        self.begin = time.monotonic()
-        self.processes = [self.next_process(listener) for _ in range(PROCESSES)]
+    def __init__(self, folder, port, mapper, manager):
+        self.listener = socket.create_server((HERE, 0))
+        self.listener.settimeout(1)
+        told = {"nlm_port": manager, "told_port": self.listener.getsockname()[1], "processes": PROCESSES}
+        handed_on = f",hostfwd=tcp:{HERE}:{mapper}-:111,hostfwd=tcp:{HERE}:{manager}-:{manager}"
+        self.words = [*linux.machine(folder, port, handed_on, **told)]
+        self.words += ["-drive", f"file={folder}/disk,if=virtio,format=raw"]
+        self.said = open(folder / "said", "w+")
+        self.machine = None
 
-    def next_process(self, listener):
-        while self.machine.poll() is None and time.monotonic() < self.begin + PATIENCE:
+    def switch_on(self):
+        self.machine = subprocess.Popen(self.words, stdin=subprocess.DEVNULL, stdout=self.said)
+        end = time.monotonic() + PATIENCE
+        self.processes = [self.next_process(end) for _ in range(PROCESSES)]
+
+    def next_process(self, end):
+        while self.machine.poll() is None and time.monotonic() < end:
             with contextlib.suppress(TimeoutError):
-                return Process(listener.accept()[0])
+                return Process(self.listener.accept()[0])
         raise AssertionError("the client runs and mounts the export")
 
     def switch_off(self):
         self.machine.kill()
         self.machine.wait()
 
-    def end(self):
-        """It ends by itself."""
+    def shut_down(self):
+        """Its processes end, and it ends by itself."""
         for process in self.processes:
             process.connection.shutdown(socket.SHUT_RDWR)
         self.machine.wait(PATIENCE)
+
+    def __enter__(self):
+        return self
+
+    def __exit__(self, *error):
+        if self.machine:
+            self.switch_off()
+        self.said.seek(0)
+        said = self.said.read()
+        lines = re.findall(r"linux: .*\w", said)
+        print("\n".join(lines))
+        assert lines and lines[-1] == "linux: the end" or error[0], f"the client comes to its end: {said[-1000:]}"
 
 
 class Owner:
@@ -257,10 +279,11 @@ def is_killed(client, other, third):
     """Nothing is left of a process that is killed as it waits."""
     one, *_, killed = client.processes
     assert other.locks(0, 100)
+    assert killed.locks("w", 100, 100)
     killed.waits("w", 0, 100, one)
     assert one.ask("kill", killed.number) == "done" and killed.hear() == ""
     other.unlocks()
-    assert third.locks(0, 100), "another host gets the lock"
+    assert third.locks(0, 200), "another host gets what it waited for and what it had"
     third.unlocks()
     assert other.may_lock() and one.ask("test", "w", 0, 0) == "free", "no lock stays"
     print("locks: killed: nothing is left of a process that waited")
@@ -279,25 +302,31 @@ def is_late(client, other, silent, relay):
     assert one.hear() == "done" and len(relay.answers) == heard, "it has its lock before it is called back"
     print(f"locks: late: the client asked again and had its lock after {time.monotonic() - begin:.1f} s")
     while time.monotonic() < begin + LATE:
-        said = [status for _, status in relay.answers[heard:]]
-        assert not other.locks(100, 100), f"the client works under a lock and another has it too: it said {said}"
+        assert not other.locks(100, 100), f"another host has what the client works under: {relay.answers[heard:]}"
         time.sleep(0.02)
-    assert said == [IS_DENIED], f"the client waits for no lock any more: it said {said}"
+    [(came, status)] = relay.answers[heard:]
+    assert status == IS_DENIED, "the client waits for no lock any more"
     assert one.locks("u", 100, 100) and other.locks(100, 100)
     other.unlocks()
     silent.unlocks()
     assert other.may_lock()
-    print("locks: late: the client denied a GRANTED, and had its lock until it gave this back")
+    print(f"locks: late: called back after {came - begin:.1f} s it denied that, and had its lock until it was done")
 
 
-def tell(said):
-    """What the client said, and all of its last words where it did not come to its end."""
-    said.seek(0)
-    told = said.read()
-    lines = re.findall(r"linux: .*\w", told)
-    print("\n".join(lines))
-    if not lines or lines[-1] != "linux: the end":
-        print(told[-1000:])
+def comes_back(client, other, lockd_run):
+    """The client's locks stay when it is switched off. Once it comes back and tells so they are free, and what it
+    waited for is forgotten."""
+    one, two = client.processes[:2]
+    assert one.locks("w", 0, 100) and other.locks(100, 100)
+    two.waits("w", 100, 100, one)
+    client.switch_off()
+    assert not other.may_lock(), "nobody has told that it is gone"
+    client.switch_on()
+    assert "the locks of guest are freed" in lockd_run.hear("has started anew")
+    other.unlocks()
+    assert other.may_lock(), "neither what it had nor what it waited for is its own"
+    assert client.processes[0].locks("w", 0, 100) and not other.locks(99, 1), "it locks anew"
+    print("locks: switched off: the client's locks were free once it came back and told so")
 
 
 def prepare(folder):
@@ -319,19 +348,6 @@ def prepare(folder):
     linux.run("mke2fs", "-q", "-t", "ext4", folder / "disk", "8M")
 
 
-def comes_back(client, other, start, lockd_run):
-    """The client's locks stay when it is switched off, and are free once it has started anew. The new run of it."""
-    assert client.processes[0].locks("w", 0, 100)
-    client.switch_off()
-    assert not other.may_lock(), "nobody has told that it is gone"
-    client = start()
-    assert "the locks of guest are freed" in lockd_run.hear("has started anew")
-    assert other.may_lock(), "its old locks are free"
-    assert client.processes[0].locks("w", 0, 100) and not other.locks(99, 1), "it locks anew"
-    print("locks: switched off: the client's locks were free once it came back and told so")
-    return client
-
-
 def main():
     words = nfsd.parser(__doc__)
     words.add_argument("program", metavar="PROGRAM", nargs="?", default=nfsd.PROGRAM, help="the program (this one)")
@@ -341,39 +357,25 @@ def main():
     called, relay, full = locking.Host(IS_GRANTED), Relay(first), Full()
     places = ((HERE, relay), (OTHER, called), (SILENT, full))
     callbacks = [f"--callback={address}={HERE}:{place.port}" for address, place in places]
-    with contextlib.ExitStack() as stack:
-        folder = pathlib.Path(stack.enter_context(tempfile.TemporaryDirectory()))
+    with tempfile.TemporaryDirectory() as folder, network.Server(program, *callbacks) as server:
+        folder = pathlib.Path(folder)
         prepare(folder)
-        said = stack.enter_context(open(folder / "said", "w+"))
-        stack.callback(tell, said)
-        server = stack.enter_context(network.Server(program, *callbacks))
         mine = ["--clients", HERE, "--first-port", first, "--server", f"{HERE}:{server.port}", "--listen", HERE]
-        lockd_run = stack.enter_context(lockd.Lockd(*mine, "--client-mapper", mapper, "--mapper", "own"))
-        listener = stack.enter_context(socket.create_server((HERE, 0)))
-        listener.settimeout(1)
-        told = {"nlm_port": manager, "told_port": listener.getsockname()[1], "processes": PROCESSES}
-        handed_on = f",hostfwd=tcp:{HERE}:{mapper}-:111,hostfwd=tcp:{HERE}:{manager}-:{manager}"
-        machine = [*linux.machine(folder, server.port, handed_on, **told)]
-        machine += ["-drive", f"file={folder}/disk,if=virtio,format=raw"]
-
-        def start():
-            client = Client(machine, listener, said)
-            stack.callback(client.switch_off)
-            return client
-
-        other = Owner(server.port, OTHER, 1)
-        third = Owner(server.port, SILENT, 2, other.file)
-        client = start()
-        excludes(client, other)
-        shares(client, other)
-        divides(client, other)
-        upgrades(client, other, relay)
-        downgrades(client, other, called, relay)
-        waits(client, other, called, relay)
-        is_killed(client, other, third)
-        is_late(client, other, third, relay)
-        comes_back(client, other, start, lockd_run).end()
-    print("locks: the end")
+        mine += ["--client-mapper", mapper, "--mapper", "own"]
+        with lockd.Lockd(*mine) as lockd_run, Client(folder, server.port, mapper, manager) as client:
+            other = Owner(server.port, OTHER, 1)
+            third = Owner(server.port, SILENT, 2, other.file)
+            client.switch_on()
+            excludes(client, other)
+            shares(client, other)
+            divides(client, other)
+            upgrades(client, other, relay)
+            downgrades(client, other, called, relay)
+            waits(client, other, called, relay)
+            is_killed(client, other, third)
+            is_late(client, other, third, relay)
+            comes_back(client, other, lockd_run)
+            client.shut_down()
 
 
 if __name__ == "__main__":
