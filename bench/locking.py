@@ -78,8 +78,8 @@ class Host:
         """The reply to a call."""
         (xid,) = struct.unpack_from(">I", record)
         cookie = record[40:52]
-        status = self.statuses[0] if len(self.statuses) == 1 else self.statuses.pop(0)
-        return struct.pack(">6I", xid, 1, 0, 0, 0, 0) + cookie + struct.pack(">I", status)
+        answer = self.statuses[0] if len(self.statuses) == 1 else self.statuses.pop(0)
+        return struct.pack(">6I", xid, 1, 0, 0, 0, 0) + cookie + struct.pack(">I", answer)
 
     def next(self):
         """The next call that came, once its answer was sent."""
