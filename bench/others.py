@@ -13,7 +13,7 @@ Names that are chosen to lie in one part of a directory are not among the uses: 
 own hash. Other work on the machine makes all of it dearer: compare what stands in one line. A dash stands where no call
 of the other client was in progress.
 
-usage: bench/others.py [--only WORD] [--quick] [--seconds S] [--patience S] [PROGRAM [OTHER]]
+usage: bench/others.py [--only WORD] [--quick] [--rounds N] [--seconds S] [--patience S] [PROGRAM [OTHER]]
 """
 import collections
 import concurrent.futures
@@ -470,15 +470,16 @@ def milliseconds(figure):
 
 def print_line(line, cells, notes=()):
     """A line of the table: three cells for each program."""
+    cells = list(cells)
     groups = [" ".join(f"{cell:>9}" for cell in cells[first : first + 3]) for first in range(0, len(cells), 3)]
     print("   ".join([f"{line:48}", *groups, *notes]), flush=True)
 
 
-def options():
-    """What the command line says."""
-    words = nfsd.parser(__doc__)
+def options(words):
+    """What the command line says, of which a script's own parser may take more."""
     words.add_argument("--only", metavar="WORD", default="", help="only those uses in whose lines this word is")
     words.add_argument("--quick", action="store_true", help="with a tenth of the sizes, for a try")
+    words.add_argument("--rounds", metavar="N", type=int, default=1, help="how often each use is played (1)")
     words.add_argument("--seconds", metavar="S", type=float, help="how long calls are made again (1; quick: 0.3)")
     words.add_argument("--patience", metavar="S", type=float, default=60, help="how long a use is made at most (60)")
     words.add_argument("programs", metavar="PROGRAM", nargs="*", help="this one, and another (the proved one alone)")
@@ -487,13 +488,19 @@ def options():
     given.seconds = given.seconds or (0.3 if given.quick else 1.0)
     if len(given.programs) > 2:
         words.error("there are two programs at most")
-    if given.seconds <= 0 or given.patience <= 0:
-        words.error("a time has no length")
+    if given.seconds <= 0 or given.patience <= 0 or given.rounds < 1:
+        words.error("a time has no length, or there is no round")
     return given
 
 
-def main():
-    given = options()
+def over(rounds):
+    """The cells of a line over all rounds: medians, and the longest of the longest waits."""
+    calls, medians, longest = zip(*(tally.cells() for tally in rounds))
+    return [statistics.median(calls), statistics.median(medians), max(longest)]
+
+
+def measure(given, uses):
+    """Lets the programs take turns at the uses that are chosen, and prints the table."""
     chosen = [use for use in uses(10 if given.quick else 1) if any(given.only in line for line in use.lines)]
     if not chosen:
         sys.exit(f"no use has {given.only} in its line")
@@ -503,12 +510,14 @@ def main():
     letters = "AB"[: len(given.programs)]
     print_line("", [f"{letter}: {cell}" for letter in letters for cell in ("a call", "waits", "most")])
     for use in chosen:
-        played = [use.tallies(program, given) for program in given.programs]
+        rounds = [[use.tallies(program, given) for program in given.programs] for _ in range(given.rounds)]
+        played = list(zip(*rounds))
         for place, line in enumerate(use.lines):
-            cells = [milliseconds(cell) for tallies, _ in played for cell in tallies[place].cells()]
-            notes = [f"({letter}: {'; '.join(said)})" for letter, (_, said) in zip("AB", played) if said]
-            print_line(line, cells, notes)
+            cells = [over([tallies[place] for tallies, _ in of_one]) for of_one in played]
+            said = [sorted({note for _, notes in of_one for note in notes}) for of_one in played]
+            notes = [f"({letter}: {'; '.join(of_one)})" for letter, of_one in zip("AB", said) if of_one]
+            print_line(line, map(milliseconds, itertools.chain(*cells)), notes)
 
 
 if __name__ == "__main__":
-    main()
+    measure(options(nfsd.parser(__doc__)), uses)
