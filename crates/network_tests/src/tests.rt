@@ -9,6 +9,7 @@ mod answers;
 mod callbacks;
 mod clients;
 mod eras;
+mod hosts;
 mod operators;
 mod sockets;
 

@@ -24,10 +24,10 @@ const HANDLE_AT: usize = 40;
 const HANDLE_SIZE: usize = 32;
 
 /// Words before a handle, words behind it, and the answer, with the marks of both.
-type LockExchange = (&'static [u32], &'static [u32], &'static [u32]);
+pub(super) type LockExchange = (&'static [u32], &'static [u32], &'static [u32]);
 
 /// LOCK of the whole file by c1, exclusive, which does not wait: GRANTED.
-const LOCK: LockExchange = (
+pub(super) const LOCK: LockExchange = (
     &[
         0x80000088, 2, 0, 2, 100021, 4, 2, 0, 0, 0, 0, 4, 0xc00c1e00, 0, 1, 2, 0x63310000, 32,
     ],
@@ -45,7 +45,7 @@ const WAIT: LockExchange = (
 );
 
 /// UNLOCK of it by c1: GRANTED.
-const UNLOCK: LockExchange = (
+pub(super) const UNLOCK: LockExchange = (
     &[
         0x80000078, 4, 0, 2, 100021, 4, 4, 0, 0, 0, 0, 4, 0xc00c1e00, 2, 0x63310000, 32,
     ],
@@ -91,15 +91,11 @@ const FREE: LockExchange = (
     &[0x80000024, 8, 1, 0, 0, 0, 0, 4, 0xc00c1e00, 0],
 );
 
-/// The first call of the server's own, before and behind its cookie: GRANTED of what c2 asked for.
-const CALL: [u32; 12] = [0x80000080, 1, 0, 2, 100021, 4, 5, 0, 0, 0, 0, 8];
-
+/// A call of the server's own: GRANTED of an exclusive lock of c2's, behind the cookie and before the handle.
 const CALL_LOCK: [u32; 4] = [1, 2, 0x63320000, 32];
 
-/// Its answer before the cookie, and which status may stand behind it.
-const ANSWER: [u32; 8] = [0x80000028, 1, 1, 0, 0, 0, 0, 8];
-
-const GRANTED: u32 = 0;
+/// What a host may answer.
+pub(super) const GRANTED: u32 = 0;
 
 const DENIED: u32 = 1;
 
@@ -111,7 +107,12 @@ const COOKIE_SIZE: usize = 8;
 const CALL_SIZE: usize = 132;
 
 /// Words, bytes, and words.
-fn around(alloc: Global, front: &[u32], bytes: &[u8], back: &[u32]) -> Result<Vec<u8>, AllocError> {
+pub(super) fn around(
+    alloc: Global,
+    front: &[u32],
+    bytes: &[u8],
+    back: &[u32],
+) -> Result<Vec<u8>, AllocError> {
     let mut all = spelled(alloc, front)?;
     all.extend_from_slice(bytes)?;
     add_words(&mut all, back)?;
@@ -134,7 +135,7 @@ fn send_around(
 }
 
 /// Whether a call of this file has its answer.
-fn is_answered(
+pub(super) fn is_answered(
     alloc: Global,
     stream: &TcpStream,
     file: &[u8],
@@ -145,7 +146,7 @@ fn is_answered(
 }
 
 /// The handle of a new file.
-fn create(alloc: Global, stream: &TcpStream) -> io::Result<Vec<u8>> {
+pub(super) fn create(alloc: Global, stream: &TcpStream) -> io::Result<Vec<u8>> {
     send(alloc, stream, &CREATE)?;
     let told = next(alloc, stream)?;
     let handle = told.get(HANDLE_AT..HANDLE_AT + HANDLE_SIZE).unwrap_or(&[]);
@@ -169,26 +170,44 @@ fn is_given_on(
 /// Whether the server calls back, that it granted what c2 asked for of this file. It is answered with this status.
 fn is_called(alloc: Global, listener: &TcpListener, file: &[u8], status: u32) -> io::Result<bool> {
     let (stream, _) = listener.accept()?;
-    let is_heard = is_heard(alloc, &stream, file, status);
+    let lock = WAIT.1.get(..7).unwrap_or(&[]);
+    let is_heard = is_heard(alloc, &stream, file, 1, lock, status);
     drop(stream);
     is_heard
 }
 
-/// Whether that is what comes over this connection. It is answered with this status.
-fn is_heard(alloc: Global, stream: &TcpStream, file: &[u8], status: u32) -> io::Result<bool> {
+/// Whether the server's call with this number comes over this connection: that it granted this lock, whose words behind
+/// the handle are given. It is answered with this status.
+pub(super) fn is_heard(
+    alloc: Global,
+    stream: &TcpStream,
+    file: &[u8],
+    number: u32,
+    lock: &[u32],
+    status: u32,
+) -> io::Result<bool> {
     let mut told = [0u8; CALL_SIZE];
     let mut reading = stream;
     reading.read_exact(&mut told)?;
     let cookie = told.get(COOKIE_AT..COOKIE_AT + COOKIE_SIZE).unwrap_or(&[]);
-    send_around(alloc, stream, &ANSWER, cookie, &[status])?;
-    Ok(is_call(alloc, &told, cookie, file)?)
+    let answer = [0x80000028, number, 1, 0, 0, 0, 0, 8];
+    send_around(alloc, stream, &answer, cookie, &[status])?;
+    Ok(is_call(alloc, &told, cookie, file, number, lock)?)
 }
 
-/// Whether this is the call that grants what c2 asked for, with this cookie.
-fn is_call(alloc: Global, told: &[u8], cookie: &[u8], file: &[u8]) -> Result<bool, AllocError> {
-    let mut call = around(alloc, &CALL, cookie, &CALL_LOCK)?;
+/// Whether this is that call, with this cookie.
+fn is_call(
+    alloc: Global,
+    told: &[u8],
+    cookie: &[u8],
+    file: &[u8],
+    number: u32,
+    lock: &[u32],
+) -> Result<bool, AllocError> {
+    let front = [0x80000080, number, 0, 2, 100021, 4, 5, 0, 0, 0, 0, 8];
+    let mut call = around(alloc, &front, cookie, &CALL_LOCK)?;
     call.extend_from_slice(file)?;
-    add_words(&mut call, WAIT.1.get(..7).unwrap_or(&[]))?;
+    add_words(&mut call, lock)?;
     Ok(told == call.as_slice())
 }
 

@@ -1,18 +1,20 @@
 //! What clients do.
 
 use crate::tests::callbacks::is_called_back;
+use crate::tests::hosts::{are_called_back, is_passed_over};
 use crate::tests::operators::is_operated;
 use std::alloc::{AllocError, Global};
 use std::io;
 use std::io::{Read, Write};
 use std::net::{Net, Shutdown, SocketAddr, TcpListener, TcpStream, UdpSocket};
+use std::rt::Clock;
 use std::time::Duration;
 
 /// How long a client waits for an answer, in seconds.
-const PATIENCE: u64 = 20;
+pub(super) const PATIENCE: u64 = 20;
 
 /// The most bytes of an answer.
-const MOST: usize = 512;
+pub(super) const MOST: usize = 512;
 
 /// A word of an answer over a connection that may be any: RFC 1813 leaves open which number and generation a new object
 /// has.
@@ -41,13 +43,17 @@ pub(super) enum Visit {
     /// A lock that is given back while another caller waits for it; that one is called back here, and answers with this
     /// status.
     Called(TcpListener, u32),
+    /// Two hosts that are called back here and one that is not wait for bytes of a file, and each is told of its own.
+    Hosts(TcpListener, TcpListener),
+    /// A host that can't be reached here at first, and one that is called back here, wait for bytes of a file.
+    PassedOver(SocketAddr, TcpListener),
     /// An operator, who takes a connection here, replaces the exports.
     Operated(SocketAddr),
 }
 
 impl Visit {
     /// Whether all is answered as it should be.
-    pub(super) fn is_well<R: AllocGlobal + Net<Listener = TcpListener, Stream = TcpStream>>(
+    pub(super) fn is_well<R: AllocGlobal + Clock + Net<Listener = TcpListener, Stream = TcpStream>>(
         self,
         rt: &R,
         tcp: Option<SocketAddr>,
@@ -64,6 +70,8 @@ impl Visit {
             Visit::Closed(exchange, words) => open_beside(rt, tcp, exchange, words, false),
             Visit::Ended(exchange, words) => open_beside(rt, tcp, exchange, words, true),
             Visit::Called(listener, status) => is_called_back(rt, tcp, &listener, status),
+            Visit::Hosts(second, third) => are_called_back(rt, tcp, udp, &second, &third),
+            Visit::PassedOver(second, third) => is_passed_over(rt, tcp, udp, second, &third),
             Visit::Operated(operator) => is_operated(rt, tcp, operator),
         };
         well.unwrap_or(false)
