@@ -127,7 +127,7 @@ class Peer:
 
     def __init__(self, server, use, given):
         self.server, self.given = server, given
-        self.connection = network.Connection(server.port)
+        self.connection = network.Connection(server.port, patience=max(60, given.patience))
         self.xids = itertools.count(1)
         self.notes = []
         self.orders, other_end = multiprocessing.Pipe()
