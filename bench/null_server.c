@@ -1,4 +1,4 @@
-/* null_server: answers each call of NFS 3 and MOUNT at once, with a constant of the right size.
+/* null_server: answers each call of NFS 3, MOUNT and NLM at once, with a constant of the right size.
  *
  * There is a thread for each connection, and no file, no state and no look at what is asked beyond its numbers. So it
  * shows what the loopback interface, the kernel and the load generator allow at most. It listens on a port of the
@@ -178,6 +178,8 @@ static void answer(struct reader *call, struct writer *writer)
         put_u32(writer, 0);
     if (program == PROGRAM_NFS) {
         put_results(writer, procedure, call);
+    } else if (program == PROGRAM_NLM) {
+        put_u32(writer, 0); /* granted: the word before is a cookie of no bytes */
     } else if (procedure == MOUNT_MNT) {
         put_handle(writer);
         put_u32(writer, 1);

@@ -58,6 +58,7 @@ WORKLOADS = {
     "create_remove": "CREATE and REMOVE",
     "rename": "RENAME",
     "readdirplus": "READDIRPLUS, a page",
+    "lock": "LOCK and UNLOCK",
     "build": "a build's mix",
 }
 THIS, OTHER, NOTHING = "this", "other", "nothing"

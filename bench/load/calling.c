@@ -22,7 +22,7 @@ void end_call(const struct writer *writer, uint8_t *begin, uint32_t xid, enum pr
     put_u32(&header, RPC_CALL);
     put_u32(&header, RPC_VERSION);
     put_u32(&header, program);
-    put_u32(&header, PROGRAM_VERSION);
+    put_u32(&header, program == PROGRAM_NLM ? NLM_VERSION : PROGRAM_VERSION);
     put_u32(&header, procedure);
     put_u32(&header, AUTH_SYS);
     put_u32(&header, CREDENTIAL);

@@ -32,7 +32,8 @@ static const char usage[] =
     "  --server PID      the process whose processor time is told\n"
     "  --beside          another client calls meanwhile, one call after the other\n"
     "  --unchecked       for a server that does nothing: its replies need only the right form\n"
-    "Workloads: getattr access lookup setattr read4k read64k write4k write64k create_remove rename readdirplus build\n";
+    "Workloads: getattr access lookup setattr read4k read64k write4k write64k create_remove rename readdirplus\n"
+    "  lock build\n";
 
 void fail(const char *format, ...)
 {

@@ -1,4 +1,4 @@
-/* Numbers of NFS version 3 and MOUNT version 3 (RFC 1813) over ONC RPC with record marks (RFC 5531). */
+/* Numbers of NFS version 3, MOUNT version 3 and NLM version 4 (RFC 1813) over ONC RPC with record marks (RFC 5531). */
 #ifndef NFS_H
 #define NFS_H
 
@@ -8,9 +8,13 @@
 
 enum { RPC_CALL = 0, RPC_REPLY = 1, RPC_VERSION = 2, AUTH_NONE = 0, AUTH_SYS = 1 };
 
-enum program { PROGRAM_NFS = 100003, PROGRAM_MOUNT = 100005, PROGRAM_VERSION = 3 };
+enum program { PROGRAM_NFS = 100003, PROGRAM_MOUNT = 100005, PROGRAM_NLM = 100021 };
+
+enum { PROGRAM_VERSION = 3, NLM_VERSION = 4 };
 
 enum { MOUNT_MNT = 1 };
+
+enum { NLM_LOCK = 2, NLM_UNLOCK = 4 };
 
 enum procedure {
     NFS_NULL = 0,

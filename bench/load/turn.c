@@ -81,7 +81,7 @@ static void put_call(const struct worker *worker, struct connection *connection,
     begin_call(&writer);
     put_next(worker->workload, &connection->desk, slot, &writer);
     slot->xid += (uint32_t)all_slots();
-    end_call(&writer, begin, slot->xid, PROGRAM_NFS, slot->procedure);
+    end_call(&writer, begin, slot->xid, slot->program, slot->procedure);
     calls->end = (size_t)(writer.next - calls->bytes);
     slot->is_waiting = true;
     connection->in_progress++;

@@ -15,6 +15,7 @@ static const struct workload workloads[] = {
     { "create_remove", CREATE_REMOVE, 0 },
     { "rename", RENAME, 0 },
     { "readdirplus", LIST, 0 },
+    { "lock", LOCK, 0 },
     { "build", BUILD, 16384 },
 };
 
@@ -159,10 +160,40 @@ static void put_list(struct slot *slot, struct writer *call)
     put_u32(call, PAGE_BYTES);
 }
 
+/* A byte of a file, which no other connection locks, and its lock given back. */
+static void put_lock(struct desk *desk, struct slot *slot, struct writer *call)
+{
+    bool is_lock = !slot->is_locked;
+    char owner[MOST_NAME];
+
+    if (is_lock) {
+        slot->file = chance(&desk->random, FILES);
+        slot->offset = (uint64_t)desk->connection << 32 | chance(&desk->random, 1 << 20);
+    }
+    slot->program = PROGRAM_NLM;
+    slot->procedure = is_lock ? NLM_LOCK : NLM_UNLOCK;
+    slot->is_locked = is_lock;
+    name_of(owner, desk, 0);
+    put_text(call, owner); /* the cookie */
+    if (is_lock) {
+        put_u32(call, 0); /* it does not wait */
+        put_u32(call, 1); /* exclusive */
+    }
+    put_text(call, owner); /* the caller's name */
+    put_handle(call, &tree.files[slot->file]);
+    put_text(call, owner); /* the owner within it */
+    put_u32(call, 1);      /* the process */
+    put_u64(call, slot->offset);
+    put_u64(call, 1); /* one byte */
+    if (is_lock)
+        put_zeros(call, 8); /* no reclaim, and the state */
+}
+
 void put_next(const struct workload *workload, struct desk *desk, struct slot *slot, struct writer *call)
 {
     enum kind kind = workload->kind == BUILD ? of_build(desk) : workload->kind;
 
+    slot->program = PROGRAM_NFS;
     switch (kind) {
     case GETATTR:
         put_file(NFS_GETATTR, desk, slot, call);
@@ -203,6 +234,9 @@ void put_next(const struct workload *workload, struct desk *desk, struct slot *s
         break;
     case LIST:
         put_list(slot, call);
+        break;
+    case LOCK:
+        put_lock(desk, slot, call);
         break;
     case BUILD:
         break;
@@ -342,8 +376,22 @@ static void take_page(struct slot *slot, struct reader *reply)
     memset(slot->verifier, 0, VERIFIER);
 }
 
+/* The results of LOCK and of UNLOCK: each is granted. */
+static void take_granted(const struct slot *slot, struct reader *reply)
+{
+    uint32_t length;
+
+    take_opaque(reply, &length); /* the cookie */
+    take_ok(reply, slot->procedure);
+    take_end(reply, slot->procedure);
+}
+
 void take_reply(const struct workload *workload, struct desk *desk, struct slot *slot, struct reader *reply)
 {
+    if (slot->program == PROGRAM_NLM) {
+        take_granted(slot, reply);
+        return;
+    }
     take_ok(reply, slot->procedure);
     switch (slot->procedure) {
     case NFS_GETATTR:

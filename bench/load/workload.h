@@ -5,7 +5,9 @@
 #include "load.h"
 
 /* What a call does. */
-enum kind { GETATTR, ACCESS, LOOKUP, SETATTR, READ, WRITE, CREATE, CREATE_REMOVE, REMOVE_MADE, RENAME, LIST, BUILD };
+enum kind {
+    GETATTR, ACCESS, LOOKUP, SETATTR, READ, WRITE, CREATE, CREATE_REMOVE, REMOVE_MADE, RENAME, LIST, LOCK, BUILD
+};
 
 struct workload {
     const char *name;
@@ -20,9 +22,11 @@ const struct workload *find_workload(const char *name);
 struct slot {
     bool is_waiting; /* for its reply */
     uint32_t xid;
-    enum procedure procedure;
+    enum program program;
+    uint32_t procedure;
     uint32_t file; /* the number of the file that is called on */
     uint64_t offset;
+    bool is_locked; /* whether the byte there is; then it is given back next */
     uint32_t length;
     uint64_t name; /* the number of the name that CREATE, REMOVE and RENAME are about */
     enum { NOT_MADE, MADE, RENAMED } state; /* whether that is there, or the next one in its place */
