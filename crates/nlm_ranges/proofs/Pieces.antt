@@ -39,6 +39,13 @@ module _ (locks : List Lock) (i : ℕ) (lock : Lock) (inside : i < length locks)
       ap (flat_map f) next ∙ flat_map-append f (take i locks) (lock ∷ [])
       ∙ ap (λ ls. flat_map f (take i locks) ++ ls) (append-nil (f lock))
 
+-- ---- a test of the pieces
+pub any-joined : (p : Lock → Bool) (pieces : List (List Lock)) →
+    list_any (list_any p) pieces ≡ list_any p (joined pieces)
+any-joined p [] = refl
+any-joined p (piece ∷ pieces) =
+    ap (λ b. list_any p piece || b) (any-joined p pieces) ∙ sym (list_any-append p piece (joined pieces))
+
 -- ---- one more piece
 module _ (pieces : List (List Lock)) (i : ℕ) (piece : List Lock) (inside : i < length pieces)
     (at : piece ≡ get_or pieces i piece) where

@@ -1,14 +1,11 @@
 -- Requests one after the other, as they are kept.
 use Rattle.std.proofs.Common.{◌≡◌, ℕ, ◌+◌, ◌<◌, true, false, ◌||◌, Bool, cond, find, None, List, [], ◌∷◌, ◌++◌}
-use Rattle.std.proofs.Common.{Some, refl, sym, ◌∙◌, ap, subst, drop, get_or, length, map, slice_get, take}
-use Rattle.std.proofs.lemmas.List.{drop-map, length-map, map-append, map_more, take-append-drop, take-map}
+use Rattle.std.proofs.Common.{Some, refl, sym, ◌∙◌, ap, drop, get_or, length, map, take}
+use Rattle.std.proofs.lemmas.List.{map-append, map_more, take-append-drop}
 use Rattle.std.proofs.lemmas.List.Folds.{find-append}
-use Rattle.std.proofs.lemmas.Option.{slice_get-map, slice_get_read}
-use Rattle.std.specs.List.{AllByRecursion, AllZip, list_any}
-use Rattle.std.specs.Option.{option_map, option_or, unwrap_or}
-use Rattle.nfs_machine.specs.OneFile.{IsHeldUp}
-use Rattle.nfs_machine.specs.State.{Lock, Request}
-use Rattle.nlm_ranges.specs.Requests.{IsFirstFree}
+use Rattle.std.specs.List.{AllZip, list_any}
+use Rattle.std.specs.Option.{option_or}
+use Rattle.nfs_machine.specs.State.{Request}
 
 -- a test of what is kept
 pub any-kept : {X : Type 0} (f : X → Request) (p : Request → Bool) (xs : List X) →
@@ -23,15 +20,6 @@ copies-mapped f [] [] all = refl
 copies-mapped f [] (y ∷ ys) all = absurd all
 copies-mapped f (x ∷ xs) [] all = absurd all
 copies-mapped f (x ∷ xs) (y ∷ ys) all = λ i. all.0 i ∷ copies-mapped f xs ys all.1 i
-
--- all but one of what is kept
-pub one-left-out : {X : Type 0} (f : X → Request) (xs none first all : List X) (place : ℕ) → none ≡ [] →
-    map f first ≡ map f none ++ map f (take place xs) →
-    map f all ≡ map f first ++ map f (drop (place + 1) xs) →
-    map f all ≡ take place (map f xs) ++ drop (place + 1) (map f xs)
-one-left-out f xs none first all place empty one two =
-    two ∙ (λ i. (one ∙ ap (λ rs. map f rs ++ map f (take place xs)) empty ∙ sym (take-map f place xs)) i
-    ++ sym (drop-map f (place + 1) xs) i)
 
 -- none is found where none passes
 pub none-found : (p : Request → Bool) (rs : List Request) → list_any p rs ≡ false → find p rs ≡ None
@@ -58,14 +46,3 @@ module _ {X : Type 0} (f : X → Request) (xs : List X) (i : ℕ) (x : X) (insid
       ∙ ap (λ o. option_or o (find p behind))
       (ap (find p) next-mapped ∙ find-append p (map f (take i xs)) (f x ∷ [])
       ∙ (λ k. option_or (none-found p (map f (take i xs)) before k) (cond (here k) (Some (f x)) None)))
-
-  pub at-mapped : slice_get (map f xs) i ≡ Some (f x)
-  at-mapped = slice_get-map f xs i ∙ ap (option_map f) (slice_get_read xs (length xs) i x refl inside at)
-
-  pub first-free : (locks : List Lock) → AllByRecursion (IsHeldUp locks) (map f (take i xs)) →
-      (IsHeldUp locks (f x) → ⊥) → IsFirstFree locks (map f xs) i
-  first-free locks all free = record {
-    within = subst (λ n. i < n) (sym (length-map xs f)) inside;
-    held_up = subst (AllByRecursion (IsHeldUp locks)) (sym (take-map f i xs)) all;
-    free = λ r there held. free (subst (IsHeldUp locks) (ap (λ o. unwrap_or o r) (sym there ∙ at-mapped)) held);
-  }

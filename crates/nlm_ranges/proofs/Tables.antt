@@ -1,12 +1,13 @@
 -- Tables of locks: what stands in the way, and that changes leave what may be held.
 use Rattle.std.proofs.Common.{◌≡◌, ◌==◌, ℕ, ◌+◌, ◌<◌, ◌≤◌, Bool, true, false, not, ◌&&◌, ◌||◌, cond}
-use Rattle.std.proofs.Common.{List, [], ◌∷◌, ◌++◌, IfNone, Option, Some, None, filter, nat_le, length}
+use Rattle.std.proofs.Common.{List, [], ◌∷◌, ◌++◌, IfNone, Option, Some, None, filter, find, nat_le, length}
 use Rattle.std.proofs.Common.{refl, sym, ◌∙◌, ap, subst, arith, append_assoc, length-append}
-use Rattle.std.proofs.lemmas.Bool.{and_parts, leb-false, leb-true}
+use Rattle.std.proofs.lemmas.Bool.{and_parts, le-leb, leb-false, leb-true, or_parts}
 use Rattle.std.proofs.lemmas.List.Elements.{All-contains, All-from_recursion, filter-append}
 use Rattle.std.proofs.lemmas.List.Folds.{list_any-append}
 use Rattle.std.specs.Cmp.{unsigned_Decides}
 use Rattle.std.specs.List.{Contains, list_any}
+use Rattle.std.specs.Option.{option_or}
 use Rattle.nfs_machine.specs.LockLaws.{stands_in_way}
 use Rattle.nfs_machine.specs.Locks.{AreListed, Conflicts, HasModes, IsRange, Mode, is_in, is_within, mode_at}
 use Rattle.nfs_machine.specs.Locks.{modes_conflict, modes_with, modes_without, same_owner}
@@ -14,15 +15,16 @@ use Rattle.nfs_machine.specs.LocksFormed.{NoLocksConflict}
 use Rattle.nfs_machine.specs.State.{Lock, Owner, Range}
 use Rattle.nfs_machine.proofs.Modes.{apart-with, apart-without, listed_locks_tell, one-owner}
 use Rattle.nfs_machine.proofs.Firm.{none-listed}
-use Rattle.nfs_machine.proofs.Modes.{owner-itself, unlocking-free}
-use Rattle.nlm_ranges.proofs.Asked.{not-zero}
+use Rattle.nfs_machine.proofs.Modes.{holds, mode_by, owner-itself, unlocking-free}
+use Rattle.nlm_ranges.proofs.Asked.{not-zero, owner-turned}
 use Rattle.nlm_ranges.proofs.Listed.{all-listed, listed-mode}
 use Rattle.nlm_ranges.proofs.Parted.{given-both, listed-first, listed-last}
 use Rattle.nlm_ranges.proofs.Pieces.{counted}
-use Rattle.nlm_ranges.proofs.Pointwise.{both, insert-all, insert-has, left-has, left-kept, offset-within, stays}
-use Rattle.nlm_ranges.proofs.Pointwise.{within}
-use Rattle.nlm_ranges.specs.Cutting.{Inserts}
-use Rattle.nlm_ranges.specs.Held.{AreAll, AreHeld, BeginsWith, EndsWith, IsGivenBack, IsHad, IsInTheWay, IsWidened}
+use Rattle.nlm_ranges.proofs.Pointwise.{both, insert-all, insert-has, left-has, left-kept, mode-append, offset-within}
+use Rattle.nlm_ranges.proofs.Pointwise.{stays, within}
+use Rattle.nlm_ranges.specs.Cutting.{Inserts, is_touched}
+use Rattle.nlm_ranges.specs.Held.{AreAll, AreHeld, BeginsWith, EndsWith, HasNoneAlone, IsGivenBack, IsHad, IsInTheWay}
+use Rattle.nlm_ranges.specs.Held.{IsWidened}
 
 -- ---- what stands in the way
 -- an offset of a range and of a lock
@@ -365,3 +367,41 @@ none-first [] b none = refl
 none-first (l ∷ a) b none =
     let zero : length (l ∷ a) ≡ 0 = (unsigned_Decides (length (l ∷ a)) 0).0 none in
     absurd (omega (arith, zero))
+
+-- ---- whether an owner has an offset exclusively
+untouched-mode : (r : Range) (x : ℕ) → is_within r.first r.last x ≡ true → (locks : List Lock) →
+    list_any (is_touched r) locks ≡ false → mode_at locks r.owner x ≡ None
+untouched-mode r x inside [] none = refl
+untouched-mode r x inside (l ∷ locks) none =
+    let parts = or_parts (is_touched r l) (list_any (is_touched r) locks) none in
+    elim (holds r.owner x l) as (λ b. holds r.owner x l ≡ b →
+    mode_by (cond b (Some l) (find (holds r.owner x) locks)) ≡ None) [
+      | false ↦ λ out. untouched-mode r x inside locks parts.1
+      | true ↦ λ has.
+          let own = and_parts (same_owner l.owner r.owner) (is_within l.first l.last x) has in
+          let w = offset-within l.first l.last x own.1 in
+          let v = offset-within r.first r.last x inside in
+          let low = w.low in
+          let high = w.high in
+          let from = v.low in
+          let to = v.high in
+          let touched : is_touched r l ≡ true = both _ _ (owner-turned r.owner l.owner ∙ own.0)
+          (both _ _ (le-leb l.first r.last (omega (arith, low, to)))
+          (le-leb r.first l.last (omega (arith, from, high)))) in
+          let never : true ≡ false = sym touched ∙ parts.0 in cc
+    ] refl
+
+none-shared : (o : Owner) (x : ℕ) (locks : List Lock) → AreAll false locks → mode_at locks o x ≡ Some true → ⊥
+none-shared o x [] all is = (let no : None ≡ Some true = is in cc)
+none-shared o x (l ∷ locks) all is =
+    elim (holds o x l) as (λ b. mode_by (cond b (Some l) (find (holds o x) locks)) ≡ Some true → ⊥) [
+      | false ↦ λ later. none-shared o x locks all.1 later
+      | true ↦ λ here. (let no : Some false ≡ Some true = ap Some (sym all.0) ∙ here in cc)
+    ] is
+
+pub none-alone : (exclusive shared : List Lock) (r : Range) → AreHeld exclusive shared →
+    list_any (is_touched r) exclusive ≡ false → HasNoneAlone (exclusive ++ shared) r
+none-alone exclusive shared r held none x inside is =
+    none-shared r.owner x shared held.shares
+    (sym (mode-append exclusive shared r.owner x
+    ∙ ap (λ m. option_or m (mode_at shared r.owner x)) (untouched-mode r x inside exclusive none)) ∙ is)

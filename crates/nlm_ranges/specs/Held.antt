@@ -79,3 +79,8 @@ pub record IsWidened (locks : List Lock) (r : Range) (mode : Mode) (wide : Range
   pub fits : wide.last < 2 ^ 64
   pub has : (offset : ℕ) → is_within wide.first wide.last offset ≡ true →
       is_within r.first r.last offset ≡ false → mode_at locks r.owner offset ≡ mode
+
+-- the range's owner has no offset of it exclusively
+abbrev pub HasNoneAlone : List Lock → Range → Type 0
+HasNoneAlone locks r = (offset : ℕ) → is_within r.first r.last offset ≡ true →
+    mode_at locks r.owner offset ≡ Some true → ⊥

@@ -11,7 +11,7 @@
 //! of a neighbour, as counts of their owners.
 //!
 //! Requests stand in order of arrival. What waits is tried behind each change of the locks (`OneFile::set`, `clear`,
-//! `settle`), from the earliest on and again after each grant.
+//! `settle`), each request once, and again only behind a grant that makes its owner's exclusive lock a shared one.
 //!
 //! Files with the same number modulo 64 share a `LockBucket`, in which those with the same number modulo 4,096 share a
 //! part.

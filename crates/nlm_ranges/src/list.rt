@@ -6,7 +6,7 @@ ghost use Rattle.std.specs.Prelude.{Contains, IfNone, IfOk, IfSome, OnOk};
 ghost use Rattle.std.specs.List.{flat_map, list_any};
 ghost use Rattle.nfs_machine.specs.LockLaws.{stands_in_way};
 ghost use Rattle.nfs_machine.specs.Locks.{is_in};
-ghost use Rattle.nlm_ranges.specs.Cutting.{Inserts, cut, is_of_caller, joined};
+ghost use Rattle.nlm_ranges.specs.Cutting.{Inserts, cut, is_of_caller, is_touched, joined};
 ghost use Rattle.nlm_ranges.specs.Held.{GoesOn, IsGivenBack, Precedes};
 
 use crate::held::HeldLock;
@@ -95,6 +95,13 @@ impl LockList {
             return None;
         }
         self.at(range, last + 1)
+    }
+
+    /// Whether a lock of the range's owner has an offset of the range.
+    pub(crate) fn is_touched(&self, range: &LockRange<'_>) -> bool
+        ensures { result ≡ list_any (is_touched range.now) self.now }
+    {
+        any_touched(&self.pieces, range)
     }
 
     /// What is left where the range's owner gives the range back. What a lock has behind the range is listed anew, so
@@ -187,6 +194,13 @@ fn first_at<'a>(pieces: &'a [Piece], range: &LockRange<'_>, offset: u64) -> Opti
         }
     }
     None
+}
+
+/// Whether a piece has a lock of the range's owner that has an offset of the range.
+fn any_touched(pieces: &[Piece], range: &LockRange<'_>) -> bool
+    ensures { result ≡ list_any (list_any (is_touched range.now)) pieces.now }
+{
+    pieces.iter().any(|piece| piece.is_touched(range))
 }
 
 /// What is left of the pieces where the range's owner gives the range back.

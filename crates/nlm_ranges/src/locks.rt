@@ -1,10 +1,10 @@
 //! The locks that are held of a file.
 
-ghost use Rattle.std.specs.Prelude.{◌≡◌, ◌==◌, [], length, None, Some, Contains, IfNone, IfOk, IfSome};
+ghost use Rattle.std.specs.Prelude.{◌≡◌, ◌==◌, [], false, length, None, Some, Contains, IfNone, IfOk, IfSome};
 ghost use Rattle.nfs_machine.specs.Locks.{AreListed, Conflicts, HasModes, modes_with, modes_without};
 ghost use Rattle.nfs_machine.specs.LocksFormed.{NoLocksConflict};
 ghost use Rattle.nfs_machine.specs.State.{Lock};
-ghost use Rattle.nlm_ranges.specs.Held.{AreAll, BeginsWith, EndsWith, IsInTheWay, IsWidened};
+ghost use Rattle.nlm_ranges.specs.Held.{AreAll, BeginsWith, EndsWith, HasNoneAlone, IsInTheWay, IsWidened};
 
 use crate::held::HeldLock;
 use crate::iter::{Locks, are_same};
@@ -78,6 +78,13 @@ impl LockTable {
             return None;
         }
         self.shared.in_way(range, exclusive)
+    }
+
+    /// Whether the range's owner has an offset of it exclusively.
+    pub(crate) fn has_exclusive(&self, range: &LockRange<'_>) -> bool
+        ensures { result ≡ false → HasNoneAlone self.now range.now }
+    {
+        self.exclusive.is_touched(range)
     }
 
     /// A table where the range's owner has it in this mode, exclusive or shared.

@@ -1,15 +1,12 @@
 //! Requests in order of arrival.
 
-ghost use Rattle.std.specs.Prelude.{◌≡◌, ◌==◌, ◌<◌, ◌+◌, ◌++◌, ◌∷◌, [], drop, find, length};
-ghost use Rattle.std.specs.Prelude.{map, take};
-ghost use Rattle.std.specs.Prelude.{IfNone, IfOk, IfSome, OnOk, Some, false, slice_get, true};
+ghost use Rattle.std.specs.Prelude.{◌≡◌, ◌==◌, ◌++◌, ◌∷◌, [], find, length, map};
+ghost use Rattle.std.specs.Prelude.{IfNone, IfOk, IfSome, OnOk, Some, false};
 ghost use Rattle.std.specs.Arc.{arc_value};
-ghost use Rattle.std.specs.List.{AllByRecursion, list_any};
+ghost use Rattle.std.specs.List.{list_any};
 ghost use Rattle.nfs_machine.specs.FileLists.{all_but};
-ghost use Rattle.nfs_machine.specs.OneFile.{IsHeldUp};
-ghost use Rattle.nlm_ranges.specs.Requests.{IsFirstFree, goes};
+ghost use Rattle.nlm_ranges.specs.Requests.{goes};
 
-use crate::locks::LockTable;
 use crate::range::LockRange;
 use crate::request::LockRequest;
 use side_wire::message::NlmLock;
@@ -182,33 +179,20 @@ impl RequestList {
         Ok(RequestList { requests })
     }
 
-    /// The place of the earliest that conflicts with nothing that is held; None where each does.
-    pub(crate) fn first_free(&self, locks: &LockTable) -> Option<usize>
-        ensures none { IfNone result (AllByRecursion (IsHeldUp locks.now) self.now) }
-        ensures some { IfSome result (IsFirstFree locks.now self.now) }
+    /// The requests, the earliest first, in a vector of their own.
+    pub(crate) fn to_vec(&self, alloc: Global) -> Result<Vec<Arc<LockRequest>>, AllocError>
+        ensures { IfOk result (λ requests. map arc_value requests.items ≡ self.now) }
     {
-        first_free(&self.requests, locks)
+        let mut requests = Vec::with_capacity(alloc, self.requests.len())?;
+        push_requests(&mut requests, &self.requests)?;
+        Ok(requests)
     }
 
-    /// The request at a place.
-    pub(crate) fn at(&self, place: usize) -> &Arc<LockRequest>
-        requires { place < length self.now }
-        ensures { slice_get self.now place ≡ Some (arc_value result.now) }
+    /// A list of these.
+    pub(crate) fn of(requests: Vec<Arc<LockRequest>>) -> RequestList
+        ensures { result ≡ map arc_value requests.items }
     {
-        &self.requests[place]
-    }
-
-    /// The list without the request at a place.
-    ///
-    /// # Errors
-    ///
-    /// `AllocError` where the memory for the list was refused.
-    pub(crate) fn without_at(&self, alloc: Global, place: usize) -> Result<RequestList, AllocError>
-        requires { place < length self.now }
-        ensures { IfOk result (λ list. list ≡ take place self.now ++ drop (place + 1) self.now) }
-    {
-        let requests = all_but_one(alloc, &self.requests, place)?;
-        Ok(RequestList { requests })
+        RequestList { requests }
     }
 }
 
@@ -244,47 +228,8 @@ fn others(
     Ok(others)
 }
 
-/// The requests without the one at a place.
-fn all_but_one(
-    alloc: Global,
-    requests: &[Arc<LockRequest>],
-    place: usize,
-) -> Result<Vec<Arc<LockRequest>>, AllocError>
-    requires { place < length requests.now }
-    ensures { IfOk result (λ others. map arc_value others.items
-        ≡ take place (map arc_value requests.now) ++ drop (place + 1) (map arc_value requests.now)) }
-{
-    let mut others = Vec::new(alloc);
-    push_requests(&mut others, &requests[..place])?;
-    push_requests(&mut others, &requests[place + 1..])?;
-    Ok(others)
-}
-
-/// The place of the earliest request that conflicts with nothing that is held; None where each does.
-fn first_free(requests: &[Arc<LockRequest>], locks: &LockTable) -> Option<usize>
-    ensures none { IfNone result (AllByRecursion (IsHeldUp locks.now) (map arc_value requests.now)) }
-    ensures some { IfSome result (IsFirstFree locks.now (map arc_value requests.now)) }
-{
-    for (place, request) in requests.iter().enumerate() {
-        if is_free(locks, request) {
-            return Some(place);
-        }
-    }
-    None
-}
-
-/// Whether a request conflicts with nothing that is held.
-fn is_free(locks: &LockTable, request: &LockRequest) -> bool
-    ensures free { result ≡ true → IsHeldUp locks.now request.now → ⊥ }
-    ensures held_up { result ≡ false → IsHeldUp locks.now request.now }
-{
-    locks
-        .test(&request.range(), request.is_exclusive())
-        .is_none()
-}
-
 /// Adds these requests.
-fn push_requests(
+pub(crate) fn push_requests(
     requests: &mut Vec<Arc<LockRequest>>,
     others: &[Arc<LockRequest>],
 ) -> Result<(), AllocError>

@@ -1,0 +1,12 @@
+use Rattle.std.proofs.Common.{subst}
+use Rattle.std.specs.Arc.{arc_value}
+use Rattle.nfs_machine.specs.OneFile.{IsHeldUp}
+use Rattle.nlm_ranges.proofs.Granted.{tries-granted}
+use Rattle.nlm_ranges.proofs.settling.Settling.try_one.Goals as goal
+
+pub returns-then-is_free : goal.returns-then-is_free
+returns-then-is_free c =
+    let old = c.args.self.now in
+    tries-granted old c.grant.new.self (arc_value c.args.request.now) c.in_ok-anew.anew c.requires
+    (subst (λ r. IsHeldUp (arc_value old.locks) r → ⊥) c.deref.ensures (c.is_free.ensures.free c.if-is_free.true))
+    c.in_ok-anew.ensures
