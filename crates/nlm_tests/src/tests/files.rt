@@ -25,14 +25,17 @@ enum Call {
     Free,
 }
 
-/// A call by a caller, and the numbers of the requests that it grants, in order.
+/// The numbers of the requests that are granted, in order: at most three.
+type Grants = (Option<u64>, Option<u64>, Option<u64>);
+
+/// A call by a caller, and what it grants.
 #[derive(Clone, Copy)]
 struct Step {
     who: Who,
     call: Call,
     offset: u64,
     length: u64,
-    grants: (Option<u64>, Option<u64>),
+    grants: Grants,
 }
 
 const fn calls(who: Who, call: Call, offset: u64, length: u64) -> Step {
@@ -41,18 +44,23 @@ const fn calls(who: Who, call: Call, offset: u64, length: u64) -> Step {
         call,
         offset,
         length,
-        grants: (None, None),
+        grants: (None, None, None),
     }
 }
 
 impl Step {
     const fn granting(mut self, first: u64) -> Step {
-        self.grants = (Some(first), None);
+        self.grants = (Some(first), None, None);
         self
     }
 
     const fn granting_both(mut self, first: u64, second: u64) -> Step {
-        self.grants = (Some(first), Some(second));
+        self.grants = (Some(first), Some(second), None);
+        self
+    }
+
+    const fn granting_all(mut self, first: u64, second: u64, third: u64) -> Step {
+        self.grants = (Some(first), Some(second), Some(third));
         self
     }
 }
@@ -63,11 +71,12 @@ fn number_at(granted: &[Arc<LockRequest>], place: usize) -> Option<u64> {
 }
 
 /// The file that settled, where these were granted; None where others were.
-fn settled_by(settled: Settled, grants: (Option<u64>, Option<u64>)) -> Option<OneFile> {
+fn settled_by(settled: Settled, grants: Grants) -> Option<OneFile> {
     let Settled { file, granted } = settled;
-    let is_so = granted.len() < 3
+    let is_so = granted.len() < 4
         && number_at(&granted, 0) == grants.0
-        && number_at(&granted, 1) == grants.1;
+        && number_at(&granted, 1) == grants.1
+        && number_at(&granted, 2) == grants.2;
     drop(granted);
     if is_so {
         return Some(file);
@@ -303,6 +312,49 @@ fn a_grant_makes_room_for_an_earlier_request(rt: HostRuntime) -> Result<(), Allo
             ],
             0,
             2,
+        )?
+    );
+    Ok(())
+}
+
+#[test]
+fn grants_make_room_from_the_last_request_to_the_first(rt: HostRuntime) -> Result<(), AllocError> {
+    assert!(rt;
+        end_with(
+            rt.alloc(),
+            &[
+                calls(Who::A, Call::Lock(true), 0, 10),
+                calls(Who::C, Call::Lock(true), 10, 10),
+                calls(Who::D, Call::Lock(true), 20, 10),
+                calls(Who::B, Call::Wait(false, 64), 0, 10),
+                calls(Who::A, Call::Wait(false, 128), 0, 20),
+                calls(Who::C, Call::Wait(false, 192), 10, 20),
+                calls(Who::D, Call::Unlock, 20, 10).granting_all(192, 128, 64),
+            ],
+            0,
+            3,
+        )?
+    );
+    Ok(())
+}
+
+#[test]
+fn requests_are_granted_in_order_of_arrival(rt: HostRuntime) -> Result<(), AllocError> {
+    assert!(rt;
+        end_with(
+            rt.alloc(),
+            &[
+                calls(Who::A, Call::Lock(true), 0, 0),
+                calls(Who::D, Call::Wait(false, 64), 0, 0),
+                calls(Who::B, Call::Wait(true, 128), 5, 1),
+                calls(Who::C, Call::Wait(false, 192), 0, 10),
+                calls(Who::D, Call::Wait(false, 256), 0, 5),
+                calls(Who::A, Call::Free, 0, 0).granting_all(64, 192, 256),
+                calls(Who::C, Call::Unlock, 0, 0),
+                calls(Who::D, Call::Unlock, 5, 1).granting(128),
+            ],
+            0,
+            3,
         )?
     );
     Ok(())
