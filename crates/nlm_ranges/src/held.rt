@@ -13,12 +13,15 @@ use std::sync::Arc;
 #[derive(Drop)]
 pub struct HeldLock {
     owner: Arc<LockOwner>,
+    /// The owner's, which is looked at before the owner is.
+    process: i32,
     first: u64,
     last: u64,
     exclusive: bool,
 }
 
 impl Model for HeldLock {
+    ghost use Rattle.std.specs.Prelude.{◌≡◌};
     ghost use Rattle.std.specs.Arc.{arc_value};
     ghost use Rattle.nfs_machine.specs.State.{Lock};
 
@@ -28,6 +31,8 @@ impl Model for HeldLock {
       range = record { owner = arc_value l.owner; first = l.first; last = l.last };
       exclusive = l.exclusive;
     } };
+
+    ghost invariant = { λ l. l.process ≡ (arc_value l.owner).process };
 }
 
 impl Clone for HeldLock {
@@ -36,6 +41,7 @@ impl Clone for HeldLock {
     fn clone(&self) -> Result<HeldLock, AllocError> {
         Ok(HeldLock {
             owner: Arc::try_clone(&self.owner)?,
+            process: self.process,
             first: self.first,
             last: self.last,
             exclusive: self.exclusive,
@@ -74,7 +80,7 @@ impl Eq for HeldLock {
 
 impl HeldLock {
     ghost use Rattle.nfs_machine.specs.LockLaws.{stands_in_way};
-    ghost use Rattle.nfs_machine.specs.Locks.{is_in};
+    ghost use Rattle.nfs_machine.specs.Locks.{is_in, same_owner};
     ghost use Rattle.nlm_ranges.specs.Cutting.{before, behind, between, cut, is_of_caller, is_touched};
 
     /// The range's lock, by an owner that is the range's.
@@ -84,6 +90,7 @@ impl HeldLock {
     {
         HeldLock {
             owner,
+            process: range.process(),
             first: range.first(),
             last: range.last(),
             exclusive,
@@ -125,28 +132,33 @@ impl HeldLock {
         self.exclusive
     }
 
+    /// Whether it is the range's owner's.
+    pub(crate) fn is_of(&self, range: &LockRange<'_>) -> bool
+        ensures { result ≡ same_owner range.now.owner self.now.owner }
+    {
+        range.process() == self.process && range.is_of(&self.owner)
+    }
+
     /// Whether it stands in the way of the range: it is another owner's, it has an offset of the range, and one of the
     /// two is exclusive.
     pub(crate) fn stands_in_way(&self, range: &LockRange<'_>, exclusive: bool) -> bool
         ensures { result ≡ stands_in_way range.now (Some exclusive) self.now }
     {
-        range.meets(self.first, self.last)
-            && (exclusive || self.exclusive)
-            && !range.is_of(&self.owner)
+        range.meets(self.first, self.last) && (exclusive || self.exclusive) && !self.is_of(range)
     }
 
     /// Whether it is the range's owner's, and has this offset.
     pub(crate) fn has(&self, range: &LockRange<'_>, offset: u64) -> bool
         ensures { result ≡ is_in self.now.range range.now.owner offset }
     {
-        self.first <= offset && offset <= self.last && range.is_of(&self.owner)
+        self.first <= offset && offset <= self.last && self.is_of(range)
     }
 
     /// Whether it is of the range's owner, and has an offset of it.
     pub(crate) fn is_touched(&self, range: &LockRange<'_>) -> bool
         ensures { result ≡ is_touched range.now self.now }
     {
-        range.meets(self.first, self.last) && range.is_of(&self.owner)
+        range.meets(self.first, self.last) && self.is_of(range)
     }
 
     /// Whether it is of this caller.
@@ -162,6 +174,7 @@ impl HeldLock {
     {
         Ok(HeldLock {
             owner: self.share_owner()?,
+            process: self.process,
             first,
             last,
             exclusive: self.exclusive,

@@ -64,17 +64,17 @@ impl LockOwner {
     pub(crate) fn is_same(&self, other: &LockOwner) -> bool
         ensures { result ≡ same_owner self.now other.now }
     {
-        self.caller_name == other.caller_name
+        self.process == other.process
+            && self.caller_name == other.caller_name
             && self.owner == other.owner
-            && self.process == other.process
     }
 
     /// Whether the call names this owner.
     pub(crate) fn is_named_by(&self, lock: &NlmLock) -> bool
         ensures { result ≡ same_owner (range_of lock.now).owner self.now }
     {
-        lock.caller_name == self.caller_name
+        lock.process == self.process
+            && lock.caller_name == self.caller_name
             && lock.owner == self.owner
-            && lock.process == self.process
     }
 }

@@ -294,7 +294,7 @@ fn owner_of(
     ensures { IfOk result (λ owner. arc_value owner ≡ range.now.owner) }
 {
     for lock in locks {
-        if range.is_of(lock.owner()) {
+        if lock.is_of(range) {
             return lock.share_owner();
         }
     }

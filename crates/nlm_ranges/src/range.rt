@@ -74,6 +74,13 @@ impl<'a> LockRange<'a> {
         self.lock
     }
 
+    /// The process of its owner.
+    pub(crate) fn process(&self) -> i32
+        ensures { result ≡ self.now.owner.process }
+    {
+        self.lock.process
+    }
+
     /// Its first offset.
     pub fn first(&self) -> u64
         ensures { result ≡ self.now.first }
@@ -100,11 +107,11 @@ impl<'a> LockRange<'a> {
     pub(crate) fn contains(&self, other: &LockRange<'_>) -> bool
         ensures { result ≡ lies_within self.now other.now }
     {
-        self.lock.caller_name == other.lock.caller_name
-            && self.lock.owner == other.lock.owner
-            && self.lock.process == other.lock.process
+        self.lock.process == other.lock.process
             && self.first <= other.first
             && other.last <= self.last
+            && self.lock.caller_name == other.lock.caller_name
+            && self.lock.owner == other.lock.owner
     }
 
     /// Whether it has one of these offsets.
