@@ -1,13 +1,14 @@
 -- Lists and their pieces, one element or one piece at a time.
 use Rattle.std.proofs.Common.{◌≡◌, ℕ, ◌+◌, ◌<◌, ◌≤◌, Bool, true, false, not, ◌&&◌, ◌||◌, cond}
-use Rattle.std.proofs.Common.{List, [], ◌∷◌, ◌++◌, Some, drop, filter, nat_le, length, take, get_or}
+use Rattle.std.proofs.Common.{List, [], ◌∷◌, ◌++◌, None, Some, drop, filter, find, nat_le, length, take, get_or}
 use Rattle.std.proofs.Common.{refl, sym, ◌∙◌, ap, subst, arith, append_assoc, ◌==◌, length-append}
 use Rattle.std.proofs.lemmas.Bool.{and_parts, le-leb, leb-true, or_parts}
 use Rattle.std.proofs.lemmas.List.{append-nil, nil_from_length, take-append-drop, take_more}
 use Rattle.std.proofs.lemmas.List.Concat.{flat_map-append}
 use Rattle.std.proofs.lemmas.List.Elements.{Contains-append_left, Contains-append_right, filter-append}
-use Rattle.std.proofs.lemmas.List.Folds.{list_any-append}
+use Rattle.std.proofs.lemmas.List.Folds.{find-append, list_any-append}
 use Rattle.std.specs.List.{AllByRecursion, Contains, flat_map, list_any}
+use Rattle.std.specs.Option.{option_or}
 use Rattle.nfs_machine.specs.LockLaws.{stands_in_way}
 use Rattle.nfs_machine.specs.Locks.{same_owner}
 use Rattle.nfs_machine.specs.State.{Lock, Range}
@@ -16,6 +17,15 @@ use Rattle.nlm_ranges.proofs.Asked.{not-zero}
 use Rattle.nlm_ranges.proofs.Pointwise.{both}
 use Rattle.nlm_ranges.specs.Cutting.{Inserts, before, behind, cut, is_touched, joined}
 use Rattle.nlm_ranges.specs.Held.{IsBetween}
+
+-- none is found where none passes
+pub none-found : {X : Type 0} (p : X → Bool) (xs : List X) → list_any p xs ≡ false → find p xs ≡ None
+none-found p [] e = refl
+none-found p (x ∷ xs) e =
+    elim (p x) as (λ b. (b || list_any p xs) ≡ false → cond b (Some x) (find p xs) ≡ None) [
+      | true ↦ λ t. cc
+      | false ↦ λ t. none-found p xs t
+    ] e
 
 -- ---- one more lock
 module _ (locks : List Lock) (i : ℕ) (lock : Lock) (inside : i < length locks) (at : lock ≡ get_or locks i lock) where
@@ -40,14 +50,14 @@ module _ (locks : List Lock) (i : ℕ) (lock : Lock) (inside : i < length locks)
       ∙ ap (λ ls. flat_map f (take i locks) ++ ls) (append-nil (f lock))
 
 -- ---- a test of the pieces
-pub any-joined : (p : Lock → Bool) (pieces : List (List Lock)) →
+pub any-joined : {X : Type 0} (p : X → Bool) (pieces : List (List X)) →
     list_any (list_any p) pieces ≡ list_any p (joined pieces)
 any-joined p [] = refl
 any-joined p (piece ∷ pieces) =
     ap (λ b. list_any p piece || b) (any-joined p pieces) ∙ sym (list_any-append p piece (joined pieces))
 
 -- ---- one more piece
-module _ (pieces : List (List Lock)) (i : ℕ) (piece : List Lock) (inside : i < length pieces)
+module _ {X : Type 0} (pieces : List (List X)) (i : ℕ) (piece : List X) (inside : i < length pieces)
     (at : piece ≡ get_or pieces i piece) where
   pub next-joined : joined (take (i + 1) pieces) ≡ joined (take i pieces) ++ piece
   next-joined =
@@ -55,15 +65,15 @@ module _ (pieces : List (List Lock)) (i : ℕ) (piece : List Lock) (inside : i <
       ∙ flat_map-append (λ p. p) (take i pieces) (piece ∷ [])
       ∙ ap (λ ls. joined (take i pieces) ++ ls) (append-nil piece)
 
-  pub next-cut : (f : Lock → List Lock) →
+  pub next-cut : (f : X → List X) →
       flat_map f (joined (take (i + 1) pieces)) ≡ flat_map f (joined (take i pieces)) ++ flat_map f piece
   next-cut f = ap (flat_map f) next-joined ∙ flat_map-append f (joined (take i pieces)) piece
 
-  pub next-left : (p : Lock → Bool) →
+  pub next-left : (p : X → Bool) →
       filter p (joined (take (i + 1) pieces)) ≡ filter p (joined (take i pieces)) ++ filter p piece
   next-left p = ap (filter p) next-joined ∙ filter-append p (joined (take i pieces)) piece
 
-  pub next-any : (p : Lock → Bool) → list_any p (joined (take i pieces)) ≡ false → list_any p piece ≡ false →
+  pub next-any : (p : X → Bool) → list_any p (joined (take i pieces)) ≡ false → list_any p piece ≡ false →
       list_any p (joined (take (i + 1) pieces)) ≡ false
   next-any p before here =
       ap (list_any p) next-joined ∙ list_any-append p (joined (take i pieces)) piece
@@ -84,17 +94,28 @@ module _ (pieces : List (List Lock)) (i : ℕ) (piece : List Lock) (inside : i <
   none-joined none before =
       next-joined ∙ (λ k. before k ++ nil_from_length piece none k)
 
+  whole : joined (take (i + 1) pieces) ++ joined (drop (i + 1) pieces) ≡ joined pieces
+  whole =
+      sym (flat_map-append (λ p. p) (take (i + 1) pieces) (drop (i + 1) pieces))
+      ∙ ap joined (take-append-drop (i + 1) pieces)
+
   -- what is in one is in all
-  pub in-piece : (lock : Lock) → Contains piece lock → Contains (joined pieces) lock
-  in-piece lock there =
-      subst (λ ls. Contains ls lock) whole
-      (Contains-append_left (joined (take (i + 1) pieces)) (joined (drop (i + 1) pieces)) lock
-      (subst (λ ls. Contains ls lock) (sym next-joined)
-      (Contains-append_right (joined (take i pieces)) piece lock there)))
-    where
-      whole : joined (take (i + 1) pieces) ++ joined (drop (i + 1) pieces) ≡ joined pieces
-      whole = sym (flat_map-append (λ p. p) (take (i + 1) pieces) (drop (i + 1) pieces))
-          ∙ ap joined (take-append-drop (i + 1) pieces)
+  pub in-piece : (x : X) → Contains piece x → Contains (joined pieces) x
+  in-piece x there =
+      subst (λ xs. Contains xs x) whole
+      (Contains-append_left (joined (take (i + 1) pieces)) (joined (drop (i + 1) pieces)) x
+      (subst (λ xs. Contains xs x) (sym next-joined)
+      (Contains-append_right (joined (take i pieces)) piece x there)))
+
+  -- what is found first in one is found first in all, where the ones before have nothing
+  pub found-in : (p : X → Bool) → list_any p (joined (take i pieces)) ≡ false → (x : X) → find p piece ≡ Some x →
+      find p (joined pieces) ≡ Some x
+  found-in p before x here =
+      ap (find p) (sym whole)
+      ∙ find-append p (joined (take (i + 1) pieces)) (joined (drop (i + 1) pieces))
+      ∙ ap (λ o. option_or o (find p (joined (drop (i + 1) pieces))))
+      (ap (find p) next-joined ∙ find-append p (joined (take i pieces)) piece
+      ∙ (λ k. option_or (none-found p (joined (take i pieces)) before k) (here k)))
 
 -- ---- pieces that are passed over
 -- a lock between two offsets has no offset of a range that has none between them
@@ -150,13 +171,12 @@ uncut r (l ∷ locks) none =
     let parts = or_parts (is_touched r l) (list_any (is_touched r) locks) none in
     (λ i. cond (parts.0 i) (before r l ++ behind r l) (l ∷ []) ++ uncut r locks parts.1 i)
 
-pub all_others : (p : Lock → Bool) (locks : List Lock) → list_any p locks ≡ false →
-    filter (λ l. not (p l)) locks ≡ locks
+pub all_others : {X : Type 0} (p : X → Bool) (xs : List X) → list_any p xs ≡ false → filter (λ x. not (p x)) xs ≡ xs
 all_others p [] none = refl
-all_others p (l ∷ locks) none =
-    let parts = or_parts (p l) (list_any p locks) none in
-    ap (λ b. cond (not b) (l ∷ filter (λ l. not (p l)) locks) (filter (λ l. not (p l)) locks)) parts.0
-    ∙ ap (λ ls. l ∷ ls) (all_others p locks parts.1)
+all_others p (x ∷ xs) none =
+    let parts = or_parts (p x) (list_any p xs) none in
+    ap (λ b. cond (not b) (x ∷ filter (λ x. not (p x)) xs) (filter (λ x. not (p x)) xs)) parts.0
+    ∙ ap (λ ys. x ∷ ys) (all_others p xs parts.1)
 
 -- ---- one more lock, in a piece
 pub inserts-in : (earlier old later new : List Lock) (lock : Lock) → Inserts old lock new →
@@ -190,6 +210,6 @@ inserts-pieces pieces front behind none before mid new piece lock locks inserts 
     (first ∙ ap (λ ps. joined ps ++ joined front) empty)) in
     record { earlier = i.earlier; later = i.later; old_is = old ∙ i.old_is; new_is = made ∙ i.new_is }
 
-pub counted : (locks : List Lock) → (length locks == 0) ≡ false → 0 < length locks
+pub counted : {X : Type 0} (xs : List X) → (length xs == 0) ≡ false → 0 < length xs
 counted [] some = (let no : true ≡ false = some in cc)
-counted (l ∷ locks) some = omega arith
+counted (x ∷ xs) some = omega arith

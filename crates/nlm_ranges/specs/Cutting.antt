@@ -34,7 +34,7 @@ abbrev pub is_of_caller : (caller_name : List ℕ) → Lock → Bool
 is_of_caller name l = same_bytes l.owner.caller_name name
 
 -- pieces, one behind the other
-abbrev pub joined : List (List Lock) → List Lock
+abbrev pub joined : {X : Type 0} → List (List X) → List X
 joined pieces = flat_map (λ piece. piece) pieces
 
 -- one more lock is listed, somewhere

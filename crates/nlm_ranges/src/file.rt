@@ -204,7 +204,7 @@ impl OneFile {
         let file = OneFile {
             locks,
             shares: Arc::try_clone(&self.shares)?,
-            waiting: Arc::new(alloc, RequestList::of(waiting))?,
+            waiting: Arc::new(alloc, RequestList::of(alloc, &waiting)?)?,
             pending: Arc::new(alloc, self.pending.with_all(alloc, &granted)?)?,
         };
         Ok(Settled { file, granted })

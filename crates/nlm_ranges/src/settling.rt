@@ -1,13 +1,13 @@
 //! The requests that are granted where a file's locks changed.
 
-ghost use Rattle.std.specs.Prelude.{◌≡◌, [], false, map, true, IfOk, MatchOption};
+ghost use Rattle.std.specs.Prelude.{◌≡◌, ◌++◌, [], false, map, true, IfOk, MatchOption, OnOk};
 ghost use Rattle.std.specs.Arc.{arc_value};
 ghost use Rattle.nfs_machine.specs.OneFile.{AreHeldUp, IsHeldUp};
 ghost use Rattle.nlm_ranges.specs.Granting.{AllTried, ComesTo, Grants, IsEmptied, Tries, TriesAnew, held_in, holding};
 
 use crate::locks::LockTable;
 use crate::request::LockRequest;
-use crate::requests::{RequestList, push_requests};
+use crate::requests::RequestList;
 use std::alloc::{AllocError, Global};
 use std::mem;
 use std::sync::Arc;
@@ -111,10 +111,25 @@ impl Settling {
         alloc: Global,
         behind: &[Arc<LockRequest>],
     ) -> Result<Vec<Arc<LockRequest>>, AllocError>
-        ensures { IfOk result (λ left. IsEmptied self.old (map arc_value behind.now) self.new (map arc_value left.items)) }
+        ensures { IfOk result (λ left.
+            IsEmptied self.old (map arc_value behind.now) self.new (map arc_value left.items)) }
     {
         let mut left = mem::replace(&mut self.waiting, Vec::new(alloc));
         push_requests(&mut left, behind)?;
         Ok(left)
     }
+}
+
+/// Adds these requests.
+fn push_requests(
+    requests: &mut Vec<Arc<LockRequest>>,
+    others: &[Arc<LockRequest>],
+) -> Result<(), AllocError>
+    ensures { OnOk result
+        (map arc_value requests.new.items ≡ map arc_value requests.old.items ++ map arc_value others.now) }
+{
+    for other in others {
+        requests.push(Arc::try_clone(other)?)?;
+    }
+    Ok(())
 }

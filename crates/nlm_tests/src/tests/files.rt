@@ -247,8 +247,8 @@ fn end_with(
             None => all = false,
         }
     }
-    let is_so = file.waiting().as_slice().len() == waiting
-        && file.pending().as_slice().len() == pending;
+    let is_so = file.waiting().iter().count() == waiting
+        && file.pending().iter().count() == pending;
     drop(file);
     Ok(all && is_so)
 }
@@ -574,7 +574,7 @@ fn are_made_at_last(alloc: Global, steps: &[Step]) -> Result<bool, AllocError> {
             None => all = false,
         }
     }
-    let is_so = file.pending().as_slice().len() == 1;
+    let is_so = file.pending().iter().count() == 1;
     drop(file);
     drop(same);
     Ok(all && is_so)

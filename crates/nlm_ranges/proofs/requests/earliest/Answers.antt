@@ -1,12 +1,11 @@
-use Rattle.std.proofs.Common.{◌<◌, ap, arith, length, sym, ◌∙◌}
+use Rattle.std.proofs.Common.{◌<◌, arith, length}
 use Rattle.std.specs.Arc.{arc_value}
-use Rattle.nlm_ranges.proofs.Requested.{earliest-here}
+use Rattle.nlm_ranges.proofs.Pieces.{found-in}
 use Rattle.nlm_ranges.proofs.requests.earliest.Goals as goal
 use Rattle.nlm_ranges.specs.Requests.{goes}
 
-pub returns-then-has-clause-some : goal.returns-then-has-clause-some
-returns-then-has-clause-some c =
-    let within : c.loop-request.request-index < length c.args.requests.now = omega arith in
-    earliest-here arc_value c.args.requests.now c.loop-request.request-index c.request-item.result within
-    c.request-item.is (goes c.args.going) c.loop-request.invariant
-    (ap (goes c.args.going) (sym c.deref.ensures) ∙ sym c.has.ensures ∙ c.if-has.true)
+pub returns-in-Some-clause-some : goal.returns-in-Some-clause-some
+returns-in-Some-clause-some c =
+    let within : c.loop-batch.batch-index < length c.args.batches.now = omega arith in
+    found-in c.args.batches.now c.loop-batch.batch-index c.batch-item.result within c.batch-item.is
+    (goes c.args.going) c.loop-batch.invariant (arc_value c.in-Some.request.now) c.in-Some.ensures.some

@@ -25,11 +25,12 @@ returns c =
     let settling = c.in_ok-locks.field-0 in
     record {
       settles = settles-file old.held _ (arc_value c.self.inside.locks) (arc_value settling.locks) c.deref-2.result.now
-          (map arc_value settling.waiting.items) (map arc_value settling.granted.items) (ap (λ (f : FileValue). f.held.locks) c.self.view_is)
+          (map arc_value settling.waiting.items) (map arc_value settling.granted.items)
+          (ap (λ (f : FileValue). f.held.locks) c.self.view_is)
           (c.deref-2.ensures ∙ ap (λ (f : FileValue). f.held.waiting) c.self.view_is) c.in_ok-locks.ensures refl
           (c.in_ok-try_clone.ensures ∙ ap (λ (f : FileValue). f.held.shares) c.self.view_is)
-          (c.in_ok-new.ensures.ok ∙ c.of.ensures);
+          (c.in_ok-new.ensures.ok ∙ c.in_ok-of.ensures ∙ ap (map arc_value) c.deref-3.ensures.value);
       pending = c.in_ok-new-2.ensures.ok ∙ c.in_ok-with_all.ensures
-          ∙ (λ i. (c.deref-3.ensures ∙ ap (λ (f : FileValue). f.pending) c.self.view_is) i
-          ++ ap (map arc_value) c.deref-4.ensures.value i);
+          ∙ (λ i. (c.deref-4.ensures ∙ ap (λ (f : FileValue). f.pending) c.self.view_is) i
+          ++ ap (map arc_value) c.deref-5.ensures.value i);
     }

@@ -7,5 +7,6 @@ use Rattle.nlm_ranges.specs.Granting.{LeadsOn, held_in, kept_in}
 
 abbrev pub invariant-loop-place : goal.invariant-loop-place
 invariant-loop-place l =
+    let left = kept_in l.self ++ map arc_value (drop l.place l.requests) in
     AreHeldUp (held_in l.self) × ((length l.self.waiting.items ≤ l.place)
-    × LeadsOn l.initial.self (map arc_value l.requests) l.self (kept_in l.self ++ map arc_value (drop l.place l.requests)))
+    × LeadsOn l.initial.self (map arc_value l.requests) l.self left)
