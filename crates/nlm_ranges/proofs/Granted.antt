@@ -1,11 +1,10 @@
 -- What is granted where locks change, one request after the other.
-use Rattle.std.proofs.Common.{◌≡◌, ◌==◌, ◌+◌, ◌-◌, ◌<◌, ◌≤◌, ℕ, true, false, ◌||◌, Bool, cond, List, [], ◌∷◌, ◌++◌}
+use Rattle.std.proofs.Common.{◌≡◌, ◌+◌, ◌-◌, ◌<◌, ◌≤◌, ℕ, true, false, ◌||◌, Bool, cond, List, [], ◌∷◌, ◌++◌}
 use Rattle.std.proofs.Common.{Some, None, refl, sym, ◌∙◌, ap, subst, arith, append_assoc, drop, get_or, length}
 use Rattle.std.proofs.Common.{length-append, map}
 use Rattle.std.proofs.lemmas.Bool.{and_parts}
 use Rattle.std.proofs.lemmas.List.{append-nil, drop_more, length-drop, length-map}
 use Rattle.std.specs.Arc.{arc_value}
-use Rattle.std.specs.Cmp.{unsigned_Decides}
 use Rattle.std.specs.List.{AllByRecursion}
 use Rattle.nfs_machine.specs.Locks.{HasModes, Mode, is_in, is_within, mode_at, modes_conflict, modes_with, same_owner}
 use Rattle.nfs_machine.specs.OneFile.{AreHeldUp, FileLocks, IsHeldUp, Settles, requested}
@@ -190,16 +189,10 @@ settles-file old new locks left waiting rest granted held asked settles now same
     (λ i. record { locks = held i; shares = old.shares; waiting = asked i })
     (settles-beside old.shares (holding locks waiting) (holding left rest) granted settles))
 
--- nothing waits, and nothing is granted
-pub settles-nothing : (old new : FileLocks) (granted : List Request) → (length old.waiting == 0) ≡ true →
-    granted ≡ [] → new ≡ old → Settles old granted new
-settles-nothing old new granted empty none same =
-    subst (λ rs. Settles old rs new) (sym none) (all-none old.waiting empty, same)
-  where
-    all-none : (rs : List Request) → (length rs == 0) ≡ true → AllByRecursion (IsHeldUp old.locks) rs
-    all-none [] e = tt
-    all-none (r ∷ rs) e =
-        let zero : length (r ∷ rs) ≡ 0 = (unsigned_Decides (length (r ∷ rs)) 0).0 e in absurd (omega (arith, zero))
+-- each that waits is held up, and nothing is granted
+pub settles-nothing : (old new : FileLocks) (granted : List Request) → AreHeldUp old → granted ≡ [] → new ≡ old →
+    Settles old granted new
+settles-nothing old new granted held none same = subst (λ rs. Settles old rs new) (sym none) (held, same)
 
 -- none more is to be answered
 pub none-pending : (old new granted : List Request) → granted ≡ [] → new ≡ old → new ≡ old ++ granted

@@ -1,11 +1,13 @@
 //! Batches of requests, which lists of requests stand in.
 
-ghost use Rattle.std.specs.Prelude.{◌≡◌, ◌++◌, false, find, map, IfNone, IfOk, IfSome, OnOk, Some};
+ghost use Rattle.std.specs.Prelude.{◌≡◌, ◌++◌, false, find, map, true, IfNone, IfOk, IfSome, OnOk, Some};
 ghost use Rattle.std.specs.Arc.{arc_value};
-ghost use Rattle.std.specs.List.{list_any};
+ghost use Rattle.std.specs.List.{AllByRecursion, list_any};
 ghost use Rattle.nfs_machine.specs.FileLists.{all_but};
+ghost use Rattle.nfs_machine.specs.OneFile.{IsHeldUp};
 ghost use Rattle.nlm_ranges.specs.Requests.{goes};
 
+use crate::locks::LockTable;
 use crate::range::LockRange;
 use crate::request::LockRequest;
 use crate::requests::Going;
@@ -174,6 +176,13 @@ impl Batch {
         earliest(self.requests(), going)
     }
 
+    /// Whether each of them conflicts with what is held.
+    pub(crate) fn are_held_up(&self, locks: &LockTable) -> bool
+        ensures { result ≡ true → AllByRecursion (IsHeldUp locks.now) self.now }
+    {
+        are_held_up(self.requests(), locks)
+    }
+
     /// The requests without these.
     pub(crate) fn without(&self, alloc: Global, going: Going<'_>) -> Result<Vec<Listed>, AllocError>
         ensures { IfOk result (λ others. others.items ≡ all_but (goes going.entry) self.now) }
@@ -215,6 +224,18 @@ fn earliest<'a>(requests: &'a [Listed], going: Going<'_>) -> Option<&'a Arc<Lock
         }
     }
     None
+}
+
+/// Whether each of the requests conflicts with what is held.
+fn are_held_up(requests: &[Listed], locks: &LockTable) -> bool
+    ensures { result ≡ true → AllByRecursion (IsHeldUp locks.now) requests.now }
+{
+    for listed in requests {
+        if listed.request().is_free(locks) {
+            return false;
+        }
+    }
+    true
 }
 
 /// The requests without these.

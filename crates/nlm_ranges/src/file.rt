@@ -190,7 +190,7 @@ impl OneFile {
     pub fn settle(&self, alloc: Global) -> Result<Settled, AllocError>
         ensures { IfOk result (IsSettled self.now) }
     {
-        if self.waiting.is_empty() {
+        if self.waiting.are_held_up(&self.locks) {
             return Ok(Settled {
                 file: self.clone()?,
                 granted: Vec::new(alloc),

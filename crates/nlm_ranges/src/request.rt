@@ -1,9 +1,10 @@
 //! Requests for locks that wait, or that were granted and are not answered yet.
 
-ghost use Rattle.std.specs.Prelude.{◌≡◌, true, IfOk};
+ghost use Rattle.std.specs.Prelude.{◌≡◌, false, true, IfOk};
 ghost use Rattle.nfs_machine.specs.Locks.{fits_offsets};
 ghost use Rattle.nlm_ranges.specs.Same.{equal_locks};
 
+use crate::locks::LockTable;
 use crate::range::LockRange;
 use bytes::Bytes;
 use side_wire::message::NlmLock;
@@ -72,7 +73,7 @@ impl Eq for LockRequest {
 impl LockRequest {
     ghost use Rattle.nfs_machine.specs.Bytes.{same_bytes};
     ghost use Rattle.nfs_machine.specs.LockSteps.{is_request};
-    ghost use Rattle.nfs_machine.specs.OneFile.{requested};
+    ghost use Rattle.nfs_machine.specs.OneFile.{IsHeldUp, requested};
 
     /// The request of a host for a lock, which it asks for exclusively or shared, in a call that is answered or by a
     /// message. Its byte strings are copied, so that it keeps no record alive that they were cut from.
@@ -150,6 +151,14 @@ impl LockRequest {
             Some(range) => range,
             None => unreachable!(),
         }
+    }
+
+    /// Whether it conflicts with nothing that is held.
+    pub(crate) fn is_free(&self, locks: &LockTable) -> bool
+        ensures free { result ≡ true → IsHeldUp locks.now self.now → ⊥ }
+        ensures held_up { result ≡ false → IsHeldUp locks.now self.now }
+    {
+        locks.test(&self.range(), self.exclusive).is_none()
     }
 
     /// Whether it is one for this lock, asked for in the same terms.

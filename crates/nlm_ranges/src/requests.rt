@@ -1,16 +1,18 @@
 //! Requests in order of arrival.
 
 ghost use Rattle.std.specs.Prelude.{◌≡◌, ◌==◌, ◌++◌, ◌∷◌, [], find, length, map};
-ghost use Rattle.std.specs.Prelude.{IfNone, IfOk, IfSome, OnOk, Some, false};
+ghost use Rattle.std.specs.Prelude.{IfNone, IfOk, IfSome, OnOk, Some, false, true};
 ghost use Rattle.std.specs.Arc.{arc_value};
-ghost use Rattle.std.specs.List.{list_any};
+ghost use Rattle.std.specs.List.{AllByRecursion, list_any};
 ghost use Rattle.std.specs.Cmp.Lexicographic.{pointwise};
 ghost use Rattle.nfs_machine.specs.FileLists.{all_but};
+ghost use Rattle.nfs_machine.specs.OneFile.{IsHeldUp};
 ghost use Rattle.nlm_ranges.specs.Cutting.{joined};
 ghost use Rattle.nlm_ranges.specs.Requests.{goes};
 ghost use Rattle.nlm_ranges.specs.Same.{equal_requests};
 
 use crate::batch::{Batch, Listed, list_all, push_shared};
+use crate::locks::LockTable;
 use crate::range::LockRange;
 use crate::request::LockRequest;
 use side_wire::message::NlmLock;
@@ -137,6 +139,13 @@ impl RequestList {
             find (goes going.entry) self.now ≡ Some (arc_value request.now)) }
     {
         earliest(&self.batches, going)
+    }
+
+    /// Whether each of them conflicts with what is held.
+    pub(crate) fn are_held_up(&self, locks: &LockTable) -> bool
+        ensures { result ≡ true → AllByRecursion (IsHeldUp locks.now) self.now }
+    {
+        are_held_up(&self.batches, locks)
     }
 
     /// The list with one more, last.
@@ -306,6 +315,18 @@ fn earliest<'a>(batches: &'a [Batch], going: Going<'_>) -> Option<&'a Arc<LockRe
         }
     }
     None
+}
+
+/// Whether each of the requests conflicts with what is held.
+fn are_held_up(batches: &[Batch], locks: &LockTable) -> bool
+    ensures { result ≡ true → AllByRecursion (IsHeldUp locks.now) (joined batches.now) }
+{
+    for batch in batches {
+        if !batch.are_held_up(locks) {
+            return false;
+        }
+    }
+    true
 }
 
 /// The batches without these requests.

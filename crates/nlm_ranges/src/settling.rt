@@ -72,22 +72,12 @@ impl Settling {
         requires { AreHeldUp (held_in self.old) }
         ensures { IfOk result (λ anew. Tries self.old (arc_value request.now) anew self.new) }
     {
-        if self.is_free(request) {
+        if request.is_free(&self.locks) {
             let anew = self.grant(alloc, request)?;
             return Ok(anew);
         }
         self.waiting.push(Arc::try_clone(request)?)?;
         Ok(false)
-    }
-
-    /// Whether the request conflicts with nothing that is held.
-    fn is_free(&self, request: &LockRequest) -> bool
-        ensures free { result ≡ true → IsHeldUp (arc_value self.now.locks) request.now → ⊥ }
-        ensures held_up { result ≡ false → IsHeldUp (arc_value self.now.locks) request.now }
-    {
-        self.locks
-            .test(&request.range(), request.is_exclusive())
-            .is_none()
     }
 
     /// Grants a request that conflicts with nothing. Whether its owner has a shared lock now where it had an exclusive
