@@ -11,8 +11,8 @@ mod shares;
 
 use bytes::Bytes;
 use nlm_ranges::{
-    Going, HeldLock, LockBucket, LockRange, LockRequest, LockTable, LockedFile, OneFile, Settled,
-    ShareTable, bucket_index,
+    Going, HeldLock, LockBucket, LockRange, LockRequest, LockTable, LockedFile, OneFile,
+    RequestList, Settled, ShareTable, bucket_index,
 };
 use side_wire::message::NlmLock;
 use side_wire::nlm::{NlmShare, ShareAccess, ShareMode};

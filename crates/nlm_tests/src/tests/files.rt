@@ -231,6 +231,17 @@ fn after_step(alloc: Global, file: &OneFile, step: Step) -> Result<Option<OneFil
     after
 }
 
+/// Whether there are so many requests.
+fn has_count(requests: &RequestList, count: usize) -> bool {
+    let mut left = requests.iter();
+    for _ in 0..count {
+        if left.next().is_none() {
+            return false;
+        }
+    }
+    left.next().is_none()
+}
+
 /// Whether each of these calls is answered and grants as it must, and how many requests wait in the end and how many
 /// grants are not answered.
 fn end_with(
@@ -247,8 +258,7 @@ fn end_with(
             None => all = false,
         }
     }
-    let is_so = file.waiting().iter().count() == waiting
-        && file.pending().iter().count() == pending;
+    let is_so = has_count(file.waiting(), waiting) && has_count(file.pending(), pending);
     drop(file);
     Ok(all && is_so)
 }
@@ -574,7 +584,7 @@ fn are_made_at_last(alloc: Global, steps: &[Step]) -> Result<bool, AllocError> {
             None => all = false,
         }
     }
-    let is_so = file.pending().iter().count() == 1;
+    let is_so = has_count(file.pending(), 1);
     drop(file);
     drop(same);
     Ok(all && is_so)
