@@ -1,5 +1,5 @@
 -- What a draft knows of what files have of locks, and what becomes of it where a bucket is put.
-use Rattle.std.proofs.Common.{◌≡◌, ◌==◌, ◌+◌, ◌*◌, ◌/◌, ◌%◌, ◌<◌, ◌^◌, ℕ, true, List, []}
+use Rattle.std.proofs.Common.{◌≡◌, ◌==◌, ◌+◌, ◌*◌, ◌/◌, ◌%◌, ◌<◌, ◌^◌, ℕ, true, false, cond, List, [], ◌∷◌}
 use Rattle.std.proofs.Common.{◌&&◌, ◌||◌, Option, Some, None, IsSome, filter, option_map, is_ok}
 use Rattle.std.proofs.Common.{refl, sym, ◌∙◌, ap, subst, arith, append-nil}
 use Rattle.std.proofs.lemmas.Bool.{and_parts, lt-ltb, le-ltb}
@@ -17,7 +17,7 @@ use Rattle.nlm_ranges.specs.Buckets.{number_given, without_file}
 use Rattle.nlm_ranges.specs.Files.{FileValue, no_file}
 use Rattle.nfs_objects.proofs.Exported.{living-stands}
 use Rattle.nfs_objects.proofs.Locked.{locks-gone, none-listed}
-use Rattle.nfs_objects.proofs.Seen.{known-stands}
+use Rattle.nfs_objects.proofs.Seen.{is_addr-same, known-stands}
 use Rattle.nfs_objects.proofs.Turns.{locks-kept, locks-put, turns-where-written, turns-written}
 use Rattle.nfs_objects.specs.Fits.{Fits}
 use Rattle.nfs_objects.specs.Knows.{Knows, Turns, TurnsWhere}
@@ -25,16 +25,17 @@ use Rattle.nfs_objects.specs.Stands.{Beside, IsPendingIn, IsPlaced, Kept, Repres
 use Rattle.nfs_objects.specs.Stands.{bucket_there, filled}
 use Rattle.nfs_objects.specs.Stands.{content_of, exported_file, file_of, file_there, lives_in, map_in, stored_bucket}
 use Rattle.nfs_objects.specs.Store.{Store, with_write, with_writes}
-use Rattle.nfs_objects.specs.Values.{DraftValue, known_at, with_written}
+use Rattle.nfs_objects.specs.Values.{DraftValue, is_addr, known_at, with_written}
+use Rattle.nfs_objects.specs.declared.address.Addr.{Addr}
 use Rattle.nfs_objects.specs.declared.address.Addr.TheVariants as addresses
 use Rattle.nfs_objects.specs.declared.object.Content.{Content}
 use Rattle.nfs_objects.specs.declared.object.Content.TheVariants as contents
 use Rattle.nfs_objects.specs.declared.object.Inode.{Inode}
 use Rattle.nfs_objects.specs.declared.object.Object.{Object}
 use Rattle.nfs_objects.specs.declared.object.Object.TheVariants as objects
-use Rattle.nfs_inodes.proofs.Locking.{set-stands, spend-stands}
-use Rattle.nfs_inodes.specs.Locks.{HasLocks, HasNone, IsFileAt, IsNextNumber, MayHave, NoNumberIsLeft}
-use Rattle.nfs_inodes.specs.Locks.{ShowsNext, locks_freed, locks_set, number_spent, with_file}
+use Rattle.nfs_inodes.proofs.Locking.{here, set-stands, spend-stands}
+use Rattle.nfs_inodes.specs.Locks.{AreInserted, AreOf, HasLocks, HasNone, IsFileAt, IsNextNumber, MayAllHave, MayHave}
+use Rattle.nfs_inodes.specs.Locks.{NoNumberIsLeft, ShowsNext, all_set, locks_freed, locks_set, number_spent, with_file}
 use Rattle.nfs_inodes.specs.Locks.{without_locks}
 
 -- ---- what is known
@@ -160,6 +161,73 @@ module _ (s : Store) (k : Kept) (stands : Represents s k) where
         };
       }
 
+  -- ---- a bucket that is put
+  pub file-stands : (file : LockedValue) (bucket : BucketValue) →
+      IsInserted (bucket_there s (file.number % bucket_count)) file bucket → IsBucket bucket → MayHave k.state file →
+      Represents (with_write s (addresses.Locks (file.number % bucket_count)) (stored_bucket bucket))
+      (locks_set file.number file.file k)
+  file-stands file bucket inserted is may =
+      let stand = may-stand file may.lives in
+      let m : State = with_file k.state file.number file.file in
+      locks-put s k m.locks m.shares m.waiting m.granted m.spent_grants stands (file.number % bucket_count)
+      (stored_bucket bucket)
+      (set-stands s k.state file bucket stands.locks inserted (λ some. stand.lives) is (λ some. stand.placed) may.own)
+
+  -- a number more is given
+  pub number-stands : (index : ℕ) → index < bucket_count → (old : BucketValue) → bucket_there s index ≡ old →
+      Represents (with_write s (addresses.Locks index) (stored_bucket (record old { given = old.given + 1 })))
+      (number_spent (number_given index old.given) k)
+  number-stands index within old there =
+      subst (λ b. Represents (with_write s (addresses.Locks index) (stored_bucket (record b { given = b.given + 1 })))
+      (number_spent (number_given index b.given) k)) there
+      (locks-put s k k.state.locks k.state.shares k.state.waiting k.state.granted
+      (λ n. (n == number_given index (bucket_there s index).given) || k.state.spent_grants n) stands index
+      (stored_bucket (record (bucket_there s index) { given = (bucket_there s index).given + 1 }))
+      (spend-stands s k.state index stands.locks within))
+
+-- of two writes of a bucket the last one counts
+write-twice : (s : Store) (index : ℕ) (o p : Option Object) →
+    with_write (with_write s (addresses.Locks index) o) (addresses.Locks index) p ≡
+    with_write s (addresses.Locks index) p
+write-twice s index o p = λ i. record {
+  at = λ a. elim (is_addr (addresses.Locks index) a) as (λ b. cond b p (cond b o (s.at a)) ≡ cond b p (s.at a)) [
+    | true ↦ refl
+    | false ↦ refl
+  ] i;
+  last = s.last;
+}
+
+-- what stands there already changes nothing
+write-same : (s : Store) (index : ℕ) (o : Option Object) → s.at (addresses.Locks index) ≡ o →
+    with_write s (addresses.Locks index) o ≡ s
+write-same s index o is = λ i. record { at = λ a. same a i; last = s.last }
+  where
+    same : (a : Addr) → cond (is_addr (addresses.Locks index) a) o (s.at a) ≡ s.at a
+    same a = elim (is_addr (addresses.Locks index) a) as
+        (λ b. is_addr (addresses.Locks index) a ≡ b → cond b o (s.at a) ≡ s.at a) [
+          | true ↦ λ e. sym is ∙ ap s.at (is_addr-same (addresses.Locks index) a e)
+          | false ↦ λ e. refl
+        ] refl
+
+-- several files of a bucket have this
+files-stand : (index : ℕ) (files : List LockedValue) → AreOf index files → (s : Store) (k : Kept) → Represents s k →
+    (old new : BucketValue) → bucket_there s index ≡ old → AreInserted old files new → MayAllHave k.state files →
+    Represents (with_write s (addresses.Locks index) (stored_bucket new)) (all_set files k)
+files-stand index [] own s k stands old new there is may =
+    subst (λ x. Represents x k)
+    (sym (write-same s index (stored_bucket new)
+    (stands.locks.stored index ∙ ap stored_bucket (there ∙ sym is)))) stands
+files-stand index (f ∷ fs) own s k stands old new there (mid, inserted, is, rest) may =
+    let placed : IsInserted (bucket_there s (f.number % bucket_count)) f mid =
+    subst (λ i. IsInserted (bucket_there s i) f mid) (sym own.0) (subst (λ b. IsInserted b f mid) (sym there) inserted)
+    in
+    let one : Represents (with_write s (addresses.Locks index) (stored_bucket mid)) (locks_set f.number f.file k) =
+    subst (λ i. Represents (with_write s (addresses.Locks i) (stored_bucket mid)) (locks_set f.number f.file k)) own.0
+    (file-stands s k stands f mid placed is may.0) in
+    subst (λ x. Represents x (all_set (f ∷ fs) k)) (write-twice s index (stored_bucket mid) (stored_bucket new))
+    (files-stand index fs own.1 (with_write s (addresses.Locks index) (stored_bucket mid))
+    (locks_set f.number f.file k) one mid new (here s k.state index mid stands.locks) rest may.1)
+
 pub set-turns : (d : DraftValue) (file : LockedValue) (old bucket : BucketValue) →
     option_map bucket_at (known_at d (addresses.Locks (file.number % bucket_count))) ≡ Some old →
     IsInserted old file bucket → IsBucket bucket →
@@ -170,38 +238,49 @@ set-turns d file old bucket known inserted is =
     turns-where-written d (λ k. MayHave k.state file)
     (addresses.Locks (file.number % bucket_count)) (stored_bucket bucket) (locks_set file.number file.file)
     (λ s k fits stands may.
-    let t : Store = with_writes s d.writes in
-    let stand = may-stand t k stands file may.lives in
-    let here : IsInserted (bucket_there t (file.number % bucket_count)) file bucket =
-    subst (λ b. IsInserted b file bucket) (sym (bucket-stands d (file.number % bucket_count) old known s fits)) inserted in
-    let m : State = with_file k.state file.number file.file in
-    locks-put t k m.locks m.shares m.waiting m.granted m.spent_grants stands (file.number % bucket_count)
-    (stored_bucket bucket)
-    (set-stands t k.state file bucket stands.locks here (λ some. stand.lives) is (λ some. stand.placed) may.own))
+    file-stands (with_writes s d.writes) k stands file bucket
+    (subst (λ b. IsInserted b file bucket)
+    (sym (bucket-stands d (file.number % bucket_count) old known s fits)) inserted) is may)
 
--- ---- a number that is given
-pub spend-turns : (d : DraftValue) (file number : ℕ) (old : BucketValue) → ShowsNext d file number →
-    option_map bucket_at (known_at d (addresses.Locks (file % bucket_count))) ≡ Some old →
-    Turns d (with_written d (addresses.Locks (file % bucket_count))
-    (stored_bucket (record old { given = old.given + 1 }))) (number_spent number)
-spend-turns d file number old next known =
-    turns-written d (addresses.Locks (file % bucket_count)) (stored_bucket (record old { given = old.given + 1 }))
-    (number_spent number) (λ s k fits stands.
+-- all of them at once
+pub all-turns : (d : DraftValue) (index : ℕ) (files : List LockedValue) (old bucket : BucketValue) →
+    AreOf index files → option_map bucket_at (known_at d (addresses.Locks index)) ≡ Some old →
+    AreInserted old files bucket →
+    TurnsWhere (λ k. MayAllHave k.state files) d
+    (with_written d (addresses.Locks index) (stored_bucket bucket)) (all_set files)
+all-turns d index files old bucket own known inserted =
+    turns-where-written d (λ k. MayAllHave k.state files) (addresses.Locks index) (stored_bucket bucket)
+    (all_set files) (λ s k fits stands may.
+    files-stand index files own (with_writes s d.writes) k stands old bucket
+    (bucket-stands d index old known s fits) inserted may)
+
+-- ---- a number that is given, with what the file has
+pub spending-turns : (d : DraftValue) (file : LockedValue) (number : ℕ) (old mid : BucketValue) →
+    ShowsNext d file.number number →
+    option_map bucket_at (known_at d (addresses.Locks (file.number % bucket_count))) ≡ Some old →
+    IsInserted old file mid → IsBucket mid →
+    TurnsWhere (λ k. MayHave k.state file) d
+    (with_written d (addresses.Locks (file.number % bucket_count))
+    (stored_bucket (record mid { given = mid.given + 1 })))
+    (λ k. locks_set file.number file.file (number_spent number k))
+spending-turns d file number old mid next known inserted is =
+    turns-where-written d (λ k. MayHave k.state file)
+    (addresses.Locks (file.number % bucket_count)) (stored_bucket (record mid { given = mid.given + 1 }))
+    (λ k. locks_set file.number file.file (number_spent number k)) (λ s k fits stands may.
     let t : Store = with_writes s d.writes in
-    let index : ℕ = file % bucket_count in
-    let here : bucket_there t index ≡ old = bucket-stands d index old known s fits in
-    let same : number ≡ number_given index (bucket_there t index).given =
-    next.next ∙ ap (λ (b : BucketValue). number_given index b.given)
-    (sym (ap bucket_at (known-stands d s (addresses.Locks index) next.object fits next.known))) in
-    subst (λ b. Represents (with_write t (addresses.Locks index) (stored_bucket (record b { given = b.given + 1 })))
-    (number_spent number k)) here
-    (subst (λ n. Represents (with_write t (addresses.Locks index)
-    (stored_bucket (record (bucket_there t index) { given = (bucket_there t index).given + 1 }))) (number_spent n k))
-    (sym same)
-    (locks-put t k k.state.locks k.state.shares k.state.waiting k.state.granted
-    (λ n. (n == number_given index (bucket_there t index).given) || k.state.spent_grants n) stands index
-    (stored_bucket (record (bucket_there t index) { given = (bucket_there t index).given + 1 }))
-    (spend-stands t k.state index stands.locks (omega arith)))))
+    let index : ℕ = file.number % bucket_count in
+    let there : bucket_there t index ≡ old = bucket-stands d index old known s fits in
+    let one = file-stands t k stands file mid (subst (λ b. IsInserted b file mid) (sym there) inserted) is may in
+    let same : number_given index mid.given ≡ number =
+    ap (number_given index) (inserted.given ∙ ap (λ (b : BucketValue). b.given)
+    (sym there ∙ ap bucket_at (known-stands d s (addresses.Locks index) next.object fits next.known)))
+    ∙ sym next.next in
+    subst (λ n. Represents (with_write t (addresses.Locks index) (stored_bucket (record mid { given = mid.given + 1 })))
+    (locks_set file.number file.file (number_spent n k))) same
+    (subst (λ x. Represents x (locks_set file.number file.file (number_spent (number_given index mid.given) k)))
+    (write-twice t index (stored_bucket mid) (stored_bucket (record mid { given = mid.given + 1 })))
+    (number-stands (with_write t (addresses.Locks index) (stored_bucket mid)) (locks_set file.number file.file k) one
+    index (omega arith) mid (here t k.state index mid stands.locks))))
 
 -- ---- a file that goes
 -- it has nothing, and so all is as it was

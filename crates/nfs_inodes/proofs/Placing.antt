@@ -1,7 +1,8 @@
 -- Where something may be put among locks, once something was.
-use Rattle.std.proofs.Common.{◌≡◌, ◌==◌, ◌%◌, ◌+◌, ◌<◌, ◌∷◌, ℕ, cond, List, Option, Some, None}
-use Rattle.std.proofs.Common.{inr, option_map}
+use Rattle.std.proofs.Common.{◌≡◌, ◌==◌, ◌%◌, ◌+◌, ◌<◌, ℕ, cond, List, [], ◌∷◌, ◌++◌, Option, Some, None}
+use Rattle.std.proofs.Common.{get_or, inr, length, option_map, take}
 use Rattle.std.proofs.Common.{refl, sym, ◌∙◌, ap, subst}
+use Rattle.std.proofs.lemmas.List.{take_more}
 use Rattle.std.specs.Prelude.{MatchOption}
 use Rattle.nfs_machine.specs.Exports.{LivingExport}
 use Rattle.nlm_ranges.specs.Buckets.{BucketValue, IsBucket, IsInserted, LockedValue, bucket_count, file_in, given_most}
@@ -17,14 +18,14 @@ use Rattle.nfs_objects.specs.Values.{DraftValue, known_at, with_written}
 use Rattle.nfs_objects.specs.declared.address.Addr.TheVariants as addresses
 use Rattle.nfs_objects.specs.declared.change.Halt.{Halt}
 use Rattle.nfs_objects.specs.declared.object.Object.{Object}
-use Rattle.nfs_inodes.proofs.Bucketing.{forget-turns, locks-known, next-number, none-left, set-turns}
-use Rattle.nfs_inodes.proofs.Bucketing.{shows-next, spend-turns, unlisted-none, without-inserted}
+use Rattle.nfs_inodes.proofs.Bucketing.{all-turns, forget-turns, locks-known, next-number, none-left, set-turns}
+use Rattle.nfs_inodes.proofs.Bucketing.{shows-next, spending-turns, unlisted-none, without-inserted}
 use Rattle.nfs_inodes.proofs.Halting.{lacking-stops}
 use Rattle.nfs_inodes.proofs.Locking.{bucket-stored}
 use Rattle.nfs_inodes.proofs.Wishing.{same-number}
 use Rattle.nfs_inodes.specs.Counts.{KeepsInodes}
-use Rattle.nfs_inodes.specs.Locks.{HasLocks, HasNone, IsNextNumber, MayHave, NoNumberIsLeft}
-use Rattle.nfs_inodes.specs.Locks.{ShowsNext, locks_freed, locks_set, number_spent}
+use Rattle.nfs_inodes.specs.Locks.{AreInserted, AreOf, HasLocks, HasNone, IsBucketWith, IsNextNumber, MayAllHave}
+use Rattle.nfs_inodes.specs.Locks.{MayHave, NoNumberIsLeft, ShowsNext, all_set, locks_freed, locks_set, number_spent}
 use Rattle.nfs_inodes.specs.Stops.{StopsAt}
 
 -- a bucket that is put leaves what is known of all else
@@ -63,12 +64,17 @@ module _ (d new : DraftValue) (n index : ℕ) (is-index : index ≡ n % bucket_c
       (written-there bucket is)
       (set-turns d (record { number = n; export = export; file = f }) old bucket at-index inserted whole)
 
-  pub number-turns : (number : ℕ) (bucket : BucketValue) → ShowsNext d n number →
-      bucket ≡ record old { given = old.given + 1 } → Written bucket → Turns d new (number_spent number)
-  number-turns number bucket next more is =
-      subst (λ x. Turns d x (number_spent number))
+  pub spending-put : (export : ℕ) (f : FileValue) (number : ℕ) (mid bucket : BucketValue) → ShowsNext d n number →
+      IsInserted old (record { number = n; export = export; file = f }) mid → IsBucket mid →
+      bucket ≡ record mid { given = mid.given + 1 } → Written bucket →
+      TurnsWhere (λ k. MayHave k.state (record { number = n; export = export; file = f })) d new
+      (λ k. locks_set n f (number_spent number k))
+  spending-put export f number mid bucket next inserted whole more is =
+      subst (λ x. TurnsWhere (λ k. MayHave k.state (record { number = n; export = export; file = f })) d x
+      (λ k. locks_set n f (number_spent number k)))
       (ap (λ b. with_written d (addresses.Locks (n % bucket_count)) (stored_bucket b)) (sym more)
-      ∙ written-there bucket is) (spend-turns d n number old next at-index)
+      ∙ written-there bucket is)
+      (spending-turns d (record { number = n; export = export; file = f }) number old mid next at-index inserted whole)
 
   -- a number is left where the draft shows the next one
   pub next-left : (number : ℕ) → ShowsNext d n number → old.given < given_most
@@ -114,11 +120,55 @@ module _ (d new : DraftValue) (n index : ℕ) (is-index : index ≡ n % bucket_c
   file-known list exports found is f has s k possible =
       subst (HasLocks k.state n) (ap (exported_file list) is ∙ has) (locks-known d n list old exports at-index s k possible)
 
+-- one file more has this
+pub inserted-more : (old : BucketValue) (files : List LockedValue) (mid : BucketValue) (file : LockedValue)
+    (new : BucketValue) → AreInserted old files mid → IsInserted mid file new → IsBucket new →
+    AreInserted old (files ++ file ∷ []) new
+inserted-more old [] mid file new are one is = (new, subst (λ b. IsInserted b file new) are one, is, refl)
+inserted-more old (f ∷ files) mid file new (next, first, whole, rest) one is =
+    (next, first, whole, inserted-more next files mid file new rest one is)
+
+-- by the places of a list
+pub inserted-step : (old : BucketValue) (files : List LockedValue) (i : ℕ) (mid : BucketValue) (file : LockedValue)
+    (new : BucketValue) → i < length files → file ≡ get_or files i file → AreInserted old (take i files) mid →
+    IsInserted mid file new → IsBucket new → AreInserted old (take (i + 1) files) new
+inserted-step old files i mid file new within is are one whole =
+    subst (λ fs. AreInserted old fs new)
+    (ap (λ x. take i files ++ x ∷ []) is ∙ sym (take_more files i file within))
+    (inserted-more old (take i files) mid file new are one whole)
+
+-- no file changes nothing
+pub none-set : (d : DraftValue) (files : List LockedValue) → files ≡ [] →
+    TurnsWhere (λ k. MayAllHave k.state files) d d (all_set files)
+none-set d files none = subst (λ fs. TurnsWhere (λ k. MayAllHave k.state fs) d d (all_set fs)) (sym none) (record {
+  ctx = refl;
+  view = refl;
+  modes = refl;
+  messages = refl;
+  turns = λ s k fits stands may. stands;
+})
+
+-- the files of a bucket are put
+pub files-put : (d new : DraftValue) (index : ℕ) (files : List LockedValue) (first : LockedValue)
+    (others : List LockedValue) (mid bucket : BucketValue) → AreOf index files → files ≡ first ∷ others →
+    IsBucketWith d index first mid → AreInserted mid others bucket →
+    new ≡ with_written d (addresses.Locks index) (stored_bucket bucket) →
+    TurnsWhere (λ k. MayAllHave k.state files) d new (all_set files)
+files-put d new index files first others mid bucket own are one rest is =
+    subst (λ x. TurnsWhere (λ k. MayAllHave k.state files) d x (all_set files)) (sym is)
+    (all-turns d index files one.old bucket own one.known
+    (subst (λ fs. AreInserted one.old fs bucket) (sym are) (mid, one.inserted, one.bucket, rest)))
+
 -- what halts where a bucket is lacked
 pub locks-stop : (d : DraftValue) (n index : ℕ) (halt : Halt) → index ≡ n % bucket_count →
     Lacks d (addresses.Locks index) halt → StopsAt d (locks_at n) halt
 locks-stop d n index halt is lacks =
     lacking-stops d (addresses.Locks (n % bucket_count)) halt (subst (λ i. Lacks d (addresses.Locks i) halt) is lacks)
+
+-- or cannot be made
+pub bucket-stops : (d : DraftValue) (n index : ℕ) (halt : Halt) → index ≡ n % bucket_count →
+    StopsAt d (addresses.Locks index ∷ []) halt → StopsAt d (locks_at n) halt
+bucket-stops d n index halt is stops = subst (λ i. StopsAt d (addresses.Locks i ∷ []) halt) is stops
 
 -- what is looked for among the exports besides
 pub locks-stop-behind : (d : DraftValue) (n index : ℕ) (halt : Halt) → index ≡ n % bucket_count →

@@ -1,16 +1,18 @@
 -- What files have of locks, shares, requests and grants, as a draft knows it, and what makers do to it (RFC 1813,
 -- appendix II).
 use Rattle.std.specs.Prelude.{◌≡◌, ◌<◌, ◌%◌, ◌||◌, ◌==◌, ◌↔◌, ℕ, true, false, Contains}
-use Rattle.std.specs.Prelude.{List, Option, Some, None, is_ok}
+use Rattle.std.specs.Prelude.{List, [], ◌∷◌, Option, Some, None, is_ok, option_map}
 use Rattle.std.specs.Borrow.{Bor}
 use Rattle.std.specs.FinMap.{get, remove}
+use Rattle.std.specs.List.{AllByRecursion}
 use Rattle.nfs_machine.specs.Checks.{bytes_in}
 use Rattle.nfs_machine.specs.FileLists.{grants_but, with_list}
 use Rattle.nfs_machine.specs.Grants.{at_file, with_grants}
 use Rattle.nfs_machine.specs.LockSteps.{NoneLeft, is_grant_number}
 use Rattle.nfs_machine.specs.State.{Living, PendingGrant, Request, State}
 use Rattle.nlm_ranges.specs.Files.{FileValue, no_file}
-use Rattle.nlm_ranges.specs.Buckets.{LockedValue, bucket_count, file_in, given_most, number_given}
+use Rattle.nlm_ranges.specs.Buckets.{BucketValue, IsBucket, IsInserted, LockedValue, bucket_count, file_in, given_most}
+use Rattle.nlm_ranges.specs.Buckets.{number_given}
 use Rattle.nfs_objects.specs.Fits.{Fits}
 use Rattle.nfs_objects.specs.Stands.{IsPendingIn, Kept, Represents, bucket_at, bucket_there}
 use Rattle.nfs_objects.specs.Store.{Store, with_writes}
@@ -71,6 +73,24 @@ pub record MayHave (m : State) (file : LockedValue) : Type 0 where
   pub lives : IsFileAt m file.number file.export
   pub own : AreOwnNumbers m file.number file.file.pending
 
+-- ---- buckets
+-- each of these files is of the bucket with this index
+abbrev pub AreOf : (index : ℕ) → List LockedValue → Type 0
+AreOf index files = AllByRecursion (λ (f : LockedValue). f.number % bucket_count ≡ index) files
+
+-- the bucket with this index, as the draft knows it, where a file has this
+pub record IsBucketWith (d : DraftValue) (index : ℕ) (file : LockedValue) (new : BucketValue) : Type 0 where
+  pub old : BucketValue
+  pub known : option_map bucket_at (known_at d (addresses.Locks index)) ≡ Some old
+  pub inserted : IsInserted old file new
+  pub bucket : IsBucket new
+
+-- each of these files has this, put one after the other
+abbrev pub AreInserted : BucketValue → List LockedValue → BucketValue → Type 0
+AreInserted old [] new = new ≡ old
+AreInserted old (file ∷ files) new =
+    (mid : BucketValue) × IsInserted old file mid × IsBucket mid × AreInserted mid files new
+
 -- ---- changes
 -- the file at a number has this
 abbrev pub with_file : State → (number : ℕ) → FileValue → State
@@ -83,6 +103,19 @@ with_file m number file = record m {
 
 abbrev pub locks_set : (number : ℕ) → FileValue → Kept → Kept
 locks_set number file k = record k { state = with_file k.state number file }
+
+-- each of these files has this
+abbrev pub with_files : State → List LockedValue → State
+with_files m [] = m
+with_files m (file ∷ files) = with_files (with_file m file.number file.file) files
+
+abbrev pub all_set : List LockedValue → Kept → Kept
+all_set files k = record k { state = with_files k.state files }
+
+-- each of them may have it, once those before it have it
+abbrev pub MayAllHave : State → List LockedValue → Type 0
+MayAllHave m [] = Unit {0}
+MayAllHave m (file ∷ files) = MayHave m file × MayAllHave (with_file m file.number file.file) files
 
 -- it has nothing
 abbrev pub without_locks : State → (number : ℕ) → State

@@ -41,7 +41,7 @@ pub use found::{
 pub use gather::read_objects;
 pub use kinds::{Directory, File};
 pub use linking::add_link;
-pub use locks::{lives, locks_of, next_number, set_locks, spend_number};
+pub use locks::{lives, locks_of, next_number, set_bucket, set_locks, set_locks_spending};
 pub use makers::{lose_link, make_object};
 pub use making::{
     LINK_LIMIT, MAX_TEXT, MODE_LIMIT, NewContent, Wanted, given_attributes, kind_checked,

@@ -1,7 +1,7 @@
 //! What files have of locks, shares, requests and grants: read, put, and gone with a file's last name (RFC 1813,
 //! appendix II).
 
-ghost use Rattle.std.specs.Prelude.{◌≡◌, ◌∷◌, ◌++◌, MatchOption, MatchResult, None, OnErr, OnOk};
+ghost use Rattle.std.specs.Prelude.{◌≡◌, ◌∷◌, ◌++◌, [], IfOk, MatchOption, MatchResult, None, OnErr, OnOk};
 ghost use Rattle.std.specs.Prelude.{is_some};
 ghost use Rattle.std.specs.Prelude.{option_copied};
 ghost use Rattle.nfs_machine.specs.Exports.{export_at};
@@ -11,8 +11,9 @@ ghost use Rattle.nfs_objects.specs.Stands.{map_in};
 ghost use Rattle.nfs_objects.specs.declared.address.Addr.TheVariants as addresses;
 ghost use Rattle.nfs_inodes.specs.Asking.{AsksFor};
 ghost use Rattle.nfs_inodes.specs.Counts.{KeepsInodes};
-ghost use Rattle.nfs_inodes.specs.Locks.{HasLocks, HasNone, IsNextNumber, MayHave};
-ghost use Rattle.nfs_inodes.specs.Locks.{NoNumberIsLeft, ShowsNext, file_known, locks_freed, locks_set, number_spent};
+ghost use Rattle.nfs_inodes.specs.Locks.{AreInserted, AreOf, HasLocks, HasNone, IsBucketWith, IsNextNumber, MayAllHave};
+ghost use Rattle.nfs_inodes.specs.Locks.{MayHave, NoNumberIsLeft, ShowsNext, all_set, file_known, locks_freed};
+ghost use Rattle.nfs_inodes.specs.Locks.{locks_set, number_spent};
 ghost use Rattle.nfs_inodes.specs.Stops.{StopsAt};
 
 use crate::content::asking::Asking;
@@ -20,7 +21,7 @@ use crate::found::{export_at, exports};
 use nfs_objects::object::living;
 use nfs_objects::{Addr, Content, Draft, Halt, Inode, LivingExport, Mode};
 use nlm_ranges::{LockBucket, LockedFile, OneFile, bucket_index};
-use std::alloc::AllocError;
+use std::alloc::{AllocError, Global};
 
 /// Whether the export with this number lives.
 pub fn lives(exports: &[LivingExport], number: u32) -> bool
@@ -65,12 +66,89 @@ pub fn set_locks(draft: &mut Draft<'_>, file: LockedFile) -> Result<(), Halt>
         (StopsAt draft.old (locks_at file.number)) }
 {
     let index = bucket_index(file.number());
+    let bucket = bucket_with(draft, index, file)?;
+    Ok(draft.put_locks(index, bucket)?)
+}
+
+/// Puts what a file has in the place of what it had, and gives the number of its next grant, which is never given
+/// again.
+///
+/// # Errors
+///
+/// `Need` of what has to be held for it, and `Memory`. The draft is of no use then.
+pub fn set_locks_spending(draft: &mut Draft<'_>, file: LockedFile, number: u64) -> Result<(), Halt>
+    requires alone { draft.old.modes.locks ≡ Mode.Exclusive }
+    requires next { ShowsNext draft.old file.number number }
+    ensures { MatchResult result
+        (λ _. TurnsWhere (λ k. MayHave k.state file) draft.old draft.new
+        (λ k. locks_set file.number file.file (number_spent number k)))
+        (StopsAt draft.old (locks_at file.number)) }
+{
+    let index = bucket_index(file.number());
+    let bucket = bucket_with(draft, index, file)?;
+    let bucket = bucket.with_number(draft.alloc())?;
+    Ok(draft.put_locks(index, bucket)?)
+}
+
+/// Puts what each of these files has in the place of what it had, all at once. They are those of the bucket with this
+/// index.
+///
+/// # Errors
+///
+/// `Need` of what has to be held for it, and `Memory`. The draft is of no use then.
+pub fn set_bucket(draft: &mut Draft<'_>, index: u8, files: &[LockedFile]) -> Result<(), Halt>
+    requires alone { draft.old.modes.locks ≡ Mode.Exclusive }
+    requires own { AreOf index files.now }
+    ensures { MatchResult result
+        (λ _. TurnsWhere (λ k. MayAllHave k.state files.now) draft.old draft.new (all_set files.now))
+        (StopsAt draft.old (addresses.Locks index ∷ [])) }
+{
+    let Some((first, others)) = files.split_first() else {
+        return Ok(());
+    };
+    let bucket = bucket_with(draft, index, first.clone()?)?;
+    let bucket = with_files(draft.alloc(), bucket, others)?;
+    Ok(draft.put_locks(index, bucket)?)
+}
+
+/// The bucket with this index where a file has this.
+///
+/// # Errors
+///
+/// `Need` of the bucket, and `Memory`.
+fn bucket_with(draft: &Draft<'_>, index: u8, file: LockedFile) -> Result<LockBucket, Halt>
+    ensures { MatchResult result
+        (IsBucketWith draft.now index file)
+        (StopsAt draft.now (addresses.Locks index ∷ [])) }
+{
     let alloc = draft.alloc();
     let bucket = match draft.locks(index)? {
         Some(old) => old.with_file(alloc, file)?,
         None => LockBucket::new(alloc).with_file(alloc, file)?,
     };
-    Ok(draft.put_locks(index, bucket)?)
+    // The files bring what is true of every bucket.
+    let _files = bucket.files();
+    Ok(bucket)
+}
+
+/// The bucket where each of these files has this.
+///
+/// # Errors
+///
+/// `AllocError` where the memory was refused.
+fn with_files(
+    alloc: Global,
+    mut bucket: LockBucket,
+    files: &[LockedFile],
+) -> Result<LockBucket, AllocError>
+    ensures { IfOk result (AreInserted bucket files.now) }
+{
+    for file in files {
+        bucket = bucket.with_file(alloc, file.clone()?)?;
+        // The files bring what is true of every bucket.
+        let _files = bucket.files();
+    }
+    Ok(bucket)
 }
 
 /// The number of the next grant on a file; None where all were given.
@@ -89,28 +167,6 @@ pub fn next_number(draft: &Draft<'_>, file: u64) -> Result<Option<u64>, Halt>
         Some(bucket) => Ok(bucket.next_number(index)),
         None => Ok(LockBucket::new(draft.alloc()).next_number(index)),
     }
-}
-
-/// Gives the number of the next grant on a file, which is never given again.
-///
-/// # Errors
-///
-/// `Need` of what has to be held for it, and `Memory`. The draft is of no use then.
-pub fn spend_number(draft: &mut Draft<'_>, file: u64, number: u64) -> Result<(), Halt>
-    requires alone { draft.old.modes.locks ≡ Mode.Exclusive }
-    requires next { ShowsNext draft.old file number }
-    ensures turns { MatchResult result
-        (λ _. Turns draft.old draft.new (number_spent number))
-        (StopsAt draft.old (locks_at file)) }
-    ensures keeps { OnOk result (KeepsInodes draft.old draft.new) }
-{
-    let index = bucket_index(file);
-    let alloc = draft.alloc();
-    let bucket = match draft.locks(index)? {
-        Some(old) => old.with_number(alloc)?,
-        None => LockBucket::new(alloc).with_number(alloc)?,
-    };
-    Ok(draft.put_locks(index, bucket)?)
 }
 
 /// Asks besides for what holds the locks of the file at a number.

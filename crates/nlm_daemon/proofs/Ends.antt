@@ -32,7 +32,7 @@ use Rattle.nlm_ranges.specs.Files.{FileValue, no_file}
 use Rattle.nlm_ranges.specs.Granting.{IsSet}
 use Rattle.nlm_ranges.specs.Held.{IsInTheWay}
 use Rattle.nlm_ranges.specs.declared.file.Settled.{Settled}
-use Rattle.nfs_objects.specs.Knows.{Knows, Possible, Turns, TurnsWhere}
+use Rattle.nfs_objects.specs.Knows.{Knows, Possible, TurnsWhere}
 use Rattle.nfs_objects.specs.Stands.{Kept, file_there}
 use Rattle.nfs_objects.specs.Store.{Store, with_writes}
 use Rattle.nfs_objects.specs.Values.{DraftValue}
@@ -41,7 +41,7 @@ use Rattle.nlm_daemon.proofs.Owning.{ended-changes, ended-own, grants_told, noth
 use Rattle.nlm_daemon.proofs.Owning.{shares-instead, shares-still, waits-instead}
 use Rattle.nlm_daemon.proofs.Coming.{comes-as, comes-unchanged, sent-comes}
 use Rattle.nlm_daemon.proofs.Laid.{IsLaid, fewer_grants, laid-there}
-use Rattle.nlm_daemon.proofs.Turning.{sends-nothing, set-sound, spent-sound, where-after}
+use Rattle.nlm_daemon.proofs.Turning.{sends-nothing, set-sound, spent-sound}
 use Rattle.nlm_daemon.specs.Comes.{ComesTo, KnowsEnd, TurnsSending}
 use Rattle.nlm_daemon.specs.Holders.{holder_of}
 
@@ -270,7 +270,7 @@ module _ (old : DraftValue) (a : LockArguments) (by_message : Bool) (n : ℕ) (f
           held-as false first s k w statuses.DeniedNoLocks [] k.state
           (inr (none s k w, unchanged statuses.DeniedNoLocks k.state))
 
-      module _ (mid new : DraftValue) (number : ℕ) (next : Knows old (λ k. IsNextNumber k.state n number)) (e : ℕ)
+      module _ (new : DraftValue) (number : ℕ) (next : Knows old (λ k. IsNextNumber k.state n number)) (e : ℕ)
           (lives : Knows old (λ k. IsFileAt k.state n e)) where
         abbrev asked : Request
         asked = record {
@@ -290,23 +290,14 @@ module _ (old : DraftValue) (a : LockArguments) (by_message : Bool) (n : ℕ) (f
         abbrev Own : Kept → Type 0
         Own k = May n e longer k
 
-        pub held-waits : Turns old mid (number_spent number) → TurnsWhere Own mid new (locks_set n longer) →
-            ComesTo old new Held statuses.Blocked
-        held-waits spends puts =
-            sent-comes old new Held statuses.Blocked (λ k. Own (number_spent number k)) [] waits_now
-            (sends-nothing old new waits_now (λ k. Own (number_spent number k))
-            (where-after old mid new (number_spent number) (locks_set n longer) Own spends puts))
+        pub held-waits : TurnsWhere Own old new waits_now → ComesTo old new Held statuses.Blocked
+        held-waits puts =
+            sent-comes old new Held statuses.Blocked Own [] waits_now (sends-nothing old new waits_now Own puts)
             (λ k sound. set-sound n longer (number_spent number k) (spent-sound number k sound)) (λ s k w formed.
             let laid = laid-at old s k w formed in
             let firm = firm-of k.state formed.locks in
-            let there = file_there (with_writes s old.writes) k.state.exports in
-            let own = own-still k.state n f (has s k w) in
-            let at = lives s k w in (
-              record {
-                lives = record
-                    { object = at.object; lives = at.lives; regular = at.regular; exported = at.exported };
-                own = record { once = own.once; own = own.own };
-              },
+            let there = file_there (with_writes s old.writes) k.state.exports in (
+              record { lives = lives s k w; own = own-still k.state n f (has s k w) },
               held-as false first s k w statuses.Blocked [] (waits_now k).state
                   (inl (record {
                     number = number;
@@ -340,11 +331,12 @@ module _ (old : DraftValue) (a : LockArguments) (by_message : Bool) (n : ℕ) (f
             ∙ ap (λ (r : Request). record f { held = record f.held { waiting = f.held.waiting ++ r ∷ [] } })
             (is ∙ (λ i. record asked { host = (same i).host }))
 
-        pub held-put : (locks : FileValue) → locks ≡ longer → Turns old mid (number_spent number) →
-            TurnsWhere (May n e locks) mid new (locks_set n locks) → ComesTo old new Held statuses.Blocked
-        held-put locks is spends puts =
-            held-waits spends
-            (subst (λ x. TurnsWhere (May n e x) mid new (locks_set n x)) is puts)
+        pub held-put : (locks : FileValue) → locks ≡ longer →
+            TurnsWhere (May n e locks) old new (λ k. locks_set n locks (number_spent number k)) →
+            ComesTo old new Held statuses.Blocked
+        held-put locks is puts =
+            held-waits
+            (subst (λ x. TurnsWhere (May n e x) old new (λ k. locks_set n x (number_spent number k))) is puts)
 
 -- ---- what is put of a file
 module _ (old new : DraftValue) (IsEnd : State → NlmStatus → List Message → State → Type 0) (status : NlmStatus) (n : ℕ)

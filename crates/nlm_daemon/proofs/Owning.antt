@@ -1,7 +1,7 @@
 -- What a file has changes: whose the numbers of its grants are then, and what the machine comes to.
-use Rattle.std.proofs.Common.{◌≡◌, ◌==◌, ◌&&◌, ◌⊎◌, ℕ, ◌+◌, ◌≤◌, Bool, true, false, cond, not, List, [], ◌∷◌, ◌++◌}
-use Rattle.std.proofs.Common.{Option, Some, None, inl, inr, is_some, map, refl, sym, ◌∙◌, ap, subst, arith}
-use Rattle.std.proofs.lemmas.List.Elements.{Contains-append_cases}
+use Rattle.std.proofs.Common.{◌≡◌, ◌==◌, ◌&&◌, ◌⊎◌, ℕ, zero, ◌+◌, ◌≤◌, Bool, true, false, cond, not, List, [], ◌∷◌}
+use Rattle.std.proofs.Common.{◌++◌, Option, Some, None, inl, inr, is_some, map, refl, sym, ◌∙◌, ap, subst, arith}
+use Rattle.std.proofs.lemmas.List.Elements.{Contains-append_cases, Contains-append_left, Contains-append_right}
 use Rattle.std.proofs.lemmas.List.Sums.{sum_by-cons}
 use Rattle.std.specs.Cmp.{unsigned_Decides}
 use Rattle.std.specs.FinMap.{FinMap, contains_key, get, remove}
@@ -15,13 +15,13 @@ use Rattle.nfs_machine.specs.LocksFormed.{count_of}
 use Rattle.nfs_machine.specs.OneFile.{AreHeldUp, FileLocks, SetsMode, Settles, requested}
 use Rattle.nfs_machine.specs.State.{PendingGrant, Range, Request, Share, State}
 use Rattle.nfs_machine.proofs.Changes.{differs-remove}
-use Rattle.nfs_machine.proofs.FileMaps.{count-joined, total-with}
+use Rattle.nfs_machine.proofs.FileMaps.{count-joined, of-other, total-with}
 use Rattle.nfs_machine.proofs.Firm.{Firm, firm-answered, firm-ended, granting, none-listed}
 use Rattle.nlm_ranges.specs.Files.{FileValue, no_file}
 use Rattle.nlm_ranges.specs.Granting.{IsSet, IsSettled, granted_in}
 use Rattle.nlm_ranges.specs.declared.file.Settled.{Settled}
 use Rattle.nfs_objects.specs.Stands.{IsPendingIn}
-use Rattle.nfs_inodes.proofs.Locking.{cons-cases}
+use Rattle.nfs_inodes.proofs.Locking.{cons-cases, later}
 use Rattle.nfs_inodes.specs.Locks.{AreOwnNumbers, HasLocks, with_file}
 use Rattle.nlm_daemon.proofs.Laid.{AreFresh, IsLaid, SameLists, ended-still, fewer_grants, filter-has, laid-as}
 use Rattle.nlm_daemon.proofs.Laid.{laid-ended, laid-granted, laid-known, laid-put, laid-removed, laid-same, put-has}
@@ -154,6 +154,82 @@ module _ (m : State) (n : ℕ) (old : FileValue) (has : HasLocks m n old) where
           absurd cc
       either r q same (inr a) (inr b) = fresh.once r q a b same
 
+-- ---- whose a request is
+module _ (m : State) (firm : Firm m) (had : ℕ → FileValue) (laid : IsLaid m had) where
+  -- it waits for a file, or its grant is pending
+  abbrev pub IsMine : ℕ → Request → Type 0
+  IsMine q r = Contains (had q).pending r ⊎ Contains (had q).held.waiting r
+
+  abbrev waiting : ℕ → List Request
+  waiting q = of_file m.waiting q
+
+  waits : (q : ℕ) (r : Request) → Contains (had q).held.waiting r → Contains (waiting q) r
+  waits q r has = subst (λ (f : FileLocks). Contains f.waiting r) (sym (laid.held q)) has
+
+  -- a request that waits has no grant
+  apart-granted : (n o : ℕ) (r p : Request) → Contains (had n).pending r → Contains (had o).held.waiting p →
+      r.number ≡ p.number → ⊥
+  apart-granted n o r p pending has same =
+      let at : get m.granted r.number ≡ Some (grant_for n r) = (laid.pending r.number n r).1 (pending, refl) in
+      let one : cond {A = ℕ} (contains_key m.granted r.number) 1 0 ≡ 1 =
+      ap (λ (g : Option PendingGrant). cond {A = ℕ} (is_some g) 1 0) at in
+      let used = used-once m firm o r.number in
+      let some = counted r.number (waiting o) p (waits o p has) (sym same) in omega (arith, one, used, some)
+
+  -- nor does one wait for another file under its number
+  apart-waiting : (n o : ℕ) (r p : Request) → (o == n) ≡ false → Contains (had n).held.waiting r →
+      Contains (had o).held.waiting p → r.number ≡ p.number → ⊥
+  apart-waiting n o r p other first second same =
+      let number : ℕ = r.number in
+      let mine = counted number (waiting n) r (waits n r first) refl in
+      let theirs = counted number (waiting o) p (waits o p second) (sym same) in
+      let whole = total-with (count_of number) refl m.waiting n [] in
+      let rest = total-with (count_of number) refl (with_list m.waiting n []) o [] in
+      let there : count_of number (of_file (with_list m.waiting n []) o) ≡ count_of number (waiting o) =
+      ap (count_of number) (of-other m.waiting n [] o other) in
+      let most : cond {A = ℕ} (m.spent_grants number) 1 0 ≤ 1 = at-most (m.spent_grants number) in
+      let used = firm.numbers number in
+      omega (arith, mine, theirs, whole, rest, there, most, used)
+    where
+      at-most : (b : Bool) → cond {A = ℕ} b 1 0 ≤ 1
+      at-most true = omega arith
+      at-most false = omega arith
+
+  -- so it is told by its number
+  pub mine-once : (n o : ℕ) (r p : Request) → IsMine n r → IsMine o p → r.number ≡ p.number → (o ≡ n) × (r ≡ p)
+  mine-once n o r p (inl a) (inl b) same =
+      let first : get m.granted r.number ≡ Some (grant_for n r) = (laid.pending r.number n r).1 (a, refl) in
+      let second : get m.granted r.number ≡ Some (grant_for o p) = (laid.pending r.number o p).1 (b, sym same) in
+      let both : Some (grant_for n r) ≡ Some (grant_for o p) = sym first ∙ second in
+      let one : grant_for n r ≡ grant_for o p = cc in
+      (ap (λ (g : PendingGrant). g.file) (sym one), ap (λ (g : PendingGrant). g.request) one)
+  mine-once n o r p (inl a) (inr b) same = absurd (apart-granted n o r p a b same)
+  mine-once n o r p (inr a) (inl b) same = absurd (apart-granted o n p r b a (sym same))
+  mine-once n o r p (inr a) (inr b) same =
+      elim (o == n) as (λ t. (o == n) ≡ t → (o ≡ n) × (r ≡ p)) [
+        | true ↦ λ is.
+            (let here : o ≡ n = (unsigned_Decides o n).0 is in
+            let used = used-once m firm n r.number in (
+              here,
+              counted-once r.number (waiting n) (omega (arith, used)) r p (waits n r a)
+                  (subst (λ q. Contains (waiting q) p) here (waits o p b)) refl (sym same),
+            ))
+        | false ↦ λ other. absurd (apart-waiting n o r p other a b same)
+      ] refl
+
+  -- where each file has pending what is its own, so have the numbers of what is put
+  abbrev pub AllMine : (ℕ → FileValue) → Type 0
+  AllMine there = (q : ℕ) (r : Request) → Contains (there q).pending r → IsMine q r
+
+  pub own-mine : (x : State) (there : ℕ → FileValue) → IsLaid x there → AllMine there → (n : ℕ)
+      (pending : List Request) → ((r : Request) → Contains pending r → IsMine n r) → AreOwnNumbers x n pending
+  own-mine x there stands all n pending mine = record {
+    once = λ r q first second same. (mine-once n n r q (mine r first) (mine q second) same).1;
+    own = λ r has other q at.
+        let its = (stands.pending r.number other q).0 at in
+        (mine-once n other r q (mine r has) (all other q its.0) (sym its.1)).0;
+  }
+
 -- ---- requests of a file are granted
 -- what waited waits still, or is granted
 settles-count : (n : ℕ) (a b : FileLocks) (granted : List Request) → Settles a granted b →
@@ -168,6 +244,23 @@ settles-count n a b (r ∷ granted) (mid, one, rest) =
     let joined = count-joined (λ (q : Request). q.number == n) one.earlier r one.later in
     let sum = sum_by-cons (λ (q : Request). cond {A = ℕ} (q.number == n) 1 0) r granted in
     omega (arith, more, left, had, joined, sum)
+
+-- what is granted waited
+pub settles-waited : (a b : FileLocks) (granted : List Request) (r : Request) → Settles a granted b →
+    Contains granted r → Contains a.waiting r
+settles-waited a b [] r settles (k, within, at) = absurd (omega (arith, within))
+settles-waited a b (q ∷ granted) r (mid, one, rest) has = elim (cons-cases q granted r has) [
+  | inl same ↦
+      subst (Contains a.waiting) same (subst (λ l. Contains l q) (sym one.waits)
+      (Contains-append_right one.earlier (q ∷ one.later) q (zero, omega arith, refl)))
+  | inr there ↦
+      subst (λ l. Contains l r) (sym one.waits)
+      (elim (Contains-append_cases one.earlier one.later r
+      (subst (λ l. Contains l r) one.waiting (settles-waited mid b granted r rest there))) [
+        | inl early ↦ Contains-append_left one.earlier (q ∷ one.later) r early
+        | inr late ↦ Contains-append_right one.earlier (q ∷ one.later) r (later q one.later r late)
+      ])
+]
 
 -- in the end what waits is held up
 pub settles-held : (a b : FileLocks) (granted : List Request) → Settles a granted b → AreHeldUp b

@@ -11,8 +11,8 @@ use Rattle.nfs_machine.specs.WellFormed.{WellFormed}
 use Rattle.nfs_objects.specs.Fits.{Fits}
 use Rattle.nfs_objects.specs.Knows.{Possible, TurnsWhere}
 use Rattle.nfs_objects.specs.Sound.{Sound}
-use Rattle.nfs_objects.specs.Stands.{Kept}
-use Rattle.nfs_objects.specs.Store.{Store}
+use Rattle.nfs_objects.specs.Stands.{Kept, Represents}
+use Rattle.nfs_objects.specs.Store.{Store, with_writes}
 use Rattle.nfs_objects.specs.Values.{DraftValue}
 use Rattle.nlm_daemon.specs.Comes.{Sends, TurnsSending}
 
@@ -26,6 +26,14 @@ sends-more old mid new messages m sends is = record {
   rest = is
       ∙ (λ i. record (sends.rest i) { messages = (sends.rest i).messages ++ m ∷ [] })
       ∙ (λ i. record old { messages = append_assoc old.messages messages (m ∷ []) i });
+}
+
+pub sends-joined : (old mid new : DraftValue) (messages more : List Message) → Sends old mid messages →
+    Sends mid new more → Sends old new (messages ++ more)
+sends-joined old mid new messages more first second = record {
+  rest = second.rest
+      ∙ (λ i. record (first.rest i) { messages = (first.rest i).messages ++ more })
+      ∙ (λ i. record old { messages = append_assoc old.messages messages more i });
 }
 
 -- a message for one request more
@@ -65,6 +73,23 @@ put-sends IsSo old mid new messages op turns sends = record {
 -- ---- changes of sound and well-formed states
 abbrev pub IsFormed : Kept → Type 0
 IsFormed k = Sound k × WellFormed k.state
+
+-- messages, and nothing that is put
+pub sends-before : (old new : DraftValue) (messages : List Message) (op : Kept → Kept) (IsSo : Kept → Type 0) →
+    Sends old new messages → ((s : Store) (k : Kept) → Represents (with_writes s old.writes) k → IsSo k →
+    Represents (with_writes s old.writes) (op k)) → TurnsSending IsSo old new messages op
+sends-before old new messages op IsSo sends stays = record {
+  turns = record {
+    ctx = ap (λ (d : DraftValue). d.ctx) sends.rest;
+    view = ap (λ (d : DraftValue). d.view) sends.rest;
+    modes = ap (λ (d : DraftValue). d.modes) sends.rest;
+    messages = refl;
+    turns = λ s k fits stands so.
+        subst (λ ws. Represents (with_writes s ws) (op k)) (sym (ap (λ (d : DraftValue). d.writes) sends.rest))
+        (stays s k stands so);
+  };
+  sent = ap (λ (d : DraftValue). d.messages) sends.rest;
+}
 
 -- one behind another, where what the first leaves is so
 pub sends-both : (old mid new : DraftValue) (f g : Kept → Kept) (IsSo : Kept → Type 0) (messages more : List Message) →

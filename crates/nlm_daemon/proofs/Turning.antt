@@ -1,25 +1,12 @@
--- One change of what files have of locks after another.
+-- Changes of what files have of locks.
 use Rattle.std.proofs.Common.{ℕ, [], sym, ◌∙◌, subst, append-nil}
 use Rattle.nlm_ranges.specs.Files.{FileValue}
-use Rattle.nfs_objects.specs.Fits.{Fits}
-use Rattle.nfs_objects.specs.Knows.{Turns, TurnsWhere}
+use Rattle.nfs_objects.specs.Knows.{TurnsWhere}
 use Rattle.nfs_objects.specs.Sound.{Sound}
 use Rattle.nfs_objects.specs.Stands.{Kept}
 use Rattle.nfs_objects.specs.Values.{DraftValue}
 use Rattle.nfs_inodes.specs.Locks.{locks_set, number_spent}
 use Rattle.nlm_daemon.specs.Comes.{TurnsSending}
-
--- behind a change, another where this is so of what the store stands for then
-pub where-after : (old mid new : DraftValue) (f g : Kept → Kept) (IsSo : Kept → Type 0) → Turns old mid f →
-    TurnsWhere IsSo mid new g → TurnsWhere (λ k. IsSo (f k)) old new (λ k. g (f k))
-where-after old mid new f g IsSo first second = record {
-  ctx = second.ctx ∙ first.ctx;
-  view = second.view ∙ first.view;
-  modes = second.modes ∙ first.modes;
-  messages = second.messages ∙ first.messages;
-  turns = λ s k fits stands so. second.turns s (f k) (subst (λ v. Fits v s) (sym first.view) fits)
-      (first.turns s k fits stands) so;
-}
 
 -- with no message
 pub sends-nothing : (old new : DraftValue) (op : Kept → Kept) (IsSo : Kept → Type 0) → TurnsWhere IsSo old new op →

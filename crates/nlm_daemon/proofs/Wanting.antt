@@ -1,12 +1,12 @@
 -- The buckets of all files, asked for at once.
-use Rattle.std.proofs.Common.{◌≡◌, ◌==◌, ◌%◌, ◌<◌, ◌+◌, ◌⊎◌, ℕ, zero, suc, true, false, List, [], ◌∷◌, inl, inr, refl}
+use Rattle.std.proofs.Common.{◌≡◌, ◌==◌, ◌<◌, ◌+◌, ◌⊎◌, ℕ, zero, suc, true, false, List, [], ◌∷◌, inl, inr, refl}
 use Rattle.std.proofs.Common.{sym, ◌∙◌}
 use Rattle.std.proofs.Common.{ap, arith, subst, IsSome}
 use Rattle.std.specs.Cmp.{unsigned_Decides}
 use Rattle.nlm_ranges.specs.Buckets.{bucket_count}
 use Rattle.nfs_objects.proofs.Knows.{covers-among, stops-wider}
 use Rattle.nfs_objects.specs.Attempt.{StopsCall}
-use Rattle.nfs_objects.specs.Calls.{IsAmong, buckets_below, locks_at}
+use Rattle.nfs_objects.specs.Calls.{IsAmong, buckets_below}
 use Rattle.nfs_objects.specs.Values.{DraftValue, ModesValue, is_addr, known_at}
 use Rattle.nfs_objects.specs.declared.address.Addr.{Addr}
 use Rattle.nfs_objects.specs.declared.address.Addr.TheVariants as addresses
@@ -93,18 +93,6 @@ buckets-stop d halt stops =
     stops-wider d.modes (buckets_below bucket_count) all_places 0 d.view halt
     (covers-among (buckets_below bucket_count) all_places d.view (λ a among. inr among)) stops
 
-pub file-stops : (old d : DraftValue) → d.view ≡ old.view → d.modes ≡ old.modes → (n : ℕ) (halt : Halt) →
-    StopsAt d (locks_at n) halt → StopsAt old all_places halt
-file-stops old d view modes n halt stops =
-    stops-wider old.modes (locks_at n) all_places 0 old.view halt
-    (covers-among (locks_at n) all_places old.view (λ a among. elim among [
-      | inl is ↦ inr (subst (IsAmong (buckets_below bucket_count)) is
-          (among-buckets bucket_count (n % bucket_count) (omega arith)))
-      | inr never ↦ absurd never
-    ]))
-    (subst (λ (m : ModesValue). StopsCall m (locks_at n) 0 old.view halt) modes
-    (subst (λ v. StopsCall d.modes (locks_at n) 0 v halt) view stops))
-
 pub bucket-stops : (d : DraftValue) (index : ℕ) (halt : Halt) → index < bucket_count →
     StopsAt d (addresses.Locks index ∷ []) halt → StopsAt d all_places halt
 bucket-stops d index halt low stops =
@@ -113,3 +101,11 @@ bucket-stops d index halt low stops =
       | inl is ↦ inr (subst (IsAmong (buckets_below bucket_count)) is (among-buckets bucket_count index low))
       | inr never ↦ absurd never
     ])) stops
+
+-- also where something was put before
+pub put-stops : (old d : DraftValue) → d.view ≡ old.view → d.modes ≡ old.modes → (index : ℕ) (halt : Halt) →
+    index < bucket_count → StopsAt d (addresses.Locks index ∷ []) halt → StopsAt old all_places halt
+put-stops old d view modes index halt low stops =
+    bucket-stops old index halt low
+    (subst (λ (m : ModesValue). StopsCall m (addresses.Locks index ∷ []) 0 old.view halt) modes
+    (subst (λ v. StopsCall d.modes (addresses.Locks index ∷ []) 0 v halt) view stops))

@@ -1,20 +1,20 @@
 -- What is freed where a caller has nothing more (RFC 1813, appendix II, 6.2: procedure 23).
 use Rattle.std.specs.Prelude.{◌≡◌, ◌≤◌, ◌+◌, ℕ, Contains, List, [], ◌∷◌, ◌++◌, Option, Some}
-use Rattle.std.specs.Prelude.{None, option_map, map}
-use Rattle.std.specs.Prelude.{true, ◌⊎◌}
+use Rattle.std.specs.Prelude.{None, option_map, map, filter}
+use Rattle.std.specs.Prelude.{true, ◌==◌, ◌%◌}
 use Rattle.std.specs.List.{IsDistinct}
 use Rattle.nfs_machine.specs.Exports.{LivingExport}
 use Rattle.nfs_machine.specs.Grants.{grant_message}
-use Rattle.nfs_machine.specs.State.{State}
+use Rattle.nfs_machine.specs.State.{Request, State}
 use Rattle.nlm_ranges.specs.Files.{FileValue}
 use Rattle.nlm_ranges.specs.Granting.{IsFreed, IsSettled, granted_in}
 use Rattle.nlm_ranges.specs.declared.file.Settled.{Settled}
-use Rattle.nlm_ranges.specs.Buckets.{BucketValue, IsBucket, LockedValue, same_number}
+use Rattle.nlm_ranges.specs.Buckets.{BucketValue, IsBucket, LockedValue, bucket_count, same_number}
 use Rattle.nfs_objects.specs.Stands.{bucket_at, lives_in}
 use Rattle.nfs_objects.specs.Values.{DraftValue, known_at}
 use Rattle.nfs_objects.specs.declared.address.Addr.TheVariants as addresses
-use Rattle.nfs_inodes.specs.Locks.{HasLocks, IsFileAt, MayHave, locks_set}
-use Rattle.nlm_daemon.specs.Comes.{TurnsSending}
+use Rattle.nfs_inodes.specs.Locks.{HasLocks, IsFileAt}
+use Rattle.nlm_daemon.specs.Comes.{Sends}
 
 -- the files stand by rising numbers, from above the first
 abbrev pub AreRising : ℕ → List LockedValue → Type 0
@@ -78,10 +78,20 @@ pub record AreFreed (m : State) (caller_name : List ℕ) (freed : List LockedVal
   pub others : (number : ℕ) → ((new : LockedValue) → Contains freed new → new.number ≡ number → ⊥) →
       IsFreed (had number) caller_name (had number)
 
--- what waits for a file was tried: where nothing is granted, nothing is put
-pub record SettlesOne (old new : DraftValue) (f : LockedValue) : Type 0 where
-  pub settled : Settled
-  pub is : IsSettled f.file settled
-  pub puts : ((granted_in settled ≡ []) × (new ≡ old)) ⊎ TurnsSending
-      (λ k. MayHave k.state (record { number = f.number; export = f.export; file = settled.file })) old new
-      (map grant_message (granted_in settled)) (locks_set f.number settled.file)
+-- these files come of freed ones, what waits for each was tried, one after the other, and these requests were granted
+abbrev pub AreSettled : (freed files : List LockedValue) → (granted : List Request) → Type 0
+AreSettled [] files granted = (files ≡ []) × (granted ≡ [])
+AreSettled (f ∷ freed) files granted =
+    (settled : Settled) × IsSettled f.file settled × (rest : List LockedValue) × (more : List Request) ×
+    (files ≡ record f { file = settled.file } ∷ rest) × (granted ≡ granted_in settled ++ more) ×
+    AreSettled freed rest more
+
+-- and the draft puts a message for each
+pub record SettlesAll (old new : DraftValue) (freed files : List LockedValue) : Type 0 where
+  pub granted : List Request
+  pub settled : AreSettled freed files granted
+  pub sends : Sends old new (map grant_message granted)
+
+-- those of these files that are in the bucket with this index
+abbrev pub of_bucket : (index : ℕ) → List LockedValue → List LockedValue
+of_bucket index files = filter (λ (f : LockedValue). f.number % bucket_count == index) files

@@ -6,19 +6,20 @@ ghost use Rattle.nfs_machine.specs.WellFormed.{WellFormed};
 ghost use Rattle.nfs_machine.specs.declared.calls.Call.TheVariants as calls;
 ghost use Rattle.nfs_objects.specs.Attempt.{EndsCall, EndsFirst, HaltsFirst, unless_seen};
 ghost use Rattle.nfs_objects.specs.Begins.{Begins};
-ghost use Rattle.nfs_objects.specs.Calls.{buckets_below, locks_at};
-ghost use Rattle.nfs_objects.specs.Knows.{Knows};
+ghost use Rattle.nfs_objects.specs.Calls.{buckets_below};
+ghost use Rattle.nfs_objects.specs.Knows.{Knows, TurnsWhere};
 ghost use Rattle.nlm_ranges.specs.Buckets.{bucket_count};
 ghost use Rattle.nfs_objects.specs.Values.{known_at};
+ghost use Rattle.nfs_inodes.specs.Locks.{MayAllHave, all_set};
 ghost use Rattle.nfs_inodes.specs.Stops.{StopsAt};
 ghost use Rattle.nlm_daemon.specs.Comes.{ComesTo};
-ghost use Rattle.nlm_daemon.specs.Freeing.{AddsBucket, AddsFreed, AddsOne, AreFreed, IsFreedOne, SettlesOne};
+ghost use Rattle.nlm_daemon.specs.Freeing.{AddsBucket, AddsFreed, AddsOne, AreFreed, IsFreedOne, SettlesAll, of_bucket};
 
-use crate::granting::put_settled;
-use nfs_inodes::{Asking, exports, lives, set_locks};
+use crate::granting::send_grants;
+use nfs_inodes::{Asking, exports, lives, set_bucket};
 use nfs_machine::Reply;
 use nfs_objects::{Addr, Change, Draft, Halt, LivingExport, Mode};
-use nlm_ranges::{LOCK_BUCKETS, LockedFile, LockedFiles};
+use nlm_ranges::{LOCK_BUCKETS, LockedFile, LockedFiles, bucket_index};
 use side_wire::{FreeAllArguments, NlmCall, NlmReply};
 use std::alloc::{AllocError, Global};
 
@@ -53,28 +54,52 @@ fn free_all(draft: &mut Draft<'_>, caller_name: &[u8]) -> Result<(), Halt>
     exports(draft)?;
     ask_buckets(draft)?;
     let freed = all_freed(draft, caller_name)?;
-    for file in &freed {
-        set_locks(draft, file.clone()?)?;
-    }
-    for file in &freed {
-        settle_file(draft, file)?;
+    let files = settle_all(draft, &freed)?;
+    for index in 0..LOCK_BUCKETS {
+        put_bucket(draft, index, &files)?;
     }
     Ok(())
 }
 
-/// Tries what waits for a file; where nothing is granted, nothing is put.
-fn settle_file(draft: &mut Draft<'_>, file: &LockedFile) -> Result<(), Halt>
+/// The files where what waits was tried, one after the other, with a message for each request that is granted.
+fn settle_all(draft: &mut Draft<'_>, freed: &[LockedFile]) -> Result<Vec<LockedFile>, AllocError>
+    ensures { IfOk result (λ files. SettlesAll draft.old draft.new freed.now files.items) }
+{
+    let alloc = draft.alloc();
+    let mut files = Vec::with_capacity(alloc, freed.len())?;
+    for file in freed {
+        let settled = file.file().settle(alloc)?;
+        send_grants(draft, &settled.granted)?;
+        let tried = LockedFile::new(alloc, file.number(), file.export(), settled.file)?;
+        files.push(tried)?;
+    }
+    Ok(files)
+}
+
+/// Puts those of these files that are in the bucket with this index.
+fn put_bucket(draft: &mut Draft<'_>, index: u8, files: &[LockedFile]) -> Result<(), Halt>
     requires { draft.old.modes.locks ≡ Mode.Exclusive }
     ensures { MatchResult result
-        (λ _. SettlesOne draft.old draft.new file.now)
-        (StopsAt draft.old (locks_at file.now.number)) }
+        (λ _. TurnsWhere (λ k. MayAllHave k.state (of_bucket index files.now)) draft.old draft.new
+        (all_set (of_bucket index files.now)))
+        (StopsAt draft.old (Addr.Locks index ∷ [])) }
 {
-    let settled = file.file().settle(draft.alloc())?;
-    if settled.granted.is_empty() {
-        return Ok(());
-    }
-    put_settled(draft, file.number(), file.export(), settled)?;
+    let own = of_bucket(draft.alloc(), index, files)?;
+    set_bucket(draft, index, &own)?;
     Ok(())
+}
+
+/// Those of these files that are in the bucket with this index.
+fn of_bucket(alloc: Global, index: u8, files: &[LockedFile]) -> Result<Vec<LockedFile>, AllocError>
+    ensures { IfOk result (λ own. own.items ≡ of_bucket index files.now) }
+{
+    let mut own = Vec::new(alloc);
+    for file in files {
+        if bucket_index(file.number()) == index {
+            own.push(file.clone()?)?;
+        }
+    }
+    Ok(own)
 }
 
 /// Asks for all buckets that the draft lacks, at once.

@@ -208,7 +208,10 @@ pub(crate) fn put_settled(
 /// # Errors
 ///
 /// `AllocError` where the memory was refused. The draft is of no use then.
-fn send_grants(draft: &mut Draft<'_>, granted: &[Arc<LockRequest>]) -> Result<(), AllocError>
+pub(crate) fn send_grants(
+    draft: &mut Draft<'_>,
+    granted: &[Arc<LockRequest>],
+) -> Result<(), AllocError>
     ensures { OnOk result (Sends draft.old draft.new (map grant_message (map arc_value granted.now))) }
 {
     for request in granted {

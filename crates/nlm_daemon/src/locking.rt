@@ -17,7 +17,7 @@ ghost use Rattle.nlm_daemon.specs.Comes.{ComesTo, lock_places};
 use crate::answering::{Procedure, answer};
 use crate::checking::{Place, place_of};
 use crate::granting::put_settled;
-use nfs_inodes::{File, locks_of, next_number, set_locks, spend_number};
+use nfs_inodes::{File, locks_of, next_number, set_locks, set_locks_spending};
 use nfs_objects::{Addr, Change, Draft, Halt, Mode};
 use nlm_ranges::{LockRequest, LockedFile, OneFile};
 use side_wire::{LockArguments, NlmStatus};
@@ -113,8 +113,8 @@ fn held_up(
         by_message,
     )?;
     let longer = locks.with_waiting(alloc, request)?;
-    spend_number(draft, file.number, number)?;
-    put(draft, file.number, file.export, longer)?;
+    let waiting = LockedFile::new(alloc, file.number, file.export, longer)?;
+    set_locks_spending(draft, waiting, number)?;
     Ok(NlmStatus::Blocked)
 }
 

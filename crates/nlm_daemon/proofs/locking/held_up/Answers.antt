@@ -1,9 +1,5 @@
-use Rattle.std.proofs.Common.{◌∙◌, ap, sym}
+use Rattle.std.proofs.Common.{sym}
 use Rattle.std.proofs.lemmas.Result.{err_from_is_err_and}
-use Rattle.nfs_objects.proofs.Knows.{turned-stops}
-use Rattle.nfs_objects.specs.Calls.{locks_at}
-use Rattle.nfs_objects.specs.Values.{ModesValue}
-use Rattle.nfs_inodes.specs.Locks.{number_spent}
 use Rattle.nlm_daemon.proofs.Ends.{comes-known, held-blocked, held-denied, held-none, held-put, longer-is}
 use Rattle.nlm_daemon.proofs.locking.held_up.Goals as goal
 
@@ -32,34 +28,25 @@ returns-in_default c =
 pub new-requires : goal.new-requires
 new-requires c = c.requires.place.fits
 
-pub spend_number-requires-clause-next : goal.spend_number-requires-clause-next
-spend_number-requires-clause-next c = (rw c.in-Some.is at c.in_ok-number.ensures).0
+pub set_locks_spending-requires-clause-next : goal.set_locks_spending-requires-clause-next
+set_locks_spending-requires-clause-next c = rw c.in_ok-waiting.ensures ((rw c.in-Some.is at c.in_ok-number.ensures).0)
 
-pub returns-in_err-spend_number : goal.returns-in_err-spend_number
-returns-in_err-spend_number c =
-    let p =
-    err_from_is_err_and c.from_residual-in_err-spend_number.result c.from_residual-in_err-spend_number.ensures.1 in
-    rw (p.1, p.2) c.in_err-spend_number.ensures.turns
-
-pub put-requires : goal.put-requires
-put-requires c = ap (λ (m : ModesValue). m.locks) c.in_ok-spend_number.ensures.turns.modes ∙ c.requires.alone
-
-pub returns-in_err-put : goal.returns-in_err-put
-returns-in_err-put c =
-    let p = err_from_is_err_and c.from_residual-in_err-put.result c.from_residual-in_err-put.ensures.1 in
-    rw (p.1, p.2) (turned-stops c.args.draft.now c.spend_number.new.draft (number_spent c.in-Some.number)
-    (locks_at c.args.place.now.file.known.number) 0 _ c.in_ok-spend_number.ensures.turns c.in_err-put.ensures)
+pub returns-in_err-set_locks_spending : goal.returns-in_err-set_locks_spending
+returns-in_err-set_locks_spending c =
+    let p = err_from_is_err_and c.from_residual-in_err-set_locks_spending.result
+    c.from_residual-in_err-set_locks_spending.ensures.1 in
+    rw (p.1, p.2) (rw c.in_ok-waiting.ensures at c.in_err-set_locks_spending.ensures)
 
 pub returns : goal.returns
 returns c =
     held-put c.args.draft.now c.args.arguments.now c.args.by_message c.args.place.now.file.known.number c.args.locks.now
     c.requires.knows c.if-not-arguments.false (sym c.if-is_waiting.ensures)
-    c.spend_number.new.draft c.put.new.draft c.in-Some.number (rw c.in-Some.is at c.in_ok-number.ensures).1
+    c.set_locks_spending.new.draft c.in-Some.number (rw c.in-Some.is at c.in_ok-number.ensures).1
     c.args.place.now.file.known.export c.requires.place.lives c.in_ok-longer.longer
     (longer-is c.args.draft.now c.args.arguments.now c.args.by_message c.args.place.now.file.known.number
     c.args.locks.now c.requires.knows c.if-not-arguments.false (sym c.if-is_waiting.ensures)
-    c.spend_number.new.draft c.put.new.draft c.in-Some.number (rw c.in-Some.is at c.in_ok-number.ensures).1
+    c.set_locks_spending.new.draft c.in-Some.number (rw c.in-Some.is at c.in_ok-number.ensures).1
     c.args.place.now.file.known.export c.requires.place.lives c.in_ok-request.request c.in_ok-longer.longer
     c.ctx.result.now c.ctx.ensures c.in_ok-request.ensures
     c.in_ok-longer.ensures)
-    c.in_ok-spend_number.ensures.turns c.in_ok-put.ensures
+    (rw c.in_ok-waiting.ensures at c.in_ok-set_locks_spending.ensures)
