@@ -1,0 +1,5 @@
+pub mod Adding
+pub mod Looked
+pub mod Marked
+pub mod Noted
+pub mod Prefixes

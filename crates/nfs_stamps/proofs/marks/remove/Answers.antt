@@ -1,0 +1,7 @@
+use Rattle.std.proofs.Common.{None}
+use Rattle.nfs_stamps.proofs.Looked.{stamp_changed}
+use Rattle.nfs_stamps.proofs.marks.remove.Goals as goal
+
+pub returns : goal.returns
+returns g c b =
+    stamp_changed c.args.stamps.now c.swap_remove.new.self c.args.address None c.swap_remove.ensures.updates b

@@ -1,0 +1,111 @@
+//! Marks: by which commits what stands in a table was put.
+
+ghost use Rattle.std.specs.Prelude.{◌≡◌, [], None, OnErr, OnOk, Some, if◌then◌else◌, option_copied};
+ghost use Rattle.nfs_objects.specs.Values.{is_addr};
+ghost use Rattle.nfs_objects.specs.declared.address.Addr.{Addr};
+ghost use Rattle.nfs_stamps.specs.Marking.{IsMarked, is_large, stamp_at};
+
+use crate::log::Naming;
+use crate::stamp::Stamp;
+use indexmap::IndexMap;
+use nfs_objects::Addr;
+use std::alloc::{AllocError, Global};
+use std::marker::Model;
+
+/// Whether what stands at an address may be so large that to compare it takes longer than to look a stamp up.
+pub fn is_large(address: Addr) -> bool
+    ensures { result ≡ is_large address }
+{
+    match address {
+        Addr::Exports
+        | Addr::Mounts
+        | Addr::Block { .. }
+        | Addr::Page { .. }
+        | Addr::Part { .. }
+        | Addr::Locks(_) => true,
+        Addr::Inode(_) | Addr::Map { .. } | Addr::Usage { .. } => false,
+    }
+}
+
+/// By which commit the object at an address was put. Only large objects have a mark, and none is missed: what has none
+/// is compared by value.
+#[derive(Drop)]
+pub struct Marks<J: Naming> {
+    stamps: IndexMap<Addr, Stamp<J>>,
+}
+
+impl<J: Naming> Model for Marks<J> {
+    ghost use Rattle.nfs_stamps.specs.Marking.{AreLarge, MarksValue};
+
+    ghost Value = { MarksValue };
+
+    ghost view = { λ m. m.stamps.entries };
+
+    ghost invariant = { λ m. AreLarge m.stamps.entries };
+}
+
+impl<J: Naming> Marks<J> {
+    /// No marks.
+    pub fn new(alloc: Global) -> Marks<J>
+        ensures { result ≡ [] }
+    {
+        Marks {
+            stamps: IndexMap::new(alloc),
+        }
+    }
+
+    /// By which commit the object at an address was put, if it has a mark.
+    pub fn find(&self, address: Addr) -> Option<&Stamp<J>>
+        ensures { option_copied result ≡ stamp_at self.now address }
+    {
+        // It brings that what is small has no mark.
+        let _ = &self.stamps;
+        if !is_large(address) {
+            return None;
+        }
+        self.stamps.get(&address)
+    }
+
+    /// Marks an address with the stamp of the commit that put what stands there, or takes its mark away. Where there is
+    /// no memory for the mark it has none.
+    pub fn set(&mut self, address: Addr, stamp: Option<&Stamp<J>>)
+        ensures { IsMarked self.old self.new address (option_copied stamp.entry) }
+    {
+        // It brings that what is small has no mark.
+        let _ = &self.stamps;
+        if !is_large(address) {
+            return;
+        }
+        match stamp {
+            Some(stamp) => {
+                let _ = put(&mut self.stamps, address, stamp.again());
+            }
+            None => remove(&mut self.stamps, address),
+        }
+    }
+}
+
+/// Puts a mark at an address. An error comes only where it had none, and changes nothing.
+fn put<J: Naming>(
+    stamps: &mut IndexMap<Addr, Stamp<J>>,
+    address: Addr,
+    stamp: Stamp<J>,
+) -> Result<(), AllocError>
+    ensures ok { OnOk result ((b : Addr) → stamp_at stamps.new.entries b
+        ≡ (if is_addr address b then Some stamp else stamp_at stamps.old.entries b)) }
+    ensures same { OnErr result (stamps.new.entries ≡ stamps.old.entries) }
+    ensures absent { OnErr result (stamp_at stamps.old.entries address ≡ None) }
+{
+    match stamps.insert(address, stamp) {
+        Ok(_) => Ok(()),
+        Err(_) => Err(AllocError),
+    }
+}
+
+/// Takes the mark of an address away.
+fn remove<J: Naming>(stamps: &mut IndexMap<Addr, Stamp<J>>, address: Addr)
+    ensures { (b : Addr) → stamp_at stamps.new.entries b
+        ≡ (if is_addr address b then None else stamp_at stamps.old.entries b) }
+{
+    stamps.swap_remove(&address);
+}
