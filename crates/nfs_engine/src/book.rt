@@ -1,8 +1,11 @@
 //! The book: the present store with the records that led to it, and which calls are in progress.
 
 ghost use Rattle.std.specs.Prelude.{◌≡◌, ◌+◌, ◌-◌, ◌^◌, ◌<◌, ◌≤◌, ℕ, true, length, map};
-ghost use Rattle.std.specs.Prelude.{IfErr, IfOk, MatchOption, OnOk, Some};
+ghost use Rattle.std.specs.Prelude.{IfErr, IfOk, IfSome, MatchOption, OnOk, Some, option_copied, option_map};
+ghost use Rattle.std.specs.Prelude.{slice_get};
+ghost use Rattle.std.specs.Arc.{arc_value};
 ghost use Rattle.std.specs.Bool.{Decides};
+ghost use Rattle.std.specs.List.{AllByRecursion};
 ghost use Rattle.nfs_engine.specs.Arrivals.{received_value, shared_value};
 ghost use Rattle.nfs_engine.specs.Asked.{IsAsked};
 ghost use Rattle.nfs_engine.specs.Book.{Admits, Commits, GivesUp, IsNoRepeat, IsRun, IsWant, LeadsBook, MayCommit};
@@ -13,6 +16,7 @@ ghost use Rattle.nfs_engine.specs.Opening.{IsStartError, Opens, no_store};
 ghost use Rattle.nfs_engine.specs.Repeats.{Keeps, NoneIsKept, origin_of};
 ghost use Rattle.nfs_engine.specs.Running.{living_count, running_at};
 ghost use Rattle.nfs_engine.specs.Standing.{HasObjects};
+ghost use Rattle.nfs_engine.specs.Tables.{Stands};
 ghost use Rattle.nfs_objects.specs.Store.{with_writes};
 ghost use Rattle.nfs_objects.specs.Values.{write_value};
 ghost use Rattle.nfs_machine.specs.Changing.{is_changing};
@@ -36,7 +40,7 @@ use crate::running::{AdmitError, Calls, Place};
 use bytes::Bytes;
 use nfs_machine::laws::side_replies_have_forms;
 use nfs_machine::{Ctx, Limits};
-use nfs_objects::{View, Write};
+use nfs_objects::{Addr, Object, View, Write};
 use nfs_replies::{Capacity, Replies, Sought};
 use std::alloc::{AllocError, Global};
 use std::marker::Model;
@@ -337,6 +341,32 @@ impl Book {
         self.is_made_here(finished.ctx())
             && self.has(finished)
             && self.journal.objects().fits(finished.view())
+    }
+
+    /// The same of a call of which all that it has read stands in the present store. No object is compared.
+    pub fn fits_shown(&self, finished: &Finished) -> bool
+        requires { AllByRecursion (Stands (store_in self.now)) finished.now.done.view.entries }
+        ensures { Decides result (MayCommit self.now finished.now) }
+    {
+        self.is_made_here(finished.ctx())
+            && self.has(finished)
+            && self.journal.objects().fits_shown(finished.view())
+    }
+
+    /// Whether what a call has read at this place stands in the present store, if its view has such a place. It
+    /// compares by value.
+    pub fn shows(&self, finished: &Finished, place: usize) -> bool
+        ensures { Decides result
+            (IfSome (slice_get finished.now.done.view.entries place) (Stands (store_in self.now))) }
+    {
+        self.journal.objects().shows_entry(finished.view(), place)
+    }
+
+    /// What stands at an address.
+    pub fn find(&self, address: Addr) -> Option<&Arc<Object>>
+        ensures { option_map arc_value (option_copied result) ≡ (store_in self.now).at address }
+    {
+        self.journal.objects().find(address)
     }
 
     /// Whether a call was made under what this server was started with.

@@ -119,8 +119,16 @@ impl Objects {
         true
     }
 
+    /// The same of a view of which all that it has read stands here. No object is looked at.
+    pub(crate) fn fits_shown(&self, view: &View) -> bool
+        requires { AllByRecursion (Stands (store_of self.now.slots)) view.now.entries }
+        ensures { Decides result (Fits view.now (store_of self.now.slots)) }
+    {
+        self.may_give(view.reserved())
+    }
+
     /// Whether what a view has read at this place stands here, if there is an entry.
-    fn shows_entry(&self, view: &View, index: usize) -> bool
+    pub(crate) fn shows_entry(&self, view: &View, index: usize) -> bool
         ensures { Decides result
             (IfSome (slice_get view.now.entries index) (Stands (store_of self.now.slots))) }
     {
