@@ -4,7 +4,7 @@ use super::{joined, record};
 use bytes::Bytes;
 use nfs_xdr::{ArgumentsError, SharedReader};
 use side_wire::{mount, nlm, read_granted_result};
-use std::alloc::Global;
+use std::alloc::{AllocError, Global};
 use std::process::Abort;
 use std::test::Fail;
 
@@ -83,6 +83,87 @@ pub(super) fn all_are_garbage(
 ) -> Result<(), Fail> {
     for row in rows {
         assert!(rt; is_garbage(rt.alloc(), row)?, "{:?} {:?}", row.1, row.3);
+    }
+    Ok(())
+}
+
+/// Lengths that no record has room for; with padding the last two pass the greatest word.
+const NO_LENGTHS: [u32; 3] = [0x8000_0000, 0xffff_fffd, u32::MAX];
+
+/// A form of arguments: its words in three parts, the places of its lengths, and those of its bools and numbers of an
+/// enum, each with the first number that is not among its values.
+pub(super) struct Form(
+    pub(super) Format,
+    pub(super) &'static [u32],
+    pub(super) &'static [u32],
+    pub(super) &'static [u32],
+    pub(super) &'static [usize],
+    pub(super) &'static [(usize, u32)],
+);
+
+/// The bytes, but with this word at this place.
+fn with_word(alloc: Global, bytes: &[u8], place: usize, word: u32) -> Result<Vec<u8>, AllocError> {
+    let new = word.to_be_bytes();
+    let mut changed = Vec::new(alloc);
+    for (at, old) in bytes.chunks(4).enumerate() {
+        let kept = if at == place { new.as_slice() } else { old };
+        changed.extend_from_slice(kept)?;
+    }
+    Ok(changed)
+}
+
+/// Whether the bytes are garbage with each of these words at this place.
+fn words_are_garbage(
+    alloc: Global,
+    format: Format,
+    bytes: &[u8],
+    place: usize,
+    words: &[u32],
+) -> Result<bool, Fail> {
+    for word in words {
+        let changed = with_word(alloc, bytes, place, *word)?;
+        if !are_garbage(alloc, format, changed.as_slice())? {
+            return Ok(false);
+        }
+    }
+    Ok(true)
+}
+
+/// Whether the word at this place is what the form says of it. Where it says nothing, the word may be any.
+fn is_told(alloc: Global, form: &Form, bytes: &[u8], place: usize) -> Result<bool, Fail> {
+    if form.4.contains(&place) {
+        return words_are_garbage(alloc, form.0, bytes, place, &NO_LENGTHS);
+    }
+    for (at, beyond) in form.5 {
+        if *at == place {
+            return words_are_garbage(alloc, form.0, bytes, place, &[*beyond, 99, u32::MAX]);
+        }
+    }
+    let changed = with_word(alloc, bytes, place, u32::MAX)?;
+    are_arguments(alloc, form.0, changed.as_slice())
+}
+
+/// Whether the words are arguments, and each of them is what the form says of it.
+fn has_form(alloc: Global, form: &Form) -> Result<bool, Fail> {
+    let bytes = joined(alloc, form.1, form.2, form.3)?;
+    for place in 0..bytes.len() / 4 {
+        if !is_told(alloc, form, bytes.as_slice(), place)? {
+            return Ok(false);
+        }
+    }
+    are_arguments(alloc, form.0, bytes.as_slice())
+}
+
+/// The words have these forms.
+pub(super) fn have_forms(rt: &(impl Abort + AllocGlobal), forms: &[Form]) -> Result<(), Fail> {
+    for form in forms {
+        assert!(rt;
+            has_form(rt.alloc(), form)?,
+            "{:?} {:?} {:?}",
+            form.1,
+            form.2,
+            form.3
+        );
     }
     Ok(())
 }

@@ -1,12 +1,16 @@
 //! Arguments and results of NFS version 3 (RFC 1813, section 3).
 
 mod calls;
+mod forms;
 mod replies;
 
 use nfs_wire::{Attributes, DeviceNumber, FileType, Time};
 
 /// The handle `abcd` as arguments and results have it.
 const HANDLE: [u32; 2] = [4, 0x6162_6364];
+
+/// The name `file` in the directory `abcd`, as words.
+const PLACE: [u32; 4] = [4, 0x6162_6364, 4, 0x6669_6c65];
 
 const TIME: Time = Time {
     seconds: 1000,

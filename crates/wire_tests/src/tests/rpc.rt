@@ -106,6 +106,23 @@ fn a_header_above_the_limit_is_refused(rt: HostRuntime) -> Result<(), Fail> {
     Ok(())
 }
 
+/// A header of 2,147,483,647 bytes, whether the fragment is the last or not, whole and byte by byte.
+#[test]
+fn the_greatest_header_is_refused(rt: HostRuntime) -> Result<(), Fail> {
+    for first in [0x7f, 0xff] {
+        let mut whole = Records::new(rt.alloc());
+        assert!(rt; whole.feed(&[first, 0xff, 0xff, 0xff]) == Err(RecordError::TooLarge));
+        assert!(rt; gives(&mut whole, &[], 0));
+        let mut bytewise = Records::new(rt.alloc());
+        for byte in [first, 0xff, 0xff] {
+            assert!(rt; bytewise.feed(&[byte]) == Ok(()));
+        }
+        assert!(rt; bytewise.feed(&[0xff]) == Err(RecordError::TooLarge));
+        assert!(rt; gives(&mut bytewise, &[], 0));
+    }
+    Ok(())
+}
+
 /// 73,728 bytes in an earlier fragment, and one more in the next.
 #[test]
 fn fragments_above_the_limit_are_refused(rt: HostRuntime) -> Result<(), Fail> {
@@ -205,6 +222,83 @@ fn denied_calls_are_told(rt: HostRuntime) -> Result<(), Fail> {
                 &[4, 0, 2, 100000, 9, 99, 6, 0, 0, 0],
                 Some(Fault::BadCredential),
             ),
+            Ending(
+                &[4, 0, 2, 100003, 3, 0, 2, 0, 0, 0],
+                Some(Fault::BadCredential),
+            ),
+            Ending(
+                &[4, 0, 2, 100003, 3, 0, 99, 0, 0, 0],
+                Some(Fault::BadCredential),
+            ),
+            Ending(
+                &[4, 0, 2, 100003, 3, 0, u32::MAX, 0, 0, 0],
+                Some(Fault::BadCredential),
+            ),
+        ],
+    )
+}
+
+/// A user's credential whose machine name, or whose list of groups, is longer than a record.
+#[test]
+fn a_credential_of_wrong_lengths_is_told(rt: HostRuntime) -> Result<(), Fail> {
+    const BAD: Option<Fault> = Some(Fault::BadCredential);
+    end_so(
+        &rt,
+        &[
+            Ending(
+                &[4, 0, 2, 100003, 3, 0, 1, 20, 0, u32::MAX, 0, 0, 0, 0, 0],
+                BAD,
+            ),
+            Ending(
+                &[4, 0, 2, 100003, 3, 0, 1, 20, 0, 0x8000_0000, 0, 0, 0, 0, 0],
+                BAD,
+            ),
+            Ending(
+                &[4, 0, 2, 100003, 3, 0, 1, 20, 0, 0xffff_fffd, 0, 0, 0, 0, 0],
+                BAD,
+            ),
+            Ending(
+                &[4, 0, 2, 100003, 3, 0, 1, 20, 0, 0, 0, 0, u32::MAX, 0, 0],
+                BAD,
+            ),
+            Ending(
+                &[4, 0, 2, 100003, 3, 0, 1, 20, 0, 0, 0, 0, 0x8000_0000, 0, 0],
+                BAD,
+            ),
+            Ending(
+                &[4, 0, 2, 100003, 3, 0, 1, 20, 0, 0, 0, 0, 0xffff_fffd, 0, 0],
+                BAD,
+            ),
+        ],
+    )
+}
+
+/// A credential's own length, of each flavor that is read, of another and of none that is, and a verifier's, is longer
+/// than a record.
+#[test]
+fn credentials_that_do_not_end_are_dropped(rt: HostRuntime) -> Result<(), Fail> {
+    end_so(
+        &rt,
+        &[
+            Ending(&[4, 0, 2, 100003, 3, 0, 0, u32::MAX, 0, 0], None),
+            Ending(&[4, 0, 2, 100003, 3, 0, 0, 0x8000_0000, 0, 0], None),
+            Ending(&[4, 0, 2, 100003, 3, 0, 0, 0xffff_fffd, 0, 0], None),
+            Ending(
+                &[4, 0, 2, 100003, 3, 0, 1, u32::MAX, 0, 0, 0, 0, 0, 0, 0],
+                None,
+            ),
+            Ending(
+                &[4, 0, 2, 100003, 3, 0, 1, 0x8000_0000, 0, 0, 0, 0, 0, 0, 0],
+                None,
+            ),
+            Ending(
+                &[4, 0, 2, 100003, 3, 0, 1, 0xffff_fffd, 0, 0, 0, 0, 0, 0, 0],
+                None,
+            ),
+            Ending(&[4, 0, 2, 100003, 3, 0, 6, u32::MAX, 0, 0], None),
+            Ending(&[4, 0, 2, 100003, 3, 0, 0, 0, 0, u32::MAX], None),
+            Ending(&[4, 0, 2, 100003, 3, 0, 0, 0, 0, 0x8000_0000], None),
+            Ending(&[4, 0, 2, 100003, 3, 0, 0, 0, 0, 0xffff_fffd], None),
         ],
     )
 }
@@ -219,6 +313,9 @@ fn other_records_are_dropped(rt: HostRuntime) -> Result<(), Fail> {
             Ending(&[4, 0, 2, 100003, 3, 0, 0, 0, 0], None),
             Ending(&[4, 1, 2, 100003, 3, 0, 0, 0, 0, 0], None),
             Ending(&[4, 1, 3], None),
+            Ending(&[4, 2, 2, 100003, 3, 0, 0, 0, 0, 0], None),
+            Ending(&[4, 99, 2, 100003, 3, 0, 0, 0, 0, 0], None),
+            Ending(&[4, u32::MAX, 2, 100003, 3, 0, 0, 0, 0, 0], None),
             Ending(&[4, 0, 2, 100003, 3, 0, 6, 401, 0, 0], None),
             Ending(&[4, 0, 2, 100003, 3, 0, 6, 0, 0, 401], None),
         ],

@@ -1,6 +1,6 @@
 //! Arguments.
 
-use super::HANDLE;
+use super::{HANDLE, PLACE};
 use crate::tests::arguments::{Format, Garbage, all_are_garbage, fronts_are_garbage};
 use crate::tests::{BEHIND, joined, record};
 use bytes::Bytes;
@@ -14,9 +14,6 @@ use nfs_xdr::SharedReader;
 use std::alloc::Global;
 use std::process::Abort;
 use std::test::Fail;
-
-/// The name `file` in the directory `abcd`, as words.
-const PLACE: [u32; 4] = [4, 0x6162_6364, 4, 0x6669_6c65];
 
 /// Nothing is set.
 const NOTHING: SetAttributes = SetAttributes {
@@ -529,11 +526,9 @@ fn other_arguments_are_garbage(rt: HostRuntime) -> Result<(), Fail> {
             Garbage(Format::Nfs(22), &HANDLE, &[], &[]),
             Garbage(Format::Nfs(u32::MAX), &HANDLE, &[], &[]),
             Garbage(Format::Nfs(1), &[65], &[0x0707_0707; 17], &[]),
-            Garbage(Format::Nfs(1), &[u32::MAX], &[], &[]),
             Garbage(Format::Nfs(2), &HANDLE, &[2, 0, 0, 0, 0, 0, 0, 0], &[]),
             Garbage(Format::Nfs(2), &HANDLE, &[0, 0, 0, 0, 3, 0, 0, 0], &[]),
             Garbage(Format::Nfs(2), &HANDLE, &[0, 0, 0, 0, 0, 0, 2, 0, 0], &[]),
-            Garbage(Format::Nfs(3), &HANDLE, &[u32::MAX, 0], &[]),
             Garbage(Format::Nfs(7), &HANDLE, &[0, 9, 3, 3, 0], &[]),
             Garbage(Format::Nfs(8), &PLACE, &[3, 0, 0, 0, 0, 0, 0], &[]),
             Garbage(Format::Nfs(11), &PLACE, &[0, 0, 0, 0, 0, 0, 0, 0, 0], &[]),

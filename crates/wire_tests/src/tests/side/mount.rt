@@ -4,7 +4,9 @@ ghost use Rattle.std.specs.Prelude.{IfOk};
 ghost use Rattle.std.specs.List.{All};
 ghost use Rattle.side_wire.specs.Mount.{HasMountForm, HasMountBodyForm, HasExportNodeForm, IsHostName};
 
-use crate::tests::arguments::{Format, Garbage, all_are_garbage, fronts_are_garbage};
+use crate::tests::arguments::{
+    Form, Format, Garbage, all_are_garbage, fronts_are_garbage, have_forms,
+};
 use crate::tests::{BEHIND, behind_a_byte, has_written, joined, record};
 use bytes::Bytes;
 use nfs_xdr::SharedReader;
@@ -97,6 +99,18 @@ fn other_arguments_are_garbage(rt: HostRuntime) -> Result<(), Fail> {
             Garbage(Format::Mount(3), &[1025], &[0x2f2f_2f2f; 257], &[]),
             Garbage(Format::Mount(6), &[], &[], &[]),
             Garbage(Format::Mount(u32::MAX), &[0], &[], &[]),
+        ],
+    )
+}
+
+#[test]
+fn words_of_a_path(rt: HostRuntime) -> Result<(), Fail> {
+    const DATA: [u32; 3] = [5, 0x2f64_6174, 0x6100_0000];
+    have_forms(
+        &rt,
+        &[
+            Form(Format::Mount(1), &DATA, &[], &[], &[0], &[]),
+            Form(Format::Mount(3), &DATA, &[], &[], &[0], &[]),
         ],
     )
 }

@@ -2,5 +2,5 @@
 
 mod bounds;
 mod calls;
+mod forms;
 mod replies;
-mod values;

@@ -330,7 +330,7 @@ fn statuses_of_a_test_have_their_numbers(rt: HostRuntime) -> Result<(), Fail> {
 }
 
 /// The words of a share of the lock's caller, file and owner, but for its mode and access.
-const SHARED: [u32; 6] = [4, 0x686f_7374, 3, 0x6162_6300, 1, 0x6f00_0000];
+pub(super) const SHARED: [u32; 6] = [4, 0x686f_7374, 3, 0x6162_6300, 1, 0x6f00_0000];
 
 #[test]
 fn modes_and_accesses_have_their_numbers(rt: HostRuntime) -> Result<(), Fail> {
