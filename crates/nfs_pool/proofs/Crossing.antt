@@ -6,6 +6,10 @@ use Rattle.std.proofs.Crossing.{crosses}
 use Rattle.std.proofs.sync.ledger.Book.TheSendSync as total
 use Rattle.std.proofs.sync.ledger.Share.TheSendSync as share
 use Rattle.std.specs.declared.sync.ledger.Ledger.{Ghosts}
+use Rattle.nfs_stamps.proofs.log.Log.TheSendSync as log
+use Rattle.nfs_stamps.proofs.marks.Marks.TheSendSync as marks
+use Rattle.nfs_stamps.specs.declared.log.Naming as naming
+use Rattle.nfs_stamps.specs.contracts.log.Log as Log
 use Rattle.std.specs.contracts.sync.Mutex as Mutex
 use Rattle.nfs_replies.proofs.replies.Replies.TheSendSync as replies
 use Rattle.nfs_engine.proofs.objects.Objects.TheSendSync as objects
@@ -27,14 +31,14 @@ journal_send = search (sendable, crosses, objects.the_send, records.the_send, ou
 book_send : IsSend Book.the_row
 book_send = search (sendable, crosses, journal_send, replies.the_send, calls.the_send) depth 20
 
-module _ (L : RattleType) (g : Ghosts L.Denot) (s : IsSend L) (y : IsSync L) where
-  desk_send : IsSend (Desk.the_row L g)
-  desk_send = search (sendable, crosses, book_send, total.the_send, share.the_send) depth 20
+module _ (L : RattleType) (g : Ghosts L.Denot) (n : naming.Ghosts L.Denot) (s : IsSend L) (y : IsSync L) where
+  desk_send : IsSend (Desk.the_row L n g)
+  desk_send = search (sendable, crosses, book_send, marks.the_send, total.the_send, share.the_send) depth 20
 
-  desk_mutex_send : IsSend (Mutex.the_row (Desk.the_row L g))
+  desk_mutex_send : IsSend (Mutex.the_row (Desk.the_row L n g))
   desk_mutex_send = let desk = desk_send in search (sendable, crosses) depth 20
 
-  desk_mutex_sync : IsSync (Mutex.the_row (Desk.the_row L g))
+  desk_mutex_sync : IsSync (Mutex.the_row (Desk.the_row L n g))
   desk_mutex_sync = let desk = desk_send in search (sendable, crosses) depth 20
 
   count_send : IsSend (Count.the_row L g)
@@ -43,8 +47,14 @@ module _ (L : RattleType) (g : Ghosts L.Denot) (s : IsSend L) (y : IsSync L) whe
   count_sync : IsSync (Count.the_row L g)
   count_sync = search (sendable, counting.the_sync) depth 20
 
-  pub pool_send : IsSend (Pool.the_row L g)
-  pool_send = declared_send (Pool.the_type L g) (desk_mutex_send, (search (sendable, place.the_send) depth 20, (count_send, tt)))
+  log_send : IsSend (Log.the_row L n)
+  log_send = search (sendable, log.the_send) depth 20
 
-  pub pool_sync : IsSync (Pool.the_row L g)
-  pool_sync = declared_sync (Pool.the_type L g) (desk_mutex_sync, (search (sendable, place.the_sync) depth 20, (count_sync, tt)))
+  log_sync : IsSync (Log.the_row L n)
+  log_sync = search (sendable, log.the_sync) depth 20
+
+  pub pool_send : IsSend (Pool.the_row L g n)
+  pool_send = declared_send (Pool.the_type L g n) (desk_mutex_send, (search (sendable, place.the_send) depth 20, (count_send, (log_send, tt))))
+
+  pub pool_sync : IsSync (Pool.the_row L g n)
+  pool_sync = declared_sync (Pool.the_type L g n) (desk_mutex_sync, (search (sendable, place.the_sync) depth 20, (count_sync, (log_sync, tt))))

@@ -1,6 +1,11 @@
 pub mod Crossing
+pub mod Kept
 pub mod LetGo
+pub mod Marked
+pub mod Noting
 pub mod Numbered
 pub mod Ordered
 pub mod Reading
 pub mod Seated
+pub mod Shown
+pub mod Starting

@@ -1,4 +1,5 @@
 pub mod Eras
+pub mod Marked
 pub mod Passes
 pub mod Seats
 pub mod Steps

@@ -16,16 +16,18 @@ ghost use Rattle.nfs_pool.specs.Seats.{IsDeclined, Tells};
 ghost use Rattle.nfs_pool.specs.Steps.{AsksSome, IsGivenUp, IsUnread};
 
 use crate::gate::{Gate, Step};
+use crate::noted::{NotedFinished, NotedTxn};
 use crate::seat::Seat;
 use crate::sent::{PoolError, Reason, Sent, Unadmitted, Uncommitted};
 use crate::steps::Steps;
 use nfs_engine::{
-    Admission, Arrival, Asked, Finished, Got, Incoming, Next, Pending, Reading, Receipt, Refused,
-    Release, SHARDS, Txn,
+    Admission, Arrival, Asked, Got, Incoming, Next, Pending, Reading, Receipt, Refused, Release,
+    SHARDS, Txn,
 };
 use nfs_objects::{Addr, Change, Mode};
 use nfs_schedule::answer::refusal;
 use nfs_schedule::{Course, Declined, NextStep, next_step};
+use nfs_stamps::Naming;
 use std::alloc::Global;
 use std::sync::Wait;
 use std::sync::ledger::{Ledger, Share};
@@ -65,7 +67,7 @@ enum Passed {
 /// # Errors
 ///
 /// There is no memory for one more receipt in the seat, or the era is full. Nothing is executed.
-pub fn run_call<L: Ledger, R: Wait, S: Steps<L>, G: Gate>(
+pub fn run_call<L: Ledger + Naming, R: Wait, S: Steps<L>, G: Gate>(
     rt: &R,
     alloc: Global,
     steps: &S,
@@ -143,7 +145,7 @@ fn decline(alloc: Global, received: Incoming, asked: Asked) -> Declined
 }
 
 /// Brings a call that began to its end.
-fn carry_out<L: Ledger, R: Wait, S: Steps<L>, G: Gate>(
+fn carry_out<L: Ledger + Naming, R: Wait, S: Steps<L>, G: Gate>(
     means: &Means<R, S, G>,
     mine: &mut Share<L>,
     txn: Txn,
@@ -180,7 +182,7 @@ fn carry_out<L: Ledger, R: Wait, S: Steps<L>, G: Gate>(
 
 /// Waits for an address that was taken. Where it is wanted alone others give way there from then on; it is handed out,
 /// and takes the place of what was waited for so before.
-fn wait_for<L: Ledger, R: Wait, S: Steps<L>, G: Gate>(
+fn wait_for<L: Ledger + Naming, R: Wait, S: Steps<L>, G: Gate>(
     means: &Means<R, S, G>,
     before: Option<Addr>,
     address: Addr,
@@ -198,7 +200,7 @@ fn wait_for<L: Ledger, R: Wait, S: Steps<L>, G: Gate>(
 }
 
 /// Nobody need give way any more to a call that waited for this address alone.
-fn withdraw<L: Ledger, R: Wait, S: Steps<L>, G: Gate>(
+fn withdraw<L: Ledger + Naming, R: Wait, S: Steps<L>, G: Gate>(
     means: &Means<R, S, G>,
     awaited: Option<Addr>,
 ) {
@@ -208,7 +210,7 @@ fn withdraw<L: Ledger, R: Wait, S: Steps<L>, G: Gate>(
 }
 
 /// Gives a call up.
-fn give_up<L: Ledger, R: Wait, S: Steps<L>, G: Gate>(
+fn give_up<L: Ledger + Naming, R: Wait, S: Steps<L>, G: Gate>(
     means: &Means<R, S, G>,
     pending: Pending,
 ) -> Refused
@@ -219,7 +221,7 @@ fn give_up<L: Ledger, R: Wait, S: Steps<L>, G: Gate>(
 }
 
 /// One pass of a call that has read nothing: to its commit, or until it has to let go. In its first it gives way.
-fn pass<L: Ledger, R: Wait, S: Steps<L>, G: Gate>(
+fn pass<L: Ledger + Naming, R: Wait, S: Steps<L>, G: Gate>(
     means: &Means<R, S, G>,
     mine: &mut Share<L>,
     first: bool,
@@ -231,30 +233,31 @@ fn pass<L: Ledger, R: Wait, S: Steps<L>, G: Gate>(
     ensures parts { mine.new.parts ≡ mine.old.parts }
     ensures comes { ComesTo txn.received means.now.last mine.old.amount mine.new.amount result }
 {
-    let mut txn = txn;
+    let mut txn = NotedTxn::new(means.alloc, txn);
     match run(means, first, &mut txn) {
         Ok(change) => match txn.done(means.alloc, change) {
             Ok(finished) => commit(means, mine, finished),
-            Err(txn) => retreat(means, txn, Reason::Memory),
+            Err(txn) => retreat(means, txn.into_txn(), Reason::Memory),
         },
-        Err(reason) => retreat(means, txn, reason),
+        Err(reason) => retreat(means, txn.into_txn(), reason),
     }
 }
 
 /// Commits a call, and lets go what it still holds.
-fn commit<L: Ledger, R: Wait, S: Steps<L>, G: Gate>(
+fn commit<L: Ledger + Naming, R: Wait, S: Steps<L>, G: Gate>(
     means: &Means<R, S, G>,
     mine: &mut Share<L>,
-    finished: Finished,
+    finished: NotedFinished<L>,
 ) -> Passed
     requires part { mine.old.parts ≡ 1 }
     ensures parts { mine.new.parts ≡ mine.old.parts }
     ensures comes { ComesTo finished.received means.now.last mine.old.amount mine.new.amount result }
 {
     means.gate.before(Step::Commit);
+    let (finished, notes) = finished.into_parts();
     match means
         .steps
-        .commit(means.rt, means.alloc, mine, means.last, finished)
+        .commit(means.rt, means.alloc, mine, means.last, finished, &notes)
     {
         Ok((receipt, release)) => match let_go(means, release) {
             None => Passed::Executed(receipt),
@@ -265,7 +268,7 @@ fn commit<L: Ledger, R: Wait, S: Steps<L>, G: Gate>(
 }
 
 /// Gives a pass up: lets go all that the call holds.
-fn retreat<L: Ledger, R: Wait, S: Steps<L>, G: Gate>(
+fn retreat<L: Ledger + Naming, R: Wait, S: Steps<L>, G: Gate>(
     means: &Means<R, S, G>,
     txn: Txn,
     reason: Reason,
@@ -283,7 +286,7 @@ fn retreat<L: Ledger, R: Wait, S: Steps<L>, G: Gate>(
 }
 
 /// Lets go all that a call that left still holds, shard by shard. The call, where it is still in progress.
-fn let_go<L: Ledger, R: Wait, S: Steps<L>, G: Gate>(
+fn let_go<L: Ledger + Naming, R: Wait, S: Steps<L>, G: Gate>(
     means: &Means<R, S, G>,
     release: Release,
 ) -> Option<Pending>
@@ -302,10 +305,10 @@ fn let_go<L: Ledger, R: Wait, S: Steps<L>, G: Gate>(
 }
 
 /// Makes the steps of a call that has read nothing, on its course, until it is done.
-fn run<L: Ledger, R: Wait, S: Steps<L>, G: Gate>(
+fn run<L: Ledger + Naming, R: Wait, S: Steps<L>, G: Gate>(
     means: &Means<R, S, G>,
     first: bool,
-    txn: &mut Txn,
+    txn: &mut NotedTxn<L>,
 ) -> Result<Change, Reason>
     requires shard { means.now.shard < SHARDS }
     requires unread { IsUnread txn.old }
@@ -317,8 +320,8 @@ fn run<L: Ledger, R: Wait, S: Steps<L>, G: Gate>(
     let mut course = Course::Begun;
     'steps: loop {
         // Each step adds to the view, which is shorter than 2^64: so they come to an end.
-        let known = txn.view().len();
-        match next_step(means.alloc, txn, course) {
+        let known = txn.txn().view().len();
+        match next_step(means.alloc, txn.txn(), course) {
             NextStep::Acquire(address, mode, after) => {
                 give_way(means, first && known == 0, address, mode, &after);
                 acquire(means, txn, address, mode)?;
@@ -336,7 +339,7 @@ fn run<L: Ledger, R: Wait, S: Steps<L>, G: Gate>(
 
 /// Where a call holds nothing yet it gives way to those who wait alone for what it wants to share: this address, and
 /// the one that is foreseen.
-fn give_way<L: Ledger, R: Wait, S: Steps<L>, G: Gate>(
+fn give_way<L: Ledger + Naming, R: Wait, S: Steps<L>, G: Gate>(
     means: &Means<R, S, G>,
     holds_nothing: bool,
     address: Addr,
@@ -355,9 +358,9 @@ fn give_way<L: Ledger, R: Wait, S: Steps<L>, G: Gate>(
 }
 
 /// Takes an address, with whatever stands there. An error leaves the call as it was.
-fn acquire<L: Ledger, R: Wait, S: Steps<L>, G: Gate>(
+fn acquire<L: Ledger + Naming, R: Wait, S: Steps<L>, G: Gate>(
     means: &Means<R, S, G>,
-    txn: &mut Txn,
+    txn: &mut NotedTxn<L>,
     address: Addr,
     mode: Mode,
 ) -> Result<(), Reason>
@@ -378,9 +381,9 @@ fn acquire<L: Ledger, R: Wait, S: Steps<L>, G: Gate>(
 }
 
 /// Gets a new number. An error leaves the call as it was.
-fn reserve<L: Ledger, R: Wait, S: Steps<L>, G: Gate>(
+fn reserve<L: Ledger + Naming, R: Wait, S: Steps<L>, G: Gate>(
     means: &Means<R, S, G>,
-    txn: &mut Txn,
+    txn: &mut NotedTxn<L>,
 ) -> Result<(), Reason>
     requires { means.now.shard < SHARDS }
     ensures reserved { OnOk result ((r : Reserved) × (txn.new ≡ record txn.old { view = with_number txn.old.view r })) }

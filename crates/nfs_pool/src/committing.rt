@@ -1,12 +1,15 @@
 //! The commit of a call, in the holds of the shards that it writes.
 
 ghost use Rattle.std.specs.Prelude.{◌≡◌, ◌+◌, ◌<◌, ◌≤◌, ℕ, IfErr, IfOk, OnErr, OnOk, false, map};
-ghost use Rattle.std.specs.Prelude.{slice_index_or, true};
+ghost use Rattle.std.specs.Prelude.{IfSome, None, option_copied, slice_index_or, true};
 ghost use Rattle.std.specs.List.{AllByRecursion};
-ghost use Rattle.nfs_objects.specs.Values.{write_value};
+ghost use Rattle.nfs_objects.specs.Values.{write_value, written_at};
+ghost use Rattle.nfs_objects.specs.declared.address.Addr.{Addr};
 ghost use Rattle.nfs_engine.specs.Engine.{ArePlaces};
 ghost use Rattle.nfs_engine.specs.Settling.{HoldsWritten};
+ghost use Rattle.nfs_engine.specs.Shards.{shard_of};
 ghost use Rattle.nfs_engine.specs.declared.release.Then.TheVariants as then;
+ghost use Rattle.nfs_stamps.specs.Marking.{AreNotes};
 ghost use Rattle.nfs_pool.specs.Steps.{IsMadeAbove, LetGoFrom, addresses};
 
 use crate::locking::take;
@@ -14,11 +17,12 @@ use crate::pool::Pool;
 use crate::sent::{Reason, Uncommitted};
 use nfs_engine::{Committed, Finished, SHARDS, Shard, shard_index};
 use nfs_objects::Write;
+use nfs_stamps::{Naming, Notes, Stamp};
 use std::alloc::Global;
 use std::sync::Wait;
 use std::sync::ledger::{Ledger, Share};
 
-impl<L: Ledger> Pool<L> {
+impl<L: Ledger + Naming> Pool<L> {
     /// Takes the locks of the written shards from this one on, and then commits. What a call has written in a shard is
     /// made, and what it holds there is let go, before the shard's lock is.
     pub(crate) fn commit_from<R: Wait>(
@@ -28,12 +32,16 @@ impl<L: Ledger> Pool<L> {
         mine: &mut Share<L>,
         last: u64,
         finished: Finished,
+        notes: &Notes<L>,
+        stamp: Option<&Stamp<L>>,
         written: &[bool; SHARDS],
         index: usize,
     ) -> Result<Committed, Uncommitted>
         requires parts { 0 < mine.old.parts }
         requires index { index ≤ SHARDS }
         requires written { ArePlaces finished.done.change.writes written.now }
+        requires notes { AreNotes notes.now finished.done.view.entries }
+        requires stamp { IfSome (option_copied stamp) (λ s. s ≡ finished.done.change.writes) }
         ensures parts { mine.new.parts ≡ mine.old.parts }
         ensures counted { OnOk result (mine.new.amount ≡ mine.old.amount + 1) }
         ensures uncounted { OnErr result (mine.new.amount ≡ mine.old.amount) }
@@ -42,31 +50,43 @@ impl<L: Ledger> Pool<L> {
         ensures free { IfOk result (λ c. LetGoFrom index finished.done.change.writes c.release.done) }
         ensures places { IfOk result
             (λ c. addresses (map write_value c.writes.items) ≡ addresses finished.done.change.writes) }
+        ensures writes { IfOk result (λ c. (a : Addr) → shard_of a < index →
+            written_at None (map write_value c.writes.items) a ≡ written_at None finished.done.change.writes a) }
         ensures back { IfErr result (λ u. u.finished ≡ finished) }
     {
         let index = next_written(written, index);
         if index == SHARDS {
             let mut guard = take(rt, &self.desk);
             let desk = &mut *guard;
-            return desk.commit(alloc, mine, last, finished);
+            return desk.commit(alloc, mine, last, finished, notes, stamp);
         }
-        let mut guard = take(rt, &self.places[index].shard);
-        let shard = &mut *guard;
-        if !may_settle(&finished, shard, index) {
+        let mut guard = take(rt, &self.places[index].placed);
+        let placed = &mut *guard;
+        if !may_settle(&finished, &placed.shard, index) {
             return Err(Uncommitted {
                 finished,
                 reason: Reason::Stale,
             });
         }
-        if finished.make_room_in(shard).is_err() {
+        if placed.make_room(&finished).is_err() {
             return Err(Uncommitted {
                 finished,
                 reason: Reason::Memory,
             });
         }
-        match self.commit_from(rt, alloc, mine, last, finished, written, index + 1) {
+        match self.commit_from(
+            rt,
+            alloc,
+            mine,
+            last,
+            finished,
+            notes,
+            stamp,
+            written,
+            index + 1,
+        ) {
             Ok(committed) => {
-                let committed = committed.settle_in(shard);
+                let committed = placed.settle(committed, stamp);
                 self.places[index].released.notify_all();
                 Ok(committed)
             }

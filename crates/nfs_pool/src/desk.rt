@@ -1,43 +1,62 @@
 //! What lies under the book's lock.
 
-ghost use Rattle.std.specs.Prelude.{◌≡◌, ◌+◌, ◌<◌, [], IfErr, IfOk, OnErr, OnOk, length};
-ghost use Rattle.nfs_engine.specs.Book.{Commits, GivesUp, TakesMessage};
+ghost use Rattle.std.specs.Prelude.{◌≡◌, ◌+◌, ◌<◌, [], IfErr, IfOk, IfSome, OnErr, OnOk, length, option_copied, slice_get};
+ghost use Rattle.std.specs.Bool.{Decides};
+ghost use Rattle.nfs_engine.specs.Book.{Commits, GivesUp, MayCommit, TakesMessage, store_in};
 ghost use Rattle.nfs_engine.specs.Commits.{Leaves};
+ghost use Rattle.nfs_engine.specs.Tables.{Stands};
 ghost use Rattle.nfs_engine.specs.declared.release.Then.TheVariants as then;
+ghost use Rattle.nfs_stamps.specs.Marking.{AreMarks, AreNotes};
 ghost use Rattle.nfs_pool.specs.Eras.{LeavesEra};
 ghost use Rattle.nfs_pool.specs.Steps.{AdmitsUnlessFull, IsMadeAbove};
 
+use crate::marking::mark_written;
 use crate::sent::{Reason, Unadmitted, Uncommitted};
 use nfs_engine::{
     Admission, Arrival, Book, Candidate, Committed, Era, Finished, Pending, Posted, Refused,
 };
+use nfs_stamps::{Marks, Naming, Notes, Stamp, is_large};
 use std::alloc::Global;
+use std::sync::atomic::{AtomicU64, Ordering};
 use std::sync::ledger;
 use std::sync::ledger::{Ledger, Share};
 
 /// The book, and a ledger of its records: each counts one for the seat that has its receipt. The type of `Book` keeps
-/// that the records are a run of the machine to its store; so it is whenever the lock is free.
+/// that the records are a run of the machine to its store; so it is whenever the lock is free. Beside the store stands
+/// by which commits its large objects were put.
 #[derive(Drop)]
-pub struct Desk<L: Ledger> {
+pub struct Desk<L: Ledger + Naming> {
     pub(crate) book: Book,
+    marks: Marks<L>,
+    /// How many large objects were compared by value.
+    compared: AtomicU64,
     counted: ledger::Book<L>,
     /// A share of nothing, to begin others from.
     nothing: Share<L>,
     ghost counts: { length book.records ≡ counted.total },
     ghost empty: { nothing.parts ≡ 0 },
     ghost none: { nothing.amount ≡ 0 },
+    ghost marked: { AreMarks marks (store_in book).at },
 }
 
-impl<L: Ledger> Desk<L> {
-    /// The book of an engine without records.
-    pub(crate) fn new(book: Book, counted: ledger::Book<L>, nothing: Share<L>) -> Desk<L>
+impl<L: Ledger + Naming> Desk<L> {
+    /// The book of an engine without records, with these marks.
+    pub(crate) fn new(
+        book: Book,
+        counted: ledger::Book<L>,
+        nothing: Share<L>,
+        marks: Marks<L>,
+    ) -> Desk<L>
         requires total { counted.total ≡ 0 }
         requires records { book.records ≡ [] }
         requires nothing { (nothing.parts ≡ 0) × (nothing.amount ≡ 0) }
+        requires marked { AreMarks marks (store_in book).at }
         ensures { result.book ≡ book }
     {
         Desk {
             book,
+            marks,
+            compared: AtomicU64::new(0),
             counted,
             nothing,
         }
@@ -102,7 +121,8 @@ impl<L: Ledger> Desk<L> {
         self.book.take_message()
     }
 
-    /// Commits a call whose view fits the present store, under a number above this one; it counts for the caller.
+    /// Commits a call whose view fits the present store, under a number above this one; it counts for the caller. Notes
+    /// tell by which commits what it has read was put; what it puts gets this stamp, if there is one.
     ///
     /// # Errors
     ///
@@ -113,8 +133,12 @@ impl<L: Ledger> Desk<L> {
         mine: &mut Share<L>,
         last: u64,
         finished: Finished,
+        notes: &Notes<L>,
+        stamp: Option<&Stamp<L>>,
     ) -> Result<Committed, Uncommitted>
-        requires { 0 < mine.old.parts }
+        requires parts { 0 < mine.old.parts }
+        requires notes { AreNotes notes.now finished.done.view.entries }
+        requires stamp { IfSome (option_copied stamp) (λ s. s ≡ finished.done.change.writes) }
         ensures parts { mine.new.parts ≡ mine.old.parts }
         ensures counted { OnOk result (mine.new.amount ≡ mine.old.amount + 1) }
         ensures uncounted { OnErr result (mine.new.amount ≡ mine.old.amount) }
@@ -130,21 +154,60 @@ impl<L: Ledger> Desk<L> {
         let Some(number) = self.book.next_number() else {
             return Err(handed_back(finished, Reason::Memory));
         };
-        if number <= last || !self.book.fits(&finished) {
+        if number <= last || !self.fits(&finished, notes) {
             return Err(handed_back(finished, Reason::Stale));
         }
         let Desk {
             book,
+            marks,
+            compared: _,
             counted,
             nothing: _,
         } = self;
         match book.commit(alloc, finished) {
             Ok(committed) => {
+                mark_written(marks, None, &committed.writes, stamp);
                 counted.add(mine, 1);
                 Ok(committed)
             }
             Err(finished) => Err(handed_back(finished, Reason::Memory)),
         }
+    }
+
+    /// Whether a call may be committed, as `Book::fits`. It compares by value only what it does not know by its stamp.
+    fn fits(&self, finished: &Finished, notes: &Notes<L>) -> bool
+        requires { AreNotes notes.now finished.now.done.view.entries }
+        ensures { Decides result (MayCommit self.now.book finished.now) }
+    {
+        for place in 0..finished.view().len() {
+            if !self.shows(finished, notes, place) {
+                return false;
+            }
+        }
+        self.book.fits_shown(finished)
+    }
+
+    /// Whether what a call has read at this place stands in the present store, if its view has such a place.
+    fn shows(&self, finished: &Finished, notes: &Notes<L>, place: usize) -> bool
+        requires { AreNotes notes.now finished.now.done.view.entries }
+        ensures { Decides result
+            (IfSome (slice_get finished.now.done.view.entries place) (Stands (store_in self.now.book))) }
+    {
+        let Some((address, entry)) = finished.view().entry(place) else {
+            return true;
+        };
+        if notes.tell(&self.marks, place, address) {
+            return true;
+        }
+        if is_large(address) && entry.object.is_some() {
+            self.compared.fetch_add(1, Ordering::Relaxed);
+        }
+        self.book.shows(finished, place)
+    }
+
+    /// How many large objects were compared by value.
+    pub(crate) fn compared(&self) -> u64 {
+        self.compared.load(Ordering::Relaxed)
     }
 
     /// A share of nothing.
@@ -166,6 +229,8 @@ impl<L: Ledger> Desk<L> {
         let count = self.book.executed().len() as u64;
         let Desk {
             book,
+            marks: _,
+            compared: _,
             counted,
             nothing: _,
         } = self;

@@ -14,11 +14,12 @@ use crate::room::EraRoom;
 use crate::seat::{Seat, leave_all, new_seats};
 use crate::sent::FinishError;
 use nfs_engine::{Book, Era};
+use nfs_stamps::Naming;
 use std::alloc::Global;
 use std::sync::Mutex;
 use std::sync::ledger::Ledger;
 
-impl<L: Ledger> Pool<L> {
+impl<L: Ledger + Naming> Pool<L> {
     /// Ends the pool, where the receipts of these seats are the records of the era. The records are handed out, and the
     /// book without them.
     ///
@@ -39,6 +40,7 @@ impl<L: Ledger> Pool<L> {
             desk,
             places,
             count,
+            log,
         } = self;
         let mut desk = desk.into_inner();
         match close_era(alloc, &mut desk, &count, seats) {
@@ -51,6 +53,7 @@ impl<L: Ledger> Pool<L> {
                         desk,
                         places,
                         count,
+                        log,
                     },
                     seats,
                 ))
@@ -107,8 +110,10 @@ impl<L: Ledger> Pool<L> {
             desk,
             places,
             count: _,
+            log,
         } = self;
         drop(places);
+        drop(log);
         desk.into_inner().into_book()
     }
 }
@@ -118,7 +123,7 @@ impl<L: Ledger> Pool<L> {
 /// # Errors
 ///
 /// They are not all seats, or not all its records; or there is no memory. Nothing is changed.
-fn close_era<L: Ledger>(
+fn close_era<L: Ledger + Naming>(
     alloc: Global,
     desk: &mut Desk<L>,
     count: &Count<L>,
@@ -162,7 +167,7 @@ fn close_era<L: Ledger>(
 /// # Errors
 ///
 /// They are not all seats, or the room is for fewer. Nothing is changed.
-fn leave_era<L: Ledger>(
+fn leave_era<L: Ledger + Naming>(
     alloc: Global,
     desk: &mut Desk<L>,
     count: &Count<L>,

@@ -1,8 +1,9 @@
 //! Locks that are waited for awake, and the places of the shards.
 
+use crate::placed::Placed;
 use crate::waiting::Awaited;
-use nfs_engine::Shard;
 use nfs_objects::{Addr, Mode};
+use nfs_stamps::Naming;
 use std::hint::spin_loop;
 use std::sync::{Condvar, Mutex, MutexGuard, Wait};
 
@@ -15,8 +16,8 @@ const LINE: usize = 16;
 
 /// A shard under its lock.
 #[derive(Drop)]
-pub(crate) struct Place {
-    pub(crate) shard: Mutex<Shard>,
+pub(crate) struct Place<L: Naming> {
+    pub(crate) placed: Mutex<Placed<L>>,
     /// Notified when a call lets go in the shard.
     pub(crate) released: Condvar,
     /// It keeps what calls only read off the lines that each hold writes.
@@ -27,11 +28,11 @@ pub(crate) struct Place {
     _apart: [u64; LINE],
 }
 
-impl Place {
+impl<L: Naming> Place<L> {
     /// A shard that nobody has locked.
-    pub(crate) fn new(shard: Shard) -> Place {
+    pub(crate) fn new(placed: Placed<L>) -> Place<L> {
         Place {
-            shard: Mutex::new(shard),
+            placed: Mutex::new(placed),
             released: Condvar::new(),
             _between: [0; LINE],
             awaited: Awaited::new(),
@@ -40,8 +41,8 @@ impl Place {
     }
 
     /// Whether somebody holds an address of this shard in a mode that excludes this one. Who wants it alone is told.
-    pub(crate) fn is_taken(&self, shard: &Shard, address: Addr, mode: Mode) -> bool {
-        let taken = shard.excluder(address, mode).is_some();
+    pub(crate) fn is_taken(&self, placed: &Placed<L>, address: Addr, mode: Mode) -> bool {
+        let taken = placed.shard.excluder(address, mode).is_some();
         if taken && mode == Mode::Exclusive {
             self.awaited.note(address);
         }

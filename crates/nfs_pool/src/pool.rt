@@ -10,27 +10,32 @@ use crate::counting::Count;
 use crate::desk::Desk;
 use crate::gate::Gate;
 use crate::locking::{Place, take};
+use crate::noted::NotedTxn;
+use crate::opening::{lock_all, mark_opening, stamp_for};
 use crate::seat::{Seat, new_seats};
 use crate::sent::{PoolError, Sent, Unadmitted, Uncommitted};
 use crate::steps::Steps;
 use nfs_engine::{
     Admission, Arrival, Committed, Engine, Finished, Got, Next, Pending, Posted, Prepared, Receipt,
-    Refused, Release, ReserveError, SHARDS, Shard, Txn, shard_index,
+    Refused, Release, ReserveError, SHARDS, shard_index,
 };
 use nfs_objects::{Addr, Mode};
+use nfs_stamps::{Log, Naming, Notes, Opened};
 use std::alloc::{AllocError, Global};
 use std::sync::ledger::{Blank, Ledger, Share};
 use std::sync::{Mutex, Wait};
 
 /// The book and the shards, each under a lock of its own.
 #[derive(Drop)]
-pub struct Pool<L: Ledger> {
+pub struct Pool<L: Ledger + Naming> {
     pub(crate) desk: Mutex<Desk<L>>,
-    pub(crate) places: [Place; SHARDS],
+    pub(crate) places: [Place<L>; SHARDS],
     pub(crate) count: Count<L>,
+    /// The stamps of commits.
+    pub(crate) log: Log<L>,
 }
 
-impl<L: Ledger> Pool<L> {
+impl<L: Ledger + Naming> Pool<L> {
     /// The pool of an engine without records, and a seat for each part of the ledger.
     ///
     /// # Errors
@@ -39,12 +44,14 @@ impl<L: Ledger> Pool<L> {
     pub fn new(
         alloc: Global,
         blank: Blank,
+        opened: Opened,
         engine: Engine,
         count: usize,
     ) -> Result<(Pool<L>, Vec<Seat<L>>), (Blank, Engine)>
         requires name { blank.name ≡ L.name }
         requires parts { blank.parts ≡ L.parts }
         requires count { blank.parts ≡ count }
+        requires log { opened.seen.book ≡ L.book }
         requires records { engine.book.records ≡ [] }
         ensures seats { IfOk result (λ r. AreNew r.1.items count) }
         ensures back { IfErr result (λ r. (r.0 ≡ blank) × (r.1 ≡ engine)) }
@@ -54,11 +61,16 @@ impl<L: Ledger> Pool<L> {
         };
         let (counted, mut all) = blank.open::<L>();
         let nothing = all.empty();
+        let log = opened.named::<L>();
+        // It brings that the shards together are the book's store.
+        engine.tie();
         let (book, shards) = engine.into_parts();
+        let (marks, first) = mark_opening(alloc, &log, &book, &shards[0]);
         let pool = Pool {
-            desk: Mutex::new(Desk::new(book, counted, nothing)),
-            places: lock_all(shards),
+            desk: Mutex::new(Desk::new(book, counted, nothing, marks)),
+            places: lock_all(alloc, shards, first),
             count: Count::new(count),
+            log,
         };
         Ok((pool, new_seats(alloc, room, all, count)))
     }
@@ -82,6 +94,12 @@ impl<L: Ledger> Pool<L> {
         run_call(rt, alloc, self, gate, seat, arrival)
     }
 
+    /// How many large objects commits have compared by value so far, since they were not known by their stamps.
+    pub fn compared<R: Wait>(&self, rt: &R) -> u64 {
+        let guard = take(rt, &self.desk);
+        guard.compared()
+    }
+
     /// Takes the oldest message that was not yet taken. It takes no memory.
     pub fn message<R: Wait>(&self, rt: &R) -> Option<Posted> {
         let mut guard = take(rt, &self.desk);
@@ -90,7 +108,7 @@ impl<L: Ledger> Pool<L> {
     }
 }
 
-impl<L: Ledger> Steps<L> for Pool<L> {
+impl<L: Ledger + Naming> Steps<L> for Pool<L> {
     fn admit<R: Wait>(
         &self,
         rt: &R,
@@ -117,22 +135,23 @@ impl<L: Ledger> Steps<L> for Pool<L> {
         rt: &R,
         alloc: Global,
         gate: &G,
-        txn: &mut Txn,
+        txn: &mut NotedTxn<L>,
         address: Addr,
         mode: Mode,
     ) -> Result<Got, AllocError> {
+        txn.make_room();
         let index = shard_index(address);
-        let mut guard = take(rt, &self.places[index].shard);
+        let mut guard = take(rt, &self.places[index].placed);
         gate.inside(index);
         txn.acquire_in(alloc, &mut *guard, address, mode)
     }
 
     fn wait_for<R: Wait>(&self, rt: &R, address: Addr, mode: Mode) {
         let place = &self.places[shard_index(address)];
-        let guard = take(rt, &place.shard);
+        let guard = take(rt, &place.placed);
         let free = place
             .released
-            .wait_while(rt, guard, |shard| place.is_taken(shard, address, mode));
+            .wait_while(rt, guard, |placed| place.is_taken(placed, address, mode));
         drop(free);
     }
 
@@ -146,9 +165,15 @@ impl<L: Ledger> Steps<L> for Pool<L> {
         self.places[shard_index(address)].awaited.forget(address);
     }
 
-    fn reserve<R: Wait>(&self, rt: &R, txn: &mut Txn, shard: usize) -> Result<bool, ReserveError> {
-        let mut guard = take(rt, &self.places[shard].shard);
-        txn.reserve_tested(&mut *guard)
+    fn reserve<R: Wait>(
+        &self,
+        rt: &R,
+        txn: &mut NotedTxn<L>,
+        shard: usize,
+    ) -> Result<bool, ReserveError> {
+        txn.make_room();
+        let mut guard = take(rt, &self.places[shard].placed);
+        txn.reserve_in(&mut *guard)
     }
 
     fn commit<R: Wait>(
@@ -158,9 +183,21 @@ impl<L: Ledger> Steps<L> for Pool<L> {
         mine: &mut Share<L>,
         last: u64,
         finished: Finished,
+        notes: &Notes<L>,
     ) -> Result<(Receipt, Release), Uncommitted> {
         let written = written_shards(finished.writes());
-        match self.commit_from(rt, alloc, mine, last, finished, &written, 0) {
+        let stamp = stamp_for(&self.log, finished.writes());
+        match self.commit_from(
+            rt,
+            alloc,
+            mine,
+            last,
+            finished,
+            notes,
+            stamp.as_ref(),
+            &written,
+            0,
+        ) {
             Ok(committed) => {
                 let Committed {
                     receipt,
@@ -181,8 +218,9 @@ impl<L: Ledger> Steps<L> for Pool<L> {
             return release.next();
         };
         let next = {
-            let mut guard = take(rt, &self.places[index].shard);
-            release.release_in(&mut *guard)
+            let mut guard = take(rt, &self.places[index].placed);
+            let placed = &mut *guard;
+            placed.release(release)
         };
         self.places[index].released.notify_all();
         next
@@ -193,27 +231,4 @@ impl<L: Ledger> Steps<L> for Pool<L> {
         let desk = &mut *guard;
         desk.give_up(pending)
     }
-}
-
-/// Each shard under a lock of its own.
-fn lock_all(shards: [Shard; SHARDS]) -> [Place; SHARDS] {
-    let [a, b, c, d, e, f, g, h, i, j, k, l, m, n, o, p] = shards;
-    [
-        Place::new(a),
-        Place::new(b),
-        Place::new(c),
-        Place::new(d),
-        Place::new(e),
-        Place::new(f),
-        Place::new(g),
-        Place::new(h),
-        Place::new(i),
-        Place::new(j),
-        Place::new(k),
-        Place::new(l),
-        Place::new(m),
-        Place::new(n),
-        Place::new(o),
-        Place::new(p),
-    ]
 }

@@ -5,22 +5,25 @@ ghost use Rattle.nfs_objects.specs.Values.{seen_at};
 ghost use Rattle.nfs_engine.specs.Apart.{GetsNumber};
 ghost use Rattle.nfs_engine.specs.Engine.{ArePlaces};
 ghost use Rattle.nfs_engine.specs.declared.release.Then.TheVariants as then;
+ghost use Rattle.nfs_stamps.specs.Marking.{AreNotes};
 ghost use Rattle.nfs_pool.specs.Steps.{AdmitsFrom, IsGivenUp, IsMadeAbove, LeadsThere, TakesAny};
 
 use crate::gate::Gate;
+use crate::noted::NotedTxn;
 use crate::sent::{Unadmitted, Uncommitted};
 use nfs_engine::{
     Admission, Arrival, Finished, Got, Next, Pending, Receipt, Refused, Release, ReserveError,
-    SHARDS, Txn,
+    SHARDS,
 };
 use nfs_objects::{Addr, Mode};
+use nfs_stamps::{Naming, Notes};
 use std::alloc::{AllocError, Global};
 use std::sync::Wait;
 use std::sync::ledger::{Ledger, Share};
 
 /// The steps of a call. A pool makes them in holds of its locks, and what is around a pool may count them. What a call
 /// reads is whatever stands there: only its commit tells whether that stands still.
-pub trait Steps<L: Ledger> {
+pub trait Steps<L: Ledger + Naming> {
     /// Admits what came in.
     ///
     /// # Errors
@@ -44,7 +47,7 @@ pub trait Steps<L: Ledger> {
         rt: &R,
         alloc: Global,
         gate: &G,
-        txn: &mut Txn,
+        txn: &mut NotedTxn<L>,
         address: Addr,
         mode: Mode,
     ) -> Result<Got, AllocError>
@@ -66,12 +69,17 @@ pub trait Steps<L: Ledger> {
     /// # Errors
     ///
     /// There is no memory, or no generation. The call is as it was.
-    fn reserve<R: Wait>(&self, rt: &R, txn: &mut Txn, shard: usize) -> Result<bool, ReserveError>
+    fn reserve<R: Wait>(
+        &self,
+        rt: &R,
+        txn: &mut NotedTxn<L>,
+        shard: usize,
+    ) -> Result<bool, ReserveError>
         requires { shard < SHARDS }
         ensures { GetsNumber txn.old txn.new result };
 
     /// Makes what is done the state, and counts one more receipt, under a number above this one. The shards that are
-    /// written are free of the call then.
+    /// written are free of the call then. Notes tell by which commits what it has read was put.
     ///
     /// # Errors
     ///
@@ -83,8 +91,10 @@ pub trait Steps<L: Ledger> {
         mine: &mut Share<L>,
         last: u64,
         finished: Finished,
+        notes: &Notes<L>,
     ) -> Result<(Receipt, Release), Uncommitted>
-        requires { 0 < mine.old.parts }
+        requires parts { 0 < mine.old.parts }
+        requires notes { AreNotes notes.now finished.done.view.entries }
         ensures parts { mine.new.parts ≡ mine.old.parts }
         ensures counted { OnOk result (mine.new.amount ≡ mine.old.amount + 1) }
         ensures uncounted { OnErr result (mine.new.amount ≡ mine.old.amount) }

@@ -1,24 +1,46 @@
-use Rattle.std.proofs.Common.{map, ap, arith, set, subst, sym, refl, ◌<◌, ◌∙◌, true, ℕ}
+use Rattle.std.proofs.Common.{◌≡◌, map, ap, arith, set, subst, sym, refl, ◌<◌, ◌∙◌, true, ℕ, Some, None, option_copied}
 use Rattle.std.proofs.lemmas.Result.{IfOk-weaker}
-use Rattle.nfs_objects.specs.Values.{write_value}
-use Rattle.nfs_engine.proofs.Making.{held_by_test, spent_places}
+use Rattle.std.specs.Cmp.{unsigned_Decides}
+use Rattle.nfs_objects.specs.Values.{write_value, written_at}
+use Rattle.nfs_engine.proofs.Making.{Writes, held_by_test, spent_places}
 use Rattle.nfs_engine.specs.Releases.{ReleaseValue}
 use Rattle.nfs_engine.specs.Settling.{AreHeldIn}
-use Rattle.nfs_engine.specs.Shards.{ShardValue}
+use Rattle.nfs_engine.specs.Shards.{ShardValue, shard_of}
 use Rattle.nfs_pool.specs.Steps.{LetGoFrom, addresses}
 use Rattle.nfs_pool.proofs.LetGo.{none_let_go, one_let_go}
+use Rattle.nfs_pool.proofs.Marked.{spent-apart, stamps-of}
 use Rattle.nfs_pool.proofs.pool.Pool.+commit_from.Goals as goal
 
 -- the call holds what it writes here, as it was asked in the same hold
-pub settle_in-committed-requires : goal.settle_in-committed-requires
-settle_in-committed-requires g n c =
+pub settle-committed-requires-clause-held : goal.settle-committed-requires-clause-held
+settle-committed-requires-clause-held g n c =
     subst (λ (s : ShardValue). AreHeldIn s s.index (map write_value c.in-Ok.committed.writes.items))
-    (sym c.make_room_in.ensures.same) (held_by_test _ _ (map write_value c.in-Ok.committed.writes.items) _
+    (sym c.make_room.ensures) (held_by_test _ _ (map write_value c.in-Ok.committed.writes.items) _
     c.in-Ok.ensures.places (c.if-not-may_settle.ensures refl).1)
 
+-- what it writes here is not spent yet
+pub settle-committed-requires-clause-stamp : goal.settle-committed-requires-clause-stamp
+settle-committed-requires-clause-stamp g n c =
+    let which = c.make_room.new.self.shard.index in
+    let at : which ≡ c.next_written-index.result =
+    ap (λ (s : ShardValue). s.index) c.make_room.ensures ∙ (c.if-not-may_settle.ensures refl).0 in
+    stamps-of (Some which) (option_copied c.args.stamp) c.args.finished.done.change.writes
+    (map write_value c.in-Ok.committed.writes.items) c.requires.stamp
+    (λ a here. c.in-Ok.ensures.writes a (omega (arith, at, (unsigned_Decides (shard_of a) which).0 here)))
+
 pub returns-in-Ok-clause-places : goal.returns-in-Ok-clause-places
-returns-in-Ok-clause-places g n c = ap addresses c.settle_in-committed.ensures.left
+returns-in-Ok-clause-places g n c = ap addresses c.settle-committed.ensures.left
     ∙ spent_places _ (map write_value c.in-Ok.committed.writes.items) ∙ c.in-Ok.ensures.places
+
+pub returns-in-Ok-clause-writes : goal.returns-in-Ok-clause-writes
+returns-in-Ok-clause-writes g n c a below =
+    let which = c.make_room.new.self.shard.index in
+    let at : which ≡ c.next_written-index.result =
+    ap (λ (s : ShardValue). s.index) c.make_room.ensures ∙ (c.if-not-may_settle.ensures refl).0 in
+    ap (λ (ws : Writes). written_at None ws a) c.settle-committed.ensures.left
+    ∙ spent-apart which (map write_value c.in-Ok.committed.writes.items) None a
+    (λ same. omega (arith, at, same, below, c.next_written-index.ensures.within.0))
+    ∙ c.in-Ok.ensures.writes a (omega (arith, below, c.next_written-index.ensures.within.0))
 
 -- no other shard is written
 pub returns-then-index-eq-SHARDS-clause-free : goal.returns-then-index-eq-SHARDS-clause-free
@@ -30,6 +52,11 @@ returns-then-index-eq-SHARDS-clause-free g n c =
     c.next_written-index.ensures.within.0 c.next_written-index.ensures.passed
     (omega (arith, c.if-index-eq-SHARDS.true)))) c.commit.ensures.leaves
 
+pub returns-then-index-eq-SHARDS-clause-writes : goal.returns-then-index-eq-SHARDS-clause-writes
+returns-then-index-eq-SHARDS-clause-writes g n c =
+    IfOk-weaker c.commit.result _ _ (λ made leaves a below. ap (λ (ws : Writes). written_at None ws a) leaves.writes)
+    c.commit.ensures.leaves
+
 -- this one is written
 pub returns-in-Ok-clause-free : goal.returns-in-Ok-clause-free
 returns-in-Ok-clause-free g n c =
@@ -37,9 +64,9 @@ returns-in-Ok-clause-free g n c =
     let done = c.in-Ok.committed.release.done in
     let within : c.next_written-index.result < 16 =
     omega (arith, c.next_written-index.ensures.within.1, c.if-index-eq-SHARDS.false) in
-    subst (λ (r : ReleaseValue). LetGoFrom c.args.index writes r.done) (sym c.settle_in-committed.ensures.release)
+    subst (λ (r : ReleaseValue). LetGoFrom c.args.index writes r.done) (sym c.settle-committed.ensures.release)
     (subst (λ (i : ℕ). LetGoFrom c.args.index writes (set done i true))
-    (sym (ap (λ (s : ShardValue). s.index) c.make_room_in.ensures.same ∙ (c.if-not-may_settle.ensures refl).0))
+    (sym (ap (λ (s : ShardValue). s.index) c.make_room.ensures ∙ (c.if-not-may_settle.ensures refl).0))
     (one_let_go writes c.args.written.now c.requires.written c.args.index c.next_written-index.result
     c.next_written-index.ensures.within.0 c.next_written-index.ensures.passed within
     (c.next_written-index.ensures.found within) done c.in-Ok.ensures.free))

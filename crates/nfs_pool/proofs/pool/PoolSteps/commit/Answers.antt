@@ -1,13 +1,30 @@
-use Rattle.std.proofs.Common.{List, Option, subst}
-use Rattle.nfs_objects.specs.declared.address.Addr.{Addr}
-use Rattle.nfs_objects.specs.declared.object.Object.{Object}
+use Rattle.std.proofs.Common.{◌≡◌, Option, sym, subst, arith}
+use Rattle.std.specs.Prelude.{IfSome}
 use Rattle.nfs_engine.specs.Engine.{ArePlaces}
+use Rattle.nfs_stamps.specs.Marking.{Writes}
 use Rattle.nfs_pool.proofs.LetGo.{all_let_go}
 use Rattle.nfs_pool.proofs.pool.PoolSteps.commit.Goals as goal
 
-pub commit_from-requires-clause-written : goal.commit_from-requires-clause-written
-commit_from-requires-clause-written g c = subst (λ (ws : List (Addr × Option Object)).
-    ArePlaces ws c.written_shards-written.result) c.writes.ensures c.written_shards-written.ensures
+pub commit_from-requires : goal.commit_from-requires
+commit_from-requires g c = (
+  omega arith,
+  (
+    c.requires.parts,
+    (
+      omega arith,
+      (
+        subst (λ (ws : Writes). ArePlaces ws c.written_shards-written.result) c.writes.ensures
+            c.written_shards-written.ensures,
+        (
+          c.requires.notes,
+          subst (λ (o : Option Writes). IfSome o (λ s. s ≡ c.args.finished.done.change.writes)) (sym c.as_ref.ensures.value)
+              (subst (λ (ws : Writes). IfSome c.stamp_for-stamp.result (λ s. s ≡ ws)) c.writes-2.ensures
+              c.stamp_for-stamp.ensures),
+        ),
+      ),
+    ),
+  ),
+)
 
 pub returns-in-Ok-clause-free : goal.returns-in-Ok-clause-free
 returns-in-Ok-clause-free g c =

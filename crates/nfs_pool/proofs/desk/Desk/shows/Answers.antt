@@ -1,0 +1,15 @@
+use Rattle.std.proofs.Common.{◌≡◌, ◌∙◌, Some, ap, refl, slice_get, sym}
+use Rattle.nfs_objects.specs.Values.{ViewValue, seen_of}
+use Rattle.nfs_engine.specs.Book.{store_in}
+use Rattle.nfs_pool.proofs.Shown.{shown-at}
+use Rattle.nfs_pool.proofs.desk.Desk.shows.Goals as goal
+
+pub returns-then-tell : goal.returns-then-tell
+returns-then-tell g c =
+    let entries = c.args.finished.now.done.view.entries in
+    let store = store_in c.args.self.now.book in
+    let seen = seen_of (c.in-Some.address, c.in-Some.entry.now) in
+    let is : Some seen ≡ slice_get entries c.args.place =
+    c.in-Some.ensures ∙ ap (λ (v : ViewValue). slice_get v.entries c.args.place) c.view.ensures in
+    shown-at store entries c.args.place seen is
+    (c.tell.ensures c.if-tell.true entries store.at seen c.requires c.args.self.now.marked (sym is) refl)

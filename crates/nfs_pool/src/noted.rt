@@ -1,0 +1,164 @@
+//! Calls with notes of what they have read.
+
+ghost use Rattle.std.specs.Prelude.{◌≡◌, MatchResult, None, map};
+ghost use Rattle.nfs_objects.specs.Promise.{IsPromised};
+ghost use Rattle.nfs_objects.specs.Values.{change_value, done_value, seen_at, write_value};
+ghost use Rattle.nfs_engine.specs.Apart.{GetsNumber};
+ghost use Rattle.nfs_engine.specs.Calls.{finished_of};
+ghost use Rattle.nfs_stamps.specs.Marking.{AreNotes};
+ghost use Rattle.nfs_pool.specs.Steps.{TakesAny};
+
+use crate::placed::Placed;
+use nfs_engine::{Finished, Got, ReserveError, Txn};
+use nfs_objects::{Addr, Change, Mode, Write};
+use nfs_stamps::{Naming, Notes};
+use std::alloc::{AllocError, Global};
+use std::marker::Model;
+
+/// A call in progress, with notes by which commits what it has read was put. A clause sees it as the call. It has to be
+/// spent.
+pub struct NotedTxn<L: Naming> {
+    txn: Txn,
+    notes: Notes<L>,
+}
+
+impl<L: Naming> Model for NotedTxn<L> {
+    ghost use Rattle.nfs_engine.specs.Calls.{TxnValue};
+    ghost use Rattle.nfs_stamps.specs.Marking.{AreNotes};
+
+    ghost Value = { TxnValue };
+
+    ghost view = { λ t. t.txn };
+
+    ghost invariant = { λ t. AreNotes t.notes t.txn.view.entries };
+}
+
+impl<L: Naming> NotedTxn<L> {
+    /// A call without notes.
+    pub fn new(alloc: Global, txn: Txn) -> NotedTxn<L>
+        ensures { result ≡ txn }
+    {
+        NotedTxn {
+            txn,
+            notes: Notes::new(alloc),
+        }
+    }
+
+    /// The call.
+    pub fn txn(&self) -> &Txn
+        ensures { result.now ≡ self.now }
+    {
+        &self.txn
+    }
+
+    /// The call without its notes.
+    pub fn into_txn(self) -> Txn
+        ensures { result ≡ self }
+    {
+        let NotedTxn { txn, notes } = self;
+        drop(notes);
+        txn
+    }
+
+    /// Makes room for one more note, if there is memory.
+    pub(crate) fn make_room(&mut self)
+        ensures { self.new ≡ self.old }
+    {
+        self.notes.make_room();
+    }
+
+    /// Takes an address of this shard, and reads what stands there, and by which commit it was put.
+    ///
+    /// # Errors
+    ///
+    /// There is no memory for it. Nothing is changed.
+    pub(crate) fn acquire_in(
+        &mut self,
+        alloc: Global,
+        placed: &mut Placed<L>,
+        address: Addr,
+        mode: Mode,
+    ) -> Result<Got, AllocError>
+        requires { seen_at self.old.view.entries address ≡ None }
+        ensures { TakesAny self.old self.new address mode result }
+    {
+        let place = self.txn.view().len();
+        let stamp = placed.find(address);
+        match placed.acquire(alloc, &mut self.txn, address, mode)? {
+            Got::Yes => {
+                self.notes.add(place, stamp);
+                Ok(Got::Yes)
+            }
+            Got::Taken(holder) => Ok(Got::Taken(holder)),
+        }
+    }
+
+    /// Gets a number of this shard. No where the call has to begin anew.
+    ///
+    /// # Errors
+    ///
+    /// There is no memory, or no generation. The call is as it was.
+    pub(crate) fn reserve_in(&mut self, placed: &mut Placed<L>) -> Result<bool, ReserveError>
+        ensures { GetsNumber self.old self.new result }
+    {
+        let place = self.txn.view().len();
+        if placed.reserve(&mut self.txn)? {
+            self.notes.add(place, None);
+            return Ok(true);
+        }
+        Ok(false)
+    }
+
+    /// The call with what it is to change and answer, as its attempt on this view came to it.
+    ///
+    /// # Errors
+    ///
+    /// The call as it was, where the memory was refused.
+    pub fn done(self, alloc: Global, change: Change) -> Result<NotedFinished<L>, NotedTxn<L>>
+        requires { IsPromised (done_value self.call self.ctx self.view (change_value change)) }
+        ensures { MatchResult result
+            (λ finished. finished ≡ finished_of self (change_value change)) (λ txn. txn ≡ self) }
+    {
+        let NotedTxn { txn, notes } = self;
+        match txn.done(alloc, change) {
+            Ok(finished) => Ok(NotedFinished { finished, notes }),
+            Err(txn) => Err(NotedTxn { txn, notes }),
+        }
+    }
+}
+
+/// A call with what it is to change and answer, with notes by which commits what it has read was put. A clause sees it
+/// as the call. It has to be spent.
+pub struct NotedFinished<L: Naming> {
+    finished: Finished,
+    notes: Notes<L>,
+}
+
+impl<L: Naming> Model for NotedFinished<L> {
+    ghost use Rattle.nfs_engine.specs.Calls.{FinishedValue};
+    ghost use Rattle.nfs_stamps.specs.Marking.{AreNotes};
+
+    ghost Value = { FinishedValue };
+
+    ghost view = { λ f. f.finished };
+
+    ghost invariant = { λ f. AreNotes f.notes f.finished.done.view.entries };
+}
+
+impl<L: Naming> NotedFinished<L> {
+    /// What it is to write.
+    pub fn writes(&self) -> &[Write]
+        ensures { map write_value result.now ≡ self.now.done.change.writes }
+    {
+        self.finished.writes()
+    }
+
+    /// The call, and its notes.
+    pub(crate) fn into_parts(self) -> (Finished, Notes<L>)
+        ensures finished { result.0 ≡ self }
+        ensures notes { AreNotes result.1 self.done.view.entries }
+    {
+        let NotedFinished { finished, notes } = self;
+        (finished, notes)
+    }
+}

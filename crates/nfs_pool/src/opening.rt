@@ -1,0 +1,111 @@
+//! What a pool opens with: marks of what stands at the start, and each shard under a lock of its own.
+
+ghost use Rattle.std.specs.Prelude.{◌≡◌, IfSome, map};
+ghost use Rattle.nfs_objects.specs.Values.{write_value};
+ghost use Rattle.nfs_objects.specs.declared.address.Addr.TheVariants.{Exports, Mounts};
+ghost use Rattle.nfs_engine.specs.Book.{store_in};
+ghost use Rattle.nfs_engine.specs.Engine.{shard_among};
+ghost use Rattle.nfs_stamps.specs.Marking.{AreMarks, Puts};
+ghost use Rattle.nfs_pool.specs.Marked.{AreMarksIn, IsSameIn, OpensMarked};
+
+use crate::locking::Place;
+use crate::placed::Placed;
+use nfs_engine::{Book, SHARDS, Shard};
+use nfs_objects::{Addr, Write};
+use nfs_stamps::{Log, Marks, Naming, Stamp, is_large};
+use std::alloc::Global;
+use std::sync::Arc;
+
+/// Marks of the exports and of the mounts, for the book and for the shard in which they stand: until they are written
+/// no commit puts any.
+pub(crate) fn mark_opening<L: Naming>(
+    alloc: Global,
+    log: &Log<L>,
+    book: &Book,
+    first: &Shard,
+) -> (Marks<L>, Marks<L>)
+    requires { IsSameIn (store_in book.now) first.now Exports × IsSameIn (store_in book.now) first.now Mounts }
+    ensures book { AreMarks result.0 (store_in book.now).at }
+    ensures shard { AreMarksIn result.1 first.now }
+{
+    // Both have what stands there.
+    let _ = first;
+    let exports = stamp_standing(log, book, Addr::Exports);
+    let mounts = stamp_standing(log, book, Addr::Mounts);
+    (
+        opening_marks(alloc, &exports, &mounts),
+        opening_marks(alloc, &exports, &mounts),
+    )
+}
+
+/// Marks of the exports and of the mounts with these stamps.
+fn opening_marks<L: Naming>(
+    alloc: Global,
+    exports: &Option<Stamp<L>>,
+    mounts: &Option<Stamp<L>>,
+) -> Marks<L>
+    ensures { OpensMarked result exports.now mounts.now }
+{
+    let mut marks = Marks::new(alloc);
+    marks.set(Addr::Exports, exports.as_ref());
+    marks.set(Addr::Mounts, mounts.as_ref());
+    marks
+}
+
+/// A stamp of what stands at an address of a book.
+fn stamp_standing<L: Naming>(log: &Log<L>, book: &Book, address: Addr) -> Option<Stamp<L>>
+    ensures { IfSome result (λ s. Puts s address ((store_in book.now).at address)) }
+{
+    let object = Arc::try_clone(book.find(address)?).ok()?;
+    let write = Write {
+        address,
+        object: Some(object),
+    };
+    Stamp::new(log, &[write])
+}
+
+/// A stamp of these writes, if one of them puts something large.
+pub(crate) fn stamp_for<L: Naming>(log: &Log<L>, writes: &[Write]) -> Option<Stamp<L>>
+    ensures { IfSome result (λ s. s ≡ map write_value writes.now) }
+{
+    for write in writes {
+        if is_large(write.address) {
+            return Stamp::new(log, writes);
+        }
+    }
+    None
+}
+
+/// Each shard under a lock of its own, the first with these marks.
+pub(crate) fn lock_all<L: Naming>(
+    alloc: Global,
+    shards: [Shard; SHARDS],
+    first: Marks<L>,
+) -> [Place<L>; SHARDS]
+    requires { AreMarksIn first (shard_among shards 0) }
+{
+    let [a, b, c, d, e, f, g, h, i, j, k, l, m, n, o, p] = shards;
+    [
+        Place::new(Placed::new(a, first)),
+        unmarked(alloc, b),
+        unmarked(alloc, c),
+        unmarked(alloc, d),
+        unmarked(alloc, e),
+        unmarked(alloc, f),
+        unmarked(alloc, g),
+        unmarked(alloc, h),
+        unmarked(alloc, i),
+        unmarked(alloc, j),
+        unmarked(alloc, k),
+        unmarked(alloc, l),
+        unmarked(alloc, m),
+        unmarked(alloc, n),
+        unmarked(alloc, o),
+        unmarked(alloc, p),
+    ]
+}
+
+/// A shard without marks under a lock of its own.
+fn unmarked<L: Naming>(alloc: Global, shard: Shard) -> Place<L> {
+    Place::new(Placed::new(shard, Marks::new(alloc)))
+}
