@@ -1,13 +1,17 @@
 //! A connection over TCP, which its own thread reads and writes.
 
+ghost use Rattle.std.specs.Io.{ReadsAtMost};
 ghost use Rattle.std.specs.Prelude.{◌≡◌, false};
 
 use crate::network::clerk::Closed;
 use nfs_engine::Host;
 use nfs_streams::Connection;
 use std::io;
-use std::io::Write;
+use std::io::{ErrorKind, Read, Write};
 use std::net::TcpStream;
+
+/// How often a read is done again.
+const TRIES: usize = 100;
 
 /// A connection.
 #[derive(Drop)]
@@ -32,4 +36,18 @@ impl Line {
         (&self.stream).write_all(waiting.gathered())?;
         (&self.stream).write_all(waiting.last())
     }
+}
+
+/// Reads what has come over a connection, or waits for it. A read that a signal interrupted is done again.
+pub(crate) fn read_some(stream: &TcpStream, buffer: &mut [u8]) -> io::Result<usize>
+    ensures { ReadsAtMost result buffer.new }
+{
+    let mut stream = stream;
+    for _ in 0..TRIES {
+        match stream.read(buffer) {
+            Err(error) if error.kind() == ErrorKind::Interrupted => {}
+            ended => return ended,
+        }
+    }
+    Err(io::Error::from(ErrorKind::Interrupted))
 }

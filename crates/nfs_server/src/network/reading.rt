@@ -3,11 +3,10 @@
 ghost use Rattle.std.specs.Prelude.{◌≡◌, false, length, OnOk};
 
 use crate::network::clerk::{Clerk, Closed};
-use crate::network::line::Line;
+use crate::network::line::{Line, read_some};
 use nfs_rpc::RecordError;
 use nfs_streams::Connection;
 use std::alloc::{AllocError, Global};
-use std::io::Read;
 use std::rt::Clock;
 use std::sync::Wait;
 use std::sync::ledger::Ledger;
@@ -53,7 +52,7 @@ impl<L: Ledger, C: Clock> Reader<L, C> {
     {
         let mut buffer = Vec::from_elem(alloc, 0u8, FIRST_SIZE)?;
         'pieces: for _ in rt.forever() {
-            let count = (&self.line.stream).read(buffer.as_mut_slice())?;
+            let count = read_some(&self.line.stream, buffer.as_mut_slice())?;
             if count == 0 {
                 return Ok(());
             }

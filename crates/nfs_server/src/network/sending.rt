@@ -3,12 +3,13 @@
 use crate::callbacks::Callbacks;
 use crate::network::clerk::{Clerk, is_refusal};
 use crate::network::failures::Failures;
+use crate::network::line::read_some;
 use crate::network::messages::{Letter, addressed, call_of_answer};
 use nfs_engine::{Host, Posted};
 use nfs_rpc::{Record, RecordError, Records};
 use side_wire::Callback;
 use std::alloc::Global;
-use std::io::{Read, Write};
+use std::io::Write;
 use std::net::{Net, SocketAddr, TcpListener, TcpStream};
 use std::rt::Clock;
 use std::sync::Wait;
@@ -173,9 +174,8 @@ fn first_record<L: Ledger, C: Clock, R: Wait + Clock>(
 ) -> io::Result<Option<Record>> {
     let mut records = Records::new(alloc);
     let mut piece = [0u8; PIECE_SIZE];
-    let mut stream = stream;
     for _ in 0..MOST_PIECES {
-        let count = stream.read(&mut piece)?;
+        let count = read_some(stream, &mut piece)?;
         if count == 0 || !clerk.feed(rt, &mut records, &piece[..count]) {
             return Ok(None);
         }
