@@ -13,7 +13,7 @@ use crate::options::Options;
 use nfs_engine::{Config, Engine, StartError};
 use nfs_machine::{Limits, Moments};
 use nfs_rpc::stream::{Sink, Source};
-use nfs_streams::{Served, StreamFault, serve_stream};
+use nfs_streams::{Messages, Served, StreamFault, serve_with};
 use std::alloc::Global;
 
 /// Serves the input as the options say, with this start number where they name none: from the opening state, which is
@@ -72,7 +72,8 @@ pub fn serve_options<C: Moments, R: Source, W: Sink>(
         era_records,
     };
     let mut engine = open(alloc, config)?;
-    let served = serve_stream(alloc, &mut engine, &host, clock, reader, writer);
+    let messages = Messages::Dropped;
+    let served = serve_with(alloc, &mut engine, &host, clock, reader, writer, messages);
     // Calls of `drop`, since drops at the end are proved for each exit.
     drop(engine);
     drop(host);

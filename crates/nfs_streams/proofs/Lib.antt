@@ -1,6 +1,7 @@
 pub mod Answering
 pub mod Carried
 pub mod Datagrammed
+pub mod Dropping
 pub mod Eras
 pub mod Joins
 pub mod Loops

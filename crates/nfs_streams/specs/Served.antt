@@ -44,6 +44,11 @@ pub record ExecutesNothing (old new : EngineValue) : Type 0 where
   pub replies : new.book.replies ≡ old.book.replies
   pub count : new.book.before + length new.book.records ≡ old.book.before + length old.book.records
 
+-- the messages that wait are dropped, and all else is as it was
+abbrev pub DropsMessages : EngineValue → EngineValue → Type 0
+DropsMessages old new =
+    new ≡ record old { book = record old.book { outbox = []; taken = new.book.taken } }
+
 -- These records came from the host, one after the other and each at the clock's next moment. From here, where the
 -- engine stood, the bytes are their answers, what was executed is a run, and the engine stands where that ends.
 pub record Answered {Clock : Type 0} (gives : Clock → Moment → Clock → Type 0) (host : List ℕ)

@@ -1,8 +1,8 @@
 //! Streams and datagrams of records, answered by an engine.
 //!
 //! A `Connection` takes in what a peer sends, and keeps the answers that wait to be sent; it reads and writes nothing.
-//! `answer_record` answers one record on an engine at rest, `serve_stream` each record of a stream. `datagram_of` makes
-//! an answer a datagram.
+//! `answer_record` answers one record on an engine at rest, `serve_stream` each record of a stream, and so does
+//! `serve_with`, which may drop the messages that calls put. `datagram_of` makes an answer a datagram.
 #![tactic(auto)]
 
 pub mod answer;
@@ -14,4 +14,4 @@ pub mod serving;
 pub use answer::answer_record;
 pub use connection::{Connection, connections_carry_on};
 pub use datagrams::{datagram_of, replies_make_datagrams};
-pub use serving::{Served, StreamFault, serve_stream, served_is_a_run};
+pub use serving::{Messages, Served, StreamFault, serve_stream, serve_with, served_is_a_run};

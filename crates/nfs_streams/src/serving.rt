@@ -7,10 +7,10 @@ ghost use Rattle.std.specs.Io.KnownBytes.{IsAtEnd};
 ghost use Rattle.nfs_rpc.specs.Records.{Holds};
 ghost use Rattle.nfs_rpc.specs.Streams.{one_more};
 ghost use Rattle.nfs_schedule.specs.Worlds.{IsAtRest};
-ghost use Rattle.nfs_streams.specs.Connections.{IsNew, waiting};
+ghost use Rattle.nfs_streams.specs.Connections.{IsNew, bytes_of, waiting};
 ghost use Rattle.nfs_streams.specs.Sent.{Adds, FailsBy};
-ghost use Rattle.nfs_streams.specs.Served.{AreServed, EndsByFault, KeepsSetting, ServedIsRun, ServesAll};
-ghost use Rattle.nfs_streams.specs.Served.{ServesFront};
+ghost use Rattle.nfs_streams.specs.Served.{AreAnswered, AreServed, DropsMessages, EndsByFault, HasNoAnswer};
+ghost use Rattle.nfs_streams.specs.Served.{KeepsSetting, ServedIsRun, ServesAll, ServesFront};
 ghost use Rattle.nfs_streams.specs.Taken.{LeavesPiece, TakesPiece};
 
 use crate::answer::answer_record;
@@ -20,7 +20,8 @@ use nfs_engine::{Engine, Host};
 use nfs_machine::Moments;
 use nfs_rpc::stream::{Sink, Source};
 use nfs_rpc::{Record, RecordError};
-use std::alloc::Global;
+use nfs_schedule::Answer;
+use std::alloc::{AllocError, Global};
 use thiserror::Error;
 
 /// How many bytes are read at once.
@@ -56,6 +57,15 @@ enum Taken {
     Piece,
     /// A piece, in which a record is too large.
     Refused,
+}
+
+/// What becomes of the messages that calls put.
+#[derive(Clone, Copy)]
+pub enum Messages {
+    /// They wait to be taken.
+    Waiting,
+    /// They are dropped, since nobody is called back.
+    Dropped,
 }
 
 /// Answers each record of the input, one after the other, to the end of the input. All answers are sent on before the
@@ -98,6 +108,46 @@ pub fn serve_stream<C: Moments, R: Source, W: Sink>(
     ensures end { OnOk result (IsAtEnd (R.unread reader.new)) }
     ensures sent { OnOk result (W.all_sent writer.old ≡ true → W.all_sent writer.new ≡ true) }
 {
+    serve_with(alloc, engine, host, clock, reader, writer, Messages::Waiting)
+}
+
+/// The same as `serve_stream`; messages that calls put wait to be taken, or are dropped as they come.
+///
+/// # Errors
+///
+/// Those of `serve_stream`.
+pub fn serve_with<C: Moments, R: Source, W: Sink>(
+    alloc: Global,
+    engine: &mut Engine,
+    host: &Host,
+    clock: &mut C,
+    reader: &mut R,
+    writer: &mut W,
+    messages: Messages,
+) -> Result<Served, StreamFault>
+    requires rest { IsAtRest engine.old }
+    ensures rest { IsAtRest engine.new }
+    // No era gets more records than it may have.
+    ensures keeps { KeepsSetting engine.old engine.new }
+    // Answers are those of a run of the machine, but for repeats, which have the reply that is kept.
+    ensures ok { IfOk result (λ _. (input : List ℕ) → R.unread reader.old ≡ Some input
+        → ServesAll C.gives host.now input clock.old clock.new engine.old engine.new
+        (W.written writer.old) (W.written writer.new)) }
+    ensures fault { IfErr result (λ e. (input : List ℕ) → R.unread reader.old ≡ Some input
+        → ServesFront C.gives host.now input (R.unread reader.new) e clock.old clock.new engine.old engine.new
+        (W.written writer.old) (W.written writer.new)) }
+    // Messages that are to be dropped don't wait.
+    ensures dropped { messages ≡ Messages.Dropped → engine.old.book.outbox ≡ [] → engine.new.book.outbox ≡ [] }
+    // A fault of a stream is one that the stream counted, or there was no end of it.
+    ensures read { IsErrOf result StreamFault.Read →
+        (R.Counts.failures reader.new ≡ one_more (R.Counts.failures reader.old))
+        ⊎ ((input : List ℕ) → R.unread reader.old ≡ Some input → 2 ^ 64 - 1 ≤ length input) }
+    ensures write { IsErrOf result StreamFault.Write →
+        W.Counts.failures writer.new ≡ one_more (W.Counts.failures writer.old) }
+    // At the end all is read, and every answer is sent.
+    ensures end { OnOk result (IsAtEnd (R.unread reader.new)) }
+    ensures sent { OnOk result (W.all_sent writer.old ≡ true → W.all_sent writer.new ≡ true) }
+{
     let mut connection = Connection::new(alloc);
     let Ok(mut buffer) = Vec::from_elem(alloc, 0, BUFFER_SIZE) else {
         return Err(StreamFault::Memory);
@@ -109,6 +159,7 @@ pub fn serve_stream<C: Moments, R: Source, W: Sink>(
         clock,
         reader,
         writer,
+        messages,
         &mut connection,
         buffer.as_mut_slice(),
     )
@@ -127,6 +178,7 @@ fn serve_pieces<C: Moments, R: Source, W: Sink>(
     clock: &mut C,
     reader: &mut R,
     writer: &mut W,
+    messages: Messages,
     connection: &mut Connection,
     buffer: &mut [u8],
 ) -> Result<Served, StreamFault>
@@ -141,6 +193,7 @@ fn serve_pieces<C: Moments, R: Source, W: Sink>(
     ensures fault { IfErr result (λ e. (input : List ℕ) → R.unread reader.old ≡ Some input
         → ServesFront C.gives host.now input (R.unread reader.new) e clock.old clock.new engine.old engine.new
         (W.written writer.old) (W.written writer.new)) }
+    ensures dropped { messages ≡ Messages.Dropped → engine.old.book.outbox ≡ [] → engine.new.book.outbox ≡ [] }
     ensures read { IsErrOf result StreamFault.Read →
         (R.Counts.failures reader.new ≡ one_more (R.Counts.failures reader.old))
         ⊎ ((input : List ℕ) → R.unread reader.old ≡ Some input → 2 ^ 64 - 1 ≤ length input) }
@@ -154,7 +207,7 @@ fn serve_pieces<C: Moments, R: Source, W: Sink>(
         if let Taken::End = taken {
             return Ok(Served);
         }
-        serve_records(alloc, engine, host, clock, writer, connection)?;
+        serve_records(alloc, engine, host, clock, writer, messages, connection)?;
         if let Taken::Refused = taken {
             return Err(StreamFault::TooLarge);
         }
@@ -204,12 +257,14 @@ fn serve_records<C: Moments, W: Sink>(
     host: &Host,
     clock: &mut C,
     writer: &mut W,
+    messages: Messages,
     connection: &mut Connection,
 ) -> Result<(), StreamFault>
     requires rest { IsAtRest engine.old }
     requires none { waiting connection.old ≡ [] }
     requires room { connection.old.full ≡ false }
     ensures rest { IsAtRest engine.new }
+    ensures dropped { messages ≡ Messages.Dropped → engine.old.book.outbox ≡ [] → engine.new.book.outbox ≡ [] }
     ensures goes { OnOk result
         (AreServed C.gives host.now connection.old.records.queued clock.old clock.new engine.old engine.new
         (W.written writer.old) (W.written writer.new)) }
@@ -229,7 +284,7 @@ fn serve_records<C: Moments, W: Sink>(
         ⊎ (e ≡ StreamFault.Memory)) }
 {
     'records: while let Some(record) = connection.next() {
-        serve_record(alloc, engine, host, clock, writer, connection, record)?;
+        serve_record(alloc, engine, host, clock, writer, messages, connection, record)?;
     }
     send(writer, connection)
 }
@@ -241,6 +296,7 @@ fn serve_record<C: Moments, W: Sink>(
     host: &Host,
     clock: &mut C,
     writer: &mut W,
+    messages: Messages,
     connection: &mut Connection,
     message: Record,
 ) -> Result<(), StreamFault>
@@ -250,6 +306,7 @@ fn serve_record<C: Moments, W: Sink>(
     ensures room { OnOk result (connection.new.full ≡ false) }
     ensures records { connection.new.records ≡ connection.old.records }
     ensures sent { OnOk result (W.all_sent writer.old ≡ true → W.all_sent writer.new ≡ true) }
+    ensures dropped { messages ≡ Messages.Dropped → engine.old.book.outbox ≡ [] → engine.new.book.outbox ≡ [] }
     ensures adds { OnOk result
         (Adds C.gives host.now message clock.old clock.new engine.old engine.new
         (W.written writer.old) (W.written writer.new) (waiting connection.old) (waiting connection.new)) }
@@ -261,11 +318,49 @@ fn serve_record<C: Moments, W: Sink>(
         ((e ≡ StreamFault.Write) × (W.Counts.failures writer.new ≡ one_more (W.Counts.failures writer.old)))
         ⊎ (e ≡ StreamFault.Memory)) }
 {
-    match answer_record(alloc, engine, host, clock, message) {
+    match answer_next(alloc, engine, host, clock, messages, message) {
         Ok(answer) => put(writer, connection, answer),
         Err(_) => {
             send(writer, connection)?;
             Err(StreamFault::Memory)
         }
+    }
+}
+
+/// The answer to a record, as `answer_record` gives it. Messages are dropped where they shall be.
+///
+/// # Errors
+///
+/// Those of `answer_record`.
+fn answer_next<C: Moments>(
+    alloc: Global,
+    engine: &mut Engine,
+    host: &Host,
+    clock: &mut C,
+    messages: Messages,
+    message: Record,
+) -> Result<Option<Answer>, AllocError>
+    requires rest { IsAtRest engine.old }
+    ensures rest { IsAtRest engine.new }
+    ensures dropped { messages ≡ Messages.Dropped → engine.old.book.outbox ≡ [] → engine.new.book.outbox ≡ [] }
+    ensures ok { IfOk result
+        (λ answer. AreAnswered C.gives host.now (message ∷ []) clock.old clock.new engine.old engine.new
+        (bytes_of answer)) }
+    ensures err { OnErr result
+        (HasNoAnswer C.gives (message ∷ []) clock.old clock.new engine.old engine.new) }
+{
+    let answer = answer_record(alloc, engine, host, clock, message)?;
+    if let Messages::Dropped = messages {
+        drop_messages(engine);
+    }
+    Ok(answer)
+}
+
+/// Drops the messages that wait.
+fn drop_messages(engine: &mut Engine)
+    ensures { DropsMessages engine.old engine.new }
+{
+    'messages: while let Some(posted) = engine.take_message() {
+        drop(posted);
     }
 }

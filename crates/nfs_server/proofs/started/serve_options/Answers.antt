@@ -9,13 +9,13 @@ returns-in-Ok-clause-ok g c = λ input is. record {
   moment = c.moment-moment.result;
   started = c.moment-moment.new.self;
   opened = c.in_ok-engine.engine;
-  ended = c.serve_stream-served.new.engine;
+  ended = c.serve_with-served.new.engine;
   ticked = c.moment-moment.ensures;
   under = rw (← c.unwrap_or.ensures) (ap (λ (b : BookValue). b.setting) c.in_ok-engine.ensures.opens.is);
   stands =
       opens_standing _ c.in_ok-engine.engine c.in_ok-engine.ensures.opens;
   on = c.in-Ok.ensures.ok input is;
-  era = opens_within _ _ _ c.in_ok-engine.ensures.opens c.serve_stream-served.ensures.keeps;
+  era = opens_within _ _ _ c.in_ok-engine.ensures.opens c.serve_with-served.ensures.keeps;
 }
 
 pub returns-in-Err-clause-fault : goal.returns-in-Err-clause-fault
@@ -30,12 +30,12 @@ returns-in-Err-clause-fault g c = inr (
     moment = c.moment-moment.result;
     started = c.moment-moment.new.self;
     opened = c.in_ok-engine.engine;
-    ended = c.serve_stream-served.new.engine;
+    ended = c.serve_with-served.new.engine;
     ticked = c.moment-moment.ensures;
     under = rw (← c.unwrap_or.ensures) (ap (λ (b : BookValue). b.setting) c.in_ok-engine.ensures.opens.is);
     stands =
         opens_standing _ c.in_ok-engine.engine c.in_ok-engine.ensures.opens;
     on = c.in-Err.ensures.fault input is;
-    era = opens_within _ _ _ c.in_ok-engine.ensures.opens c.serve_stream-served.ensures.keeps;
+    era = opens_within _ _ _ c.in_ok-engine.ensures.opens c.serve_with-served.ensures.keeps;
   },
 )

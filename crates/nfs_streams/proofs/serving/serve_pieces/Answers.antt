@@ -15,6 +15,7 @@ pieces-init g c = (
   c.requires.new.none,
   c.requires.new.free,
   c.requires.rest,
+  λ is none. none,
 )
 
 pub returns-in-End-clause-ok : goal.returns-in-End-clause-ok
@@ -47,6 +48,7 @@ returns-in_err-serve_records g c =
           fault_taken _ _ _ _ _ _ _ _ _ _ _ _ _ _ _ _ c.pieces.invariant.0 _ _ c.in_ok-taken.taken c.in_default.not-End
           c.in_ok-taken.ensures.taken _ _ _ _
           c.in_err-serve_records.ensures.stops (later_fault _ _ fault);
+      dropped = λ is none. c.in_err-serve_records.ensures.dropped is (c.pieces.invariant.5 is none);
       read = λ e. absurd (later_not_read _ fault (err_same _ _ e));
       write = λ e. later_write _ _ _ _ fault c.pieces.invariant.0.same_writer (err_same _ _ e);
       end = tt;
@@ -65,6 +67,7 @@ returns-in-Refused g c = record {
       c.in_ok-taken.ensures.taken _ _ _ _
       (goes_stops _ _ _ _ _ _ _ _ _ _ (refl, (refl, refl, refl)) c.in_ok-serve_records.ensures.goes)
       (refused_large _ _ _ _ _ _ _ c.in-Refused.is c.in_ok-taken.ensures.taken.takes c.pieces.invariant.0.holds);
+  dropped = λ is none. c.in_ok-serve_records.ensures.dropped is (c.pieces.invariant.5 is none);
   read = λ e. absurd (refused_other e);
   write = λ e. absurd (refused_write e);
   end = tt;
@@ -81,6 +84,7 @@ pieces-preserved g c = (
   c.in_ok-serve_records.ensures.none,
   c.in_ok-serve_records.ensures.room,
   c.in_ok-serve_records.ensures.rest,
+  λ is none. c.in_ok-serve_records.ensures.dropped is (c.pieces.invariant.5 is none),
 )
 
 pub returns-in-End-clause-keeps : goal.returns-in-End-clause-keeps

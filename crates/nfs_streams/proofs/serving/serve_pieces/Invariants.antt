@@ -2,6 +2,7 @@ use Rattle.std.proofs.Common.{◌≡◌, true, false, []}
 use Rattle.nfs_streams.proofs.Loops.{Taking}
 use Rattle.nfs_schedule.specs.Worlds.{IsAtRest}
 use Rattle.nfs_streams.specs.Connections.{waiting}
+use Rattle.nfs_streams.specs.declared.serving.Messages.TheVariants.{Dropped}
 use Rattle.nfs_streams.proofs.serving.serve_pieces.Given as goal
 
 abbrev pub invariant-pieces : goal.invariant-pieces
@@ -15,3 +16,4 @@ invariant-pieces g l =
     × (waiting l.connection ≡ [])
     × (l.connection.full ≡ false)
     × IsAtRest l.engine
+    × (l.messages ≡ Dropped → l.initial.engine.book.outbox ≡ [] → l.engine.book.outbox ≡ [])

@@ -4,7 +4,7 @@ use Rattle.nfs_streams.proofs.serving.serve_records.Goals as goal
 
 pub records-init : goal.records-init
 records-init g c =
-    (answering_none _ _ _ _ _ _ _ _ c.requires.none, λ sent. sent, c.requires.room, c.requires.rest)
+    (answering_none _ _ _ _ _ _ _ _ c.requires.none, λ sent. sent, c.requires.room, c.requires.rest, λ is none. none)
 
 pub records-preserved : goal.records-preserved
 records-preserved g c = (
@@ -16,6 +16,7 @@ records-preserved g c = (
   λ sent. c.in_ok-serve_record.ensures.sent (c.records.invariant.1 sent),
   c.in_ok-serve_record.ensures.room,
   c.in_ok-serve_record.ensures.rest,
+  λ is none. c.in_ok-serve_record.ensures.dropped is (c.records.invariant.4 is none),
 )
 
 pub returns-in_err-serve_record-clause-stops : goal.returns-in_err-serve_record-clause-stops

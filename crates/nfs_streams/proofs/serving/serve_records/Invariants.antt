@@ -1,7 +1,8 @@
-use Rattle.std.proofs.Common.{◌≡◌, true, false, length}
+use Rattle.std.proofs.Common.{◌≡◌, true, false, [], length}
 use Rattle.nfs_streams.proofs.Loops.{Answering}
 use Rattle.nfs_schedule.specs.Worlds.{IsAtRest}
 use Rattle.nfs_streams.specs.Connections.{waiting}
+use Rattle.nfs_streams.specs.declared.serving.Messages.TheVariants.{Dropped}
 use Rattle.nfs_streams.proofs.serving.serve_records.Given as goal
 
 abbrev pub invariant-records : goal.invariant-records
@@ -13,6 +14,7 @@ invariant-records g l =
     × (g.W.Sink.all_sent l.initial.writer ≡ true → g.W.Sink.all_sent l.writer ≡ true)
     × (l.connection.full ≡ false)
     × IsAtRest l.engine
+    × (l.messages ≡ Dropped → l.initial.engine.book.outbox ≡ [] → l.engine.book.outbox ≡ [])
 
 abbrev pub decreases-records : goal.decreases-records
 decreases-records g l = length l.connection.records.queued
