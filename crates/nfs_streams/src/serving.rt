@@ -108,7 +108,15 @@ pub fn serve_stream<C: Moments, R: Source, W: Sink>(
     ensures end { OnOk result (IsAtEnd (R.unread reader.new)) }
     ensures sent { OnOk result (W.all_sent writer.old ≡ true → W.all_sent writer.new ≡ true) }
 {
-    serve_with(alloc, engine, host, clock, reader, writer, Messages::Waiting)
+    serve_with(
+        alloc,
+        engine,
+        host,
+        clock,
+        reader,
+        writer,
+        Messages::Waiting,
+    )
 }
 
 /// The same as `serve_stream`; messages that calls put wait to be taken, or are dropped as they come.
@@ -284,7 +292,9 @@ fn serve_records<C: Moments, W: Sink>(
         ⊎ (e ≡ StreamFault.Memory)) }
 {
     'records: while let Some(record) = connection.next() {
-        serve_record(alloc, engine, host, clock, writer, messages, connection, record)?;
+        serve_record(
+            alloc, engine, host, clock, writer, messages, connection, record,
+        )?;
     }
     send(writer, connection)
 }
