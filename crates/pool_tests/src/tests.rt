@@ -13,3 +13,4 @@ mod listings;
 mod pages;
 mod pools;
 mod rows;
+mod stamps;

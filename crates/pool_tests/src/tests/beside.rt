@@ -4,6 +4,7 @@ use super::callers::{Caller, OK};
 use super::calls::Ask;
 use super::ends::End;
 use super::pools::{Course, Part, Runs, in_pool};
+use nfs_pool::Naming;
 use std::alloc::AllocError;
 use std::sync::ledger::Ledger;
 
@@ -31,7 +32,7 @@ fn name_of(caller: u32, file: u32) -> u32 {
 struct ReadsBack;
 
 impl Part for ReadsBack {
-    fn acts<L: Ledger, R: Runs>(&self, caller: &mut Caller<L, R>, number: u32) -> u64 {
+    fn acts<L: Ledger + Naming, R: Runs>(&self, caller: &mut Caller<L, R>, number: u32) -> u64 {
         let first = number.wrapping_mul(1000);
         let mut good = u64::from(caller.makes(first, name_of(number, 0)));
         for count in 1..=WRITES {
@@ -42,7 +43,7 @@ impl Part for ReadsBack {
 }
 
 /// Writes a word and reads it back: two calls, where it is the same, under a later number.
-fn reads_back<L: Ledger, R: Runs>(caller: &mut Caller<L, R>, xid: u32) -> u64 {
+fn reads_back<L: Ledger + Naming, R: Runs>(caller: &mut Caller<L, R>, xid: u32) -> u64 {
     if caller.call(xid, Ask::Write(xid)) != OK {
         return 0;
     }
@@ -60,7 +61,7 @@ fn reads_back<L: Ledger, R: Runs>(caller: &mut Caller<L, R>, xid: u32) -> u64 {
 struct FillsRoot;
 
 impl Part for FillsRoot {
-    fn acts<L: Ledger, R: Runs>(&self, caller: &mut Caller<L, R>, number: u32) -> u64 {
+    fn acts<L: Ledger + Naming, R: Runs>(&self, caller: &mut Caller<L, R>, number: u32) -> u64 {
         let mut good: u64 = 0;
         for file in 0..FILES {
             let name = name_of(number, file);
@@ -69,7 +70,7 @@ impl Part for FillsRoot {
         good
     }
 
-    fn looks<L: Ledger, R: Runs>(&self, caller: &mut Caller<L, R>) -> u64 {
+    fn looks<L: Ledger + Naming, R: Runs>(&self, caller: &mut Caller<L, R>) -> u64 {
         let mut good: u64 = 0;
         for number in 0..CALLERS {
             for file in 0..FILES {

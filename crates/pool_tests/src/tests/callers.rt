@@ -4,7 +4,7 @@ use super::calls::{Ask, Handle, ROOT};
 use super::pools::{Runs, moment};
 use bytes::Bytes;
 use nfs_engine::{Arrival, Host};
-use nfs_pool::{Gate, Pool, PoolError, Seat, Sent, Step};
+use nfs_pool::{Gate, Naming, Pool, PoolError, Seat, Sent, Step};
 use std::alloc::AllocError;
 use std::sync::atomic::{AtomicU64, Ordering};
 use std::sync::ledger::Ledger;
@@ -57,7 +57,7 @@ pub(super) const OK: Told = Told::Executed(Some(0));
 
 /// One who makes calls.
 #[derive(Drop)]
-pub(super) struct Caller<'a, L: Ledger, R> {
+pub(super) struct Caller<'a, L: Ledger + Naming, R> {
     pub(super) rt: &'a R,
     pub(super) pool: &'a Pool<L>,
     pub(super) seat: &'a mut Seat<L>,
@@ -67,7 +67,7 @@ pub(super) struct Caller<'a, L: Ledger, R> {
     pub(super) directory: Handle,
 }
 
-impl<'a, L: Ledger, R: Runs> Caller<'a, L, R> {
+impl<'a, L: Ledger + Naming, R: Runs> Caller<'a, L, R> {
     pub(super) fn new(rt: &'a R, pool: &'a Pool<L>, seat: &'a mut Seat<L>) -> Caller<'a, L, R> {
         Caller {
             rt,

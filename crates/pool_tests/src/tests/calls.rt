@@ -1,4 +1,4 @@
-//! Calls as words (RFC 1813, 3.3).
+//! Calls as words (RFC 1813, 3.3, and appendices I and II).
 
 use bytes::Bytes;
 use std::alloc::{AllocError, Global};
@@ -11,6 +11,15 @@ pub(super) const ROOT: Handle = [0x4e464433, 1, 0, 7, 0, 1, 0, 1];
 
 /// AUTH_SYS of user 0 and group 0 (RFC 5531, appendix A), and a verifier.
 const USER_0: [u32; 9] = [1, 20, 0, 0, 0, 0, 0, 0, 0];
+
+/// `/data`, as an XDR string.
+const PATH: [u32; 3] = [5, 0x2f646174, 0x61000000];
+
+/// The caller's name in a LOCK: `host`.
+const CALLER: [u32; 2] = [4, 0x686f7374];
+
+/// The owner of a lock, `mine`, and its process.
+const OWNER: [u32; 3] = [4, 0x6d696e65, 1];
 
 /// Where a listing goes on, and what tells that it may.
 #[derive(Clone, Copy)]
@@ -48,6 +57,10 @@ pub(super) enum Ask {
     Rmdir(u32),
     /// RENAME of a name to another.
     Rename(u32, u32),
+    /// MNT of `/data`.
+    Mount,
+    /// LOCK of the file's first byte, alone and at once.
+    Lock,
     /// READDIR from there on, of 8,192 bytes.
     Readdir(Cursor),
     /// READDIRPLUS from there on, of 32,768 bytes, and 8,192 of numbers, names and cookies.
@@ -64,16 +77,26 @@ impl Ask {
         directory: &Handle,
     ) -> Result<Bytes, AllocError> {
         let mut bytes = Vec::new(alloc);
-        add(&mut bytes, &[xid, 0, 2, 100003, 3, self.procedure()])?;
+        let (program, version) = self.program();
+        add(&mut bytes, &[xid, 0, 2, program, version, self.procedure()])?;
         add(&mut bytes, &USER_0)?;
         self.add_arguments(&mut bytes, file, directory)?;
         Ok(Bytes::from_vec(bytes)?)
     }
 
+    /// The program, and its version.
+    fn program(&self) -> (u32, u32) {
+        match self {
+            Ask::Mount => (100005, 3),
+            Ask::Lock => (100021, 4),
+            _ => (100003, 3),
+        }
+    }
+
     fn procedure(&self) -> u32 {
         match self {
-            Ask::Getattr | Ask::GetattrCut => 1,
-            Ask::SetMode(_) => 2,
+            Ask::Getattr | Ask::GetattrCut | Ask::Mount => 1,
+            Ask::SetMode(_) | Ask::Lock => 2,
             Ask::Lookup(_) => 3,
             Ask::Read => 6,
             Ask::Write(_) => 7,
@@ -115,6 +138,13 @@ impl Ask {
             Ask::Rename(from, to) => {
                 add_on(bytes, 32, directory, &[4, *from])?;
                 add_on(bytes, 32, directory, &[4, *to])
+            }
+            Ask::Mount => add(bytes, &PATH),
+            Ask::Lock => {
+                add(bytes, &[0, 0, 1])?;
+                add(bytes, &CALLER)?;
+                add_on(bytes, 32, file, &OWNER)?;
+                add(bytes, &[0, 0, 0, 1, 0, 0])
             }
             Ask::Readdir(cursor) => add_from(bytes, directory, *cursor, &[8192]),
             Ask::Readdirplus(cursor) => add_from(bytes, directory, *cursor, &[8192, 32_768]),

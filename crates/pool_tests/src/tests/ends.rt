@@ -5,7 +5,7 @@ use super::calls::Ask;
 use super::pools::{Course, Runs, in_pool};
 use super::rows::{Row, Rows, Want, X, alone, follow};
 use nfs_engine::{Book, Era};
-use nfs_pool::{Ended, EraRoom, FinishError, Pool, Seat};
+use nfs_pool::{Ended, EraRoom, FinishError, Naming, Pool, Seat};
 use std::alloc::AllocError;
 use std::sync::ledger::Ledger;
 
@@ -25,7 +25,7 @@ pub(super) enum End {
 }
 
 /// Whether the pool ends so, behind so many records.
-pub(super) fn ends_so<L: Ledger, R: Runs>(
+pub(super) fn ends_so<L: Ledger + Naming, R: Runs>(
     rt: &R,
     pool: Pool<L>,
     seats: Vec<Seat<L>>,
@@ -43,7 +43,7 @@ pub(super) fn ends_so<L: Ledger, R: Runs>(
 
 /// Whether the pool ends with the records behind this one, so many, each of which has its receipt; no call is in
 /// progress then.
-fn finishes<L: Ledger, R: Runs>(
+fn finishes<L: Ledger + Naming, R: Runs>(
     rt: &R,
     pool: Pool<L>,
     seats: Vec<Seat<L>>,
@@ -65,7 +65,7 @@ fn finishes<L: Ledger, R: Runs>(
 }
 
 /// Ends the pool, if need be by a second try.
-fn finish<L: Ledger, R: Runs>(
+fn finish<L: Ledger + Naming, R: Runs>(
     rt: &R,
     pool: Pool<L>,
     seats: Vec<Seat<L>>,
@@ -87,7 +87,12 @@ fn is_at_rest(book: &Book, records: u64) -> bool {
 }
 
 /// Whether the pool is stopped with so many records. It has no message: no call of these tests brings one.
-fn stops<L: Ledger, R: Runs>(rt: &R, pool: Pool<L>, seats: Vec<Seat<L>>, records: u64) -> bool {
+fn stops<L: Ledger + Naming, R: Runs>(
+    rt: &R,
+    pool: Pool<L>,
+    seats: Vec<Seat<L>>,
+    records: u64,
+) -> bool {
     drop(seats);
     let silent = is_silent(rt, &pool);
     let book = pool.end();
@@ -96,7 +101,7 @@ fn stops<L: Ledger, R: Runs>(rt: &R, pool: Pool<L>, seats: Vec<Seat<L>>, records
     silent && stopped
 }
 
-fn is_silent<L: Ledger, R: Runs>(rt: &R, pool: &Pool<L>) -> bool {
+fn is_silent<L: Ledger + Naming, R: Runs>(rt: &R, pool: &Pool<L>) -> bool {
     let posted = pool.message(rt);
     let silent = posted.is_none();
     drop(posted);
@@ -104,7 +109,7 @@ fn is_silent<L: Ledger, R: Runs>(rt: &R, pool: &Pool<L>) -> bool {
 }
 
 /// Whether the pool ends with its last seat, and not without.
-fn finishes_with_all<L: Ledger, R: Runs>(
+fn finishes_with_all<L: Ledger + Naming, R: Runs>(
     rt: &R,
     pool: Pool<L>,
     seats: Vec<Seat<L>>,
@@ -122,7 +127,7 @@ fn finishes_with_all<L: Ledger, R: Runs>(
 }
 
 /// What is handed back where a seat is missing; none where it ended, or did not for another reason.
-fn missing<L: Ledger>(
+fn missing<L: Ledger + Naming>(
     ended: Result<(Era, Book), (FinishError, Pool<L>, Vec<Seat<L>>)>,
 ) -> Option<(Pool<L>, Vec<Seat<L>>)> {
     match ended {
@@ -139,7 +144,7 @@ fn missing<L: Ledger>(
 }
 
 /// The seats, and this one.
-fn with_seat<L: Ledger>(seats: Vec<Seat<L>>, seat: Option<Seat<L>>) -> Vec<Seat<L>> {
+fn with_seat<L: Ledger + Naming>(seats: Vec<Seat<L>>, seat: Option<Seat<L>>) -> Vec<Seat<L>> {
     let mut seats = seats;
     if let Some(seat) = seat {
         drop(seats.push(seat));
@@ -148,7 +153,12 @@ fn with_seat<L: Ledger>(seats: Vec<Seat<L>>, seat: Option<Seat<L>>) -> Vec<Seat<
 }
 
 /// Whether the full era ends, and the pool behind the next one.
-fn turns_era<L: Ledger, R: Runs>(rt: &R, pool: Pool<L>, seats: Vec<Seat<L>>, records: u64) -> bool {
+fn turns_era<L: Ledger + Naming, R: Runs>(
+    rt: &R,
+    pool: Pool<L>,
+    seats: Vec<Seat<L>>,
+    records: u64,
+) -> bool {
     let mut pool = pool;
     match turn_era(rt, &mut pool, seats) {
         Ok((era, seats)) => {
@@ -166,7 +176,7 @@ fn turns_era<L: Ledger, R: Runs>(rt: &R, pool: Pool<L>, seats: Vec<Seat<L>>, rec
 }
 
 /// Ends the era, if need be by a second try.
-fn turn_era<L: Ledger, R: Runs>(
+fn turn_era<L: Ledger + Naming, R: Runs>(
     rt: &R,
     pool: &mut Pool<L>,
     seats: Vec<Seat<L>>,
@@ -178,7 +188,12 @@ fn turn_era<L: Ledger, R: Runs>(
 }
 
 /// Whether the second era goes as it has to, behind so many records, the last of which comes again.
-fn goes_on<L: Ledger, R: Runs>(rt: &R, pool: Pool<L>, seats: Vec<Seat<L>>, before: u64) -> bool {
+fn goes_on<L: Ledger + Naming, R: Runs>(
+    rt: &R,
+    pool: Pool<L>,
+    seats: Vec<Seat<L>>,
+    before: u64,
+) -> bool {
     let mut seats = seats;
     let executed = match seats.first_mut() {
         Some(seat) => follow(&mut Caller::new(rt, &pool, seat), SECOND_ERA, before),
@@ -188,7 +203,7 @@ fn goes_on<L: Ledger, R: Runs>(rt: &R, pool: Pool<L>, seats: Vec<Seat<L>>, befor
 }
 
 /// Whether the era and the next one end in one room, and the pool behind them.
-fn leaves_room<L: Ledger, R: Runs>(
+fn leaves_room<L: Ledger + Naming, R: Runs>(
     rt: &R,
     pool: Pool<L>,
     seats: Vec<Seat<L>>,
@@ -203,7 +218,7 @@ fn leaves_room<L: Ledger, R: Runs>(
 }
 
 /// Whether the era and the next one end in one room, and the first one not without it.
-fn end_in_one_room<L: Ledger, R: Runs>(
+fn end_in_one_room<L: Ledger + Naming, R: Runs>(
     rt: &R,
     pool: &mut Pool<L>,
     seats: Vec<Seat<L>>,
@@ -229,7 +244,7 @@ fn end_in_one_room<L: Ledger, R: Runs>(
 }
 
 /// The seats, where the era does not end in a room for none.
-fn stays_without_room<L: Ledger, R: Runs>(
+fn stays_without_room<L: Ledger + Naming, R: Runs>(
     rt: &R,
     pool: &mut Pool<L>,
     seats: Vec<Seat<L>>,
@@ -253,7 +268,7 @@ fn stays_without_room<L: Ledger, R: Runs>(
 }
 
 /// The next seats and the room, where the era ends in it with so many records behind this one.
-fn ends_in<L: Ledger, R: Runs>(
+fn ends_in<L: Ledger + Naming, R: Runs>(
     rt: &R,
     pool: &mut Pool<L>,
     seats: Vec<Seat<L>>,

@@ -6,10 +6,12 @@ use super::ends::End;
 use super::pools::{Course, Part, Runs, in_pool};
 use super::rows::X;
 use nfs_engine::{
-    Admission, Arrival, Finished, Got, Next, Pending, Receipt, Refused, Release, ReserveError, Txn,
+    Admission, Arrival, Finished, Got, Next, Pending, Receipt, Refused, Release, ReserveError,
 };
 use nfs_objects::{Addr, Mode};
-use nfs_pool::{Gate, Open, Pool, Step, Steps, Unadmitted, Uncommitted, run_call};
+use nfs_pool::{
+    Gate, Naming, NotedTxn, Notes, Open, Pool, Step, Steps, Unadmitted, Uncommitted, run_call,
+};
 use std::alloc::{AllocError, Global};
 use std::sync::Wait;
 use std::sync::atomic::{AtomicU64, Ordering};
@@ -139,12 +141,12 @@ impl<'a, R: Runs> Gate for Holding<'a, R> {
 
 /// The steps of a pool, counted.
 #[derive(Drop)]
-struct Counting<'a, L: Ledger> {
+struct Counting<'a, L: Ledger + Naming> {
     pool: &'a Pool<L>,
     meeting: &'a Meeting,
 }
 
-impl<'a, L: Ledger> Steps<L> for Counting<'a, L> {
+impl<'a, L: Ledger + Naming> Steps<L> for Counting<'a, L> {
     fn admit<R: Wait>(
         &self,
         rt: &R,
@@ -159,7 +161,7 @@ impl<'a, L: Ledger> Steps<L> for Counting<'a, L> {
         rt: &R,
         alloc: Global,
         gate: &G,
-        txn: &mut Txn,
+        txn: &mut NotedTxn<L>,
         address: Addr,
         mode: Mode,
     ) -> Result<Got, AllocError> {
@@ -180,7 +182,12 @@ impl<'a, L: Ledger> Steps<L> for Counting<'a, L> {
         self.pool.withdraw(address);
     }
 
-    fn reserve<R: Wait>(&self, rt: &R, txn: &mut Txn, shard: usize) -> Result<bool, ReserveError> {
+    fn reserve<R: Wait>(
+        &self,
+        rt: &R,
+        txn: &mut NotedTxn<L>,
+        shard: usize,
+    ) -> Result<bool, ReserveError> {
         self.pool.reserve(rt, txn, shard)
     }
 
@@ -191,9 +198,10 @@ impl<'a, L: Ledger> Steps<L> for Counting<'a, L> {
         mine: &mut Share<L>,
         last: u64,
         finished: Finished,
+        notes: &Notes<L>,
     ) -> Result<(Receipt, Release), Uncommitted> {
         self.meeting.committed.fetch_add(1, Ordering::SeqCst);
-        self.pool.commit(rt, alloc, mine, last, finished)
+        self.pool.commit(rt, alloc, mine, last, finished, notes)
     }
 
     fn release<R: Wait>(&self, rt: &R, release: Release) -> Next {
@@ -226,7 +234,7 @@ impl HeldUp {
     }
 
     /// Makes the call that is held up.
-    fn call_held<L: Ledger, R: Runs>(&self, caller: &mut Caller<L, R>) -> Told {
+    fn call_held<L: Ledger + Naming, R: Runs>(&self, caller: &mut Caller<L, R>) -> Told {
         let Ok(arrival) = caller.arrival(3, self.ask) else {
             return Told::Refused;
         };
@@ -254,7 +262,7 @@ impl HeldUp {
     }
 
     /// Makes the other call while that one is held up.
-    fn call_free<L: Ledger, R: Runs>(&self, caller: &mut Caller<L, R>) -> Told {
+    fn call_free<L: Ledger + Naming, R: Runs>(&self, caller: &mut Caller<L, R>) -> Told {
         if !comes(caller.rt, &self.meeting.held) {
             return Told::Other;
         }
@@ -265,7 +273,7 @@ impl HeldUp {
 }
 
 impl Part for HeldUp {
-    fn acts<L: Ledger, R: Runs>(&self, caller: &mut Caller<L, R>, number: u32) -> u64 {
+    fn acts<L: Ledger + Naming, R: Runs>(&self, caller: &mut Caller<L, R>, number: u32) -> u64 {
         if number != HELD && number != FREE {
             return 0;
         }
@@ -302,7 +310,7 @@ struct Beside {
 
 impl Beside {
     /// Makes the call that waits.
-    fn call_alone<L: Ledger, R: Runs>(&self, caller: &mut Caller<L, R>) -> Told {
+    fn call_alone<L: Ledger + Naming, R: Runs>(&self, caller: &mut Caller<L, R>) -> Told {
         let meeting = &self.held.meeting;
         if !comes(caller.rt, &meeting.held) {
             return Told::Other;
@@ -320,7 +328,7 @@ impl Beside {
     }
 
     /// Makes the calls that are answered meanwhile. How many of them are.
-    fn call_sharing<L: Ledger, R: Runs>(&self, caller: &mut Caller<L, R>) -> u64 {
+    fn call_sharing<L: Ledger + Naming, R: Runs>(&self, caller: &mut Caller<L, R>) -> u64 {
         let meeting = &self.held.meeting;
         let mut answered = 0u64;
         if comes(caller.rt, &meeting.waits) {
@@ -335,7 +343,7 @@ impl Beside {
 }
 
 impl Part for Beside {
-    fn acts<L: Ledger, R: Runs>(&self, caller: &mut Caller<L, R>, number: u32) -> u64 {
+    fn acts<L: Ledger + Naming, R: Runs>(&self, caller: &mut Caller<L, R>, number: u32) -> u64 {
         if number == FREE {
             return self.call_sharing(caller);
         }

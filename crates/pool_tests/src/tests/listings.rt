@@ -7,6 +7,7 @@ use super::ends::End;
 use super::pages::{Entry, Listing, Words};
 use super::pools::{Course, Part, Runs, in_pool};
 use super::rows::{FOUND, NOENT};
+use nfs_pool::Naming;
 use std::alloc::{AllocError, Global};
 use std::process::Abort;
 use std::sync::ledger::Ledger;
@@ -134,13 +135,17 @@ impl Filled {
     }
 
     /// What is told of a call.
-    fn told<L: Ledger, R: Runs>(&mut self, caller: &mut Caller<L, R>, ask: Ask) -> Told {
+    fn told<L: Ledger + Naming, R: Runs>(&mut self, caller: &mut Caller<L, R>, ask: Ask) -> Told {
         self.calls = self.calls.wrapping_add(1);
         caller.call(self.calls, ask)
     }
 
     /// A call succeeds.
-    fn call<L: Ledger, R: Runs>(&mut self, caller: &mut Caller<L, R>, ask: Ask) -> Option<()> {
+    fn call<L: Ledger + Naming, R: Runs>(
+        &mut self,
+        caller: &mut Caller<L, R>,
+        ask: Ask,
+    ) -> Option<()> {
         (self.told(caller, ask) == OK).then_some(())
     }
 
@@ -161,20 +166,28 @@ impl Filled {
     }
 
     /// A file is made.
-    fn comes<L: Ledger, R: Runs>(&mut self, caller: &mut Caller<L, R>, number: u32) -> Option<()> {
+    fn comes<L: Ledger + Naming, R: Runs>(
+        &mut self,
+        caller: &mut Caller<L, R>,
+        number: u32,
+    ) -> Option<()> {
         self.call(caller, Ask::Create(letters(number)))?;
         self.leads(number, caller.handle(MADE)?)
     }
 
     /// A file is removed.
-    fn goes<L: Ledger, R: Runs>(&mut self, caller: &mut Caller<L, R>, number: u32) -> Option<()> {
+    fn goes<L: Ledger + Naming, R: Runs>(
+        &mut self,
+        caller: &mut Caller<L, R>,
+        number: u32,
+    ) -> Option<()> {
         self.call(caller, Ask::Remove(letters(number)))?;
         self.loses(number)?;
         Some(())
     }
 
     /// A file gets another name, which may be that of a file that goes then.
-    fn moves<L: Ledger, R: Runs>(
+    fn moves<L: Ledger + Naming, R: Runs>(
         &mut self,
         caller: &mut Caller<L, R>,
         from: u32,
@@ -186,7 +199,7 @@ impl Filled {
     }
 
     /// Between two pages a name comes, one goes of those that came first, and one changes of those that came last.
-    fn takes_turn<L: Ledger, R: Runs>(&mut self, caller: &mut Caller<L, R>) -> Option<()> {
+    fn takes_turn<L: Ledger + Naming, R: Runs>(&mut self, caller: &mut Caller<L, R>) -> Option<()> {
         let turn = self.turns;
         self.turns = turn.checked_add(1)?;
         let far = turn.checked_mul(50)?;
@@ -222,7 +235,7 @@ impl Filled {
     }
 
     /// A page from there on.
-    fn takes_page<L: Ledger, R: Runs>(
+    fn takes_page<L: Ledger + Naming, R: Runs>(
         &mut self,
         caller: &mut Caller<L, R>,
         listing: Listing,
@@ -249,7 +262,7 @@ impl Filled {
     }
 
     /// A whole listing, between whose pages others come and go where it is told so.
-    fn lists<L: Ledger, R: Runs>(
+    fn lists<L: Ledger + Naming, R: Runs>(
         &mut self,
         caller: &mut Caller<L, R>,
         listing: Listing,
@@ -270,7 +283,7 @@ impl Filled {
     }
 
     /// The directory is made with all its names.
-    fn fills<L: Ledger, R: Runs>(&mut self, caller: &mut Caller<L, R>) -> Option<()> {
+    fn fills<L: Ledger + Naming, R: Runs>(&mut self, caller: &mut Caller<L, R>) -> Option<()> {
         self.call(caller, Ask::Mkdir(DIRECTORY))?;
         caller.directory = caller.handle(MADE)?;
         self.leads(0, caller.directory)?;
@@ -282,7 +295,7 @@ impl Filled {
     }
 
     /// Of the names that are left every fifth goes, and two of five change, one of them to a name that is there.
-    fn thins<L: Ledger, R: Runs>(&mut self, caller: &mut Caller<L, R>) -> Option<()> {
+    fn thins<L: Ledger + Naming, R: Runs>(&mut self, caller: &mut Caller<L, R>) -> Option<()> {
         for number in FIRST..=LAST {
             if self.handle(number).is_some() {
                 match number % 5 {
@@ -297,7 +310,7 @@ impl Filled {
     }
 
     /// Of the names that came first each is found that is there, and no other.
-    fn finds<L: Ledger, R: Runs>(&mut self, caller: &mut Caller<L, R>) -> Option<()> {
+    fn finds<L: Ledger + Naming, R: Runs>(&mut self, caller: &mut Caller<L, R>) -> Option<()> {
         for number in FIRST..=LAST {
             let told = self.told(caller, Ask::Lookup(letters(number)));
             let is_so = match self.handle(number) {
@@ -312,7 +325,7 @@ impl Filled {
     }
 
     /// All names go, and then the directory.
-    fn empties<L: Ledger, R: Runs>(&mut self, caller: &mut Caller<L, R>) -> Option<()> {
+    fn empties<L: Ledger + Naming, R: Runs>(&mut self, caller: &mut Caller<L, R>) -> Option<()> {
         for number in FIRST..NUMBERS {
             if self.handle(number).is_some() {
                 self.goes(caller, number)?;
@@ -325,7 +338,7 @@ impl Filled {
     }
 
     /// All of it.
-    fn goes_well<L: Ledger, R: Runs>(&mut self, caller: &mut Caller<L, R>) -> Option<()> {
+    fn goes_well<L: Ledger + Naming, R: Runs>(&mut self, caller: &mut Caller<L, R>) -> Option<()> {
         self.fills(caller)?;
         self.lists(caller, Listing::Readdir, true)?;
         self.lists(caller, Listing::Readdirplus, true)?;
@@ -342,7 +355,7 @@ impl Filled {
 struct FillsDirectory;
 
 impl Part for FillsDirectory {
-    fn acts<L: Ledger, R: Runs>(&self, caller: &mut Caller<L, R>, _number: u32) -> u64 {
+    fn acts<L: Ledger + Naming, R: Runs>(&self, caller: &mut Caller<L, R>, _number: u32) -> u64 {
         let Some(mut filled) = Filled::new(caller.rt.alloc()) else {
             return 0;
         };

@@ -7,7 +7,7 @@ use super::ends::{End, ends_so};
 use bytes::Bytes;
 use nfs_engine::{Config, Engine};
 use nfs_machine::{ExportText, Exports, Limits, Moment};
-use nfs_pool::{Pool, Seat};
+use nfs_pool::{Naming, Opened, Pool, Seat};
 use std::alloc::{AllocError, Global};
 use std::marker::Brand;
 use std::process::Abort;
@@ -26,10 +26,10 @@ impl<R: Threads + Wait + Clock + Abort + AllocGlobal> Runs for R {}
 /// What each caller of a pool does, beside the others.
 pub(super) trait Part {
     /// The caller with this number does so. How many of its calls were executed as they have to be.
-    fn acts<L: Ledger, R: Runs>(&self, caller: &mut Caller<L, R>, number: u32) -> u64;
+    fn acts<L: Ledger + Naming, R: Runs>(&self, caller: &mut Caller<L, R>, number: u32) -> u64;
 
     /// The first caller looks at what is left when all have ended: so many calls more.
-    fn looks<L: Ledger, R: Runs>(&self, caller: &mut Caller<L, R>) -> u64 {
+    fn looks<L: Ledger + Naming, R: Runs>(&self, caller: &mut Caller<L, R>) -> u64 {
         let _ = caller;
         0
     }
@@ -69,13 +69,14 @@ fn in_new<R: Runs + Sync, P: Part + Sync>(
 ) -> Result<(u64, bool), AllocError> {
     let engine = opened(rt.alloc(), course.era_records)?;
     let blank = Blank::new(u64::from(course.seats));
-    in_this::<Brand, R, P>(rt, blank, engine, course, part)
+    in_this::<Brand, R, P>(rt, blank, Opened::new(), engine, course, part)
 }
 
 /// The same in the pool of this engine.
-fn in_this<L: Ledger + Send + Sync, R: Runs + Sync, P: Part + Sync>(
+fn in_this<L: Ledger + Naming + Send + Sync, R: Runs + Sync, P: Part + Sync>(
     rt: &R,
     blank: Blank,
+    opened: Opened,
     engine: Engine,
     course: Course,
     part: &P,
@@ -83,9 +84,10 @@ fn in_this<L: Ledger + Send + Sync, R: Runs + Sync, P: Part + Sync>(
     requires name { blank.name ≡ L.name }
     requires parts { blank.parts ≡ L.parts }
     requires count { blank.parts ≡ course.seats }
+    requires log { opened.seen.book ≡ L.book }
     requires records { engine.book.records ≡ [] }
 {
-    match Pool::<L>::new(rt.alloc(), blank, engine, course.seats as usize) {
+    match Pool::<L>::new(rt.alloc(), blank, opened, engine, course.seats as usize) {
         Ok((pool, seats)) => {
             let mut seats = seats;
             let calls = act_beside(rt, part, &pool, &mut seats);
@@ -100,7 +102,7 @@ fn in_this<L: Ledger + Send + Sync, R: Runs + Sync, P: Part + Sync>(
 }
 
 /// The callers do their parts. How many of their calls were executed as they have to be.
-fn act_beside<P: Part + Sync, L: Ledger + Send + Sync, R: Runs + Sync>(
+fn act_beside<P: Part + Sync, L: Ledger + Naming + Send + Sync, R: Runs + Sync>(
     rt: &R,
     part: &P,
     pool: &Pool<L>,

@@ -4,6 +4,7 @@ use super::callers::{Caller, MADE, OK, Told};
 use super::calls::{Ask, Handle};
 use super::ends::End;
 use super::pools::{Course, Part, Runs, in_pool};
+use nfs_pool::Naming;
 use std::alloc::AllocError;
 use std::sync::ledger::Ledger;
 
@@ -49,7 +50,7 @@ pub(super) enum Want {
 pub(super) type Row = (u32, Ask, Want);
 
 /// Whether the last call came to this; it was told so.
-fn is_met<L: Ledger, R: Runs>(caller: &mut Caller<L, R>, told: Told, want: Want) -> bool {
+fn is_met<L: Ledger + Naming, R: Runs>(caller: &mut Caller<L, R>, told: Told, want: Want) -> bool {
     match want {
         Want::Is(wanted) => told == wanted,
         Want::Makes => told == OK && caller.takes_file(),
@@ -69,7 +70,7 @@ fn is_other(handle: Option<Handle>, file: Handle) -> bool {
 }
 
 /// The calls come to what they have to, and their records have the numbers behind this one. How many were executed.
-pub(super) fn follow<L: Ledger, R: Runs>(
+pub(super) fn follow<L: Ledger + Naming, R: Runs>(
     caller: &mut Caller<L, R>,
     rows: &[Row],
     before: u64,
@@ -95,7 +96,7 @@ pub(super) struct Rows<'a> {
 }
 
 impl<'a> Part for Rows<'a> {
-    fn acts<L: Ledger, R: Runs>(&self, caller: &mut Caller<L, R>, number: u32) -> u64 {
+    fn acts<L: Ledger + Naming, R: Runs>(&self, caller: &mut Caller<L, R>, number: u32) -> u64 {
         if number == self.caller {
             follow(caller, self.rows, 0)
         } else {

@@ -8,5 +8,5 @@ use Rattle.pool_tests.proofs.tests.pools.act_beside.Goals as goal
 pub for_each_mut-requires-sync-F : goal.for_each_mut-requires-sync-F
 for_each_mut-requires-sync-F g c κs within =
     let part = c.type_bounds.sync-P in let rt = c.type_bounds.sync-R in
-    let pool = pool_sync (param 1 g.row.L) g.L.Ledger c.type_bounds.send-L c.type_bounds.sync-L in
+    let pool = pool_sync (param 1 g.row.L) g.L.Ledger g.L.Naming c.type_bounds.send-L c.type_bounds.sync-L in
     search (sendable, crosses) depth 20
