@@ -14,6 +14,7 @@ use Rattle.nfs_server.proofs.network.bell.Bell.TheSendSync as bell
 use Rattle.nfs_server.proofs.network.failures.Failures.TheSendSync as failures
 use Rattle.nfs_server.proofs.network.jobs.Job.TheSendSync as job
 use Rattle.nfs_server.proofs.network.line.Line.TheSendSync as line
+use Rattle.nfs_server.proofs.network.mailbox.Mailbox.TheSendSync as mailbox
 use Rattle.nfs_server.specs.contracts.network.clerk.Clerk as Clerk
 use Rattle.nfs_server.specs.contracts.network.listening.Service as Service
 use Rattle.nfs_server.specs.contracts.network.places.Keeper as Keeper
@@ -21,6 +22,7 @@ use Rattle.nfs_server.specs.contracts.network.places.Place as Place
 use Rattle.nfs_server.specs.contracts.network.places.Places as Places
 use Rattle.nfs_server.specs.contracts.network.reading.Reader as Reader
 use Rattle.nfs_server.specs.contracts.network.sending.Sender as Sender
+use Rattle.nfs_server.specs.contracts.network.sorting.Sorter as Sorter
 
 module _ (L : RattleType) (g : Ghosts L.Denot) (s : IsSend L) (y : IsSync L) where
   place_send : IsSend (Place.the_row L g)
@@ -63,7 +65,20 @@ module _ (L : RattleType) (g : Ghosts L.Denot) (s : IsSend L) (y : IsSync L) whe
       declared_send (Sender.the_type L C g) (
         clerk_send C c,
         (
-          search (sendable, crosses, callbacks.the_send) depth 20,
-          (search (sendable, crosses, failures.the_send) depth 20, tt),
+          search (sendable, crosses, callbacks.the_send, callbacks.the_sync) depth 20,
+          (
+            search (sendable, crosses, mailbox.the_send, mailbox.the_sync) depth 20,
+            (search (sendable, crosses, failures.the_send) depth 20, tt),
+          ),
+        ),
+      )
+
+  pub sorter_send : (C : RattleType) → IsSend C → IsSend (Sorter.the_row L C g)
+  sorter_send C c =
+      declared_send (Sorter.the_type L C g) (
+        clerk_send C c,
+        (
+          search (sendable, crosses, callbacks.the_send, callbacks.the_sync) depth 20,
+          (search (sendable, crosses, mailbox.the_send, mailbox.the_sync) depth 20, tt),
         ),
       )

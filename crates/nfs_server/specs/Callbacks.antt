@@ -2,7 +2,7 @@
 use Rattle.std.specs.Prelude.{◌≡◌, ◌≢◌, ◌<◌, ◌+◌, ℕ, List, [], ◌∷◌, ◌++◌, length}
 use Rattle.std.specs.Prelude.{get_or}
 use Rattle.std.specs.Prelude.{Option, reverse}
-use Rattle.std.specs.List.{find}
+use Rattle.std.specs.List.{find, position}
 use Rattle.std.specs.Net.Grammar.{IsSocketText}
 use Rattle.nfs_machine.specs.Bytes.{same_bytes}
 use Rattle.nfs_engine.specs.Hosts.{IsHost}
@@ -49,3 +49,7 @@ RefusesCallbacks texts Memory = Unit {0}
 -- the last callback of a host
 abbrev pub callback_of : List CallbackAddress → List ℕ → Option CallbackAddress
 callback_of callbacks host = find (λ callback. same_bytes callback.host host) (reverse callbacks)
+
+-- how many callbacks stand behind the last one of a host
+abbrev pub behind_host : List CallbackAddress → List ℕ → Option ℕ
+behind_host callbacks host = position (λ callback. same_bytes callback.host host) (reverse callbacks)

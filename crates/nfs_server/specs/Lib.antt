@@ -7,4 +7,5 @@ pub mod Exits
 pub mod ExportTexts
 pub mod Limits
 pub mod PassedOver
+pub mod Queued
 pub mod Started

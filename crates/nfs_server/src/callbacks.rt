@@ -2,7 +2,7 @@
 
 ghost use Rattle.std.specs.Prelude.{◌≡◌, IfErr, IfOk, map};
 ghost use Rattle.std.specs.Option.{MatchOption, option_copied};
-ghost use Rattle.nfs_server.specs.Callbacks.{AreCallbacks, IsCallback, IsNoCallback, RefusesCallbacks, callback_of};
+ghost use Rattle.nfs_server.specs.Callbacks.{AreCallbacks, IsCallback, IsNoCallback, RefusesCallbacks, behind_host, callback_of};
 
 use bytes::Bytes;
 use nfs_engine::Host;
@@ -75,6 +75,16 @@ impl Callbacks {
             }
         }
         Ok(Callbacks { list })
+    }
+
+    /// How many callbacks stand behind the last one of a host, if it has one. It takes no memory.
+    pub fn behind_host(&self, host: &Bytes) -> Option<usize>
+        ensures { result ≡ behind_host self.now.list.items host.now }
+    {
+        self.list
+            .iter()
+            .rev()
+            .position(|callback| callback.host.text() == host)
     }
 
     /// The last callback of a host, if it has one. It takes no memory.

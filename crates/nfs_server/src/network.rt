@@ -10,11 +10,14 @@ mod failures;
 mod jobs;
 mod line;
 mod listening;
+mod mailbox;
 mod messages;
 mod operating;
 mod places;
+mod queue;
 mod reading;
 mod sending;
+mod sorting;
 
 ghost use Rattle.std.specs.Prelude.{◌≡◌, ◌≤◌, []};
 ghost use Rattle.nfs_engine.specs.Opening.{IsLimit};
@@ -30,7 +33,9 @@ pub use crate::network::listening::Sockets;
 use crate::network::listening::{Service, let_in, take_datagrams};
 pub use crate::network::operating::{Nobody, Operator};
 use crate::network::places::{Keeper, Places, hand_out};
+use crate::network::mailbox::Mailbox;
 use crate::network::sending::Sender;
+use crate::network::sorting::Sorter;
 use crate::options::{Network, Options, Transport};
 use crate::started::open;
 use crossbeam_channel::{Receiver, bounded};
@@ -228,7 +233,7 @@ fn serve_pool<
     let (jobs, queue) = bounded(alloc, JOBS)?;
     let service = Service::new(alloc, places, jobs, clock)?;
     start_workers(rt, alloc, &service, queue, network.workers)?;
-    start_sender(rt, alloc, &service, callbacks)?;
+    start_senders(rt, alloc, &service, callbacks)?;
     if network.control {
         start_operator(rt, alloc, &service, operator)?;
     }
@@ -280,8 +285,8 @@ fn start_workers<
     Ok(())
 }
 
-/// Starts the thread that sends messages.
-fn start_sender<
+/// Starts a thread for each callback, which sends the messages to its host, and the thread that hands them on to these.
+fn start_senders<
     L: Ledger + Send + Sync + 'static,
     R: Net<Listener = TcpListener, Stream = TcpStream>
         + Threads
@@ -293,11 +298,47 @@ fn start_sender<
         + Sync
         + 'static,
 >(rt: R, alloc: Global, service: &Service<L>, callbacks: Callbacks) -> Result<(), AllocError> {
-    let failures = Failures::new(alloc, callbacks.list.len())?;
-    let mut sender = Sender {
+    let count = callbacks.list.len();
+    let callbacks = Arc::new(alloc, callbacks)?;
+    let mut mailboxes = Vec::with_capacity(alloc, count)?;
+    for _ in 0..count {
+        let mailbox = Arc::new(alloc, Mailbox::new(alloc)?)?;
+        start_sender(rt, alloc, service, &callbacks, &mailbox)?;
+        mailboxes.push(mailbox)?;
+    }
+    let sorter = Sorter {
         clerk: service.clerk(rt)?,
         callbacks,
-        failures,
+        mailboxes,
+    };
+    thread::spawn(&rt, move || sorter.work(&rt))?;
+    Ok(())
+}
+
+/// Starts the thread that sends the messages to one host.
+fn start_sender<
+    L: Ledger + Send + Sync + 'static,
+    R: Net<Listener = TcpListener, Stream = TcpStream>
+        + Threads
+        + Wait
+        + Clock
+        + Copy
+        + Drop
+        + Send
+        + Sync
+        + 'static,
+>(
+    rt: R,
+    alloc: Global,
+    service: &Service<L>,
+    callbacks: &Arc<Callbacks>,
+    mailbox: &Arc<Mailbox>,
+) -> Result<(), AllocError> {
+    let mut sender = Sender {
+        clerk: service.clerk(rt)?,
+        callbacks: Arc::try_clone(callbacks)?,
+        mailbox: Arc::try_clone(mailbox)?,
+        failures: Failures::new(alloc, 1)?,
     };
     thread::spawn(&rt, move || sender.work(&rt, alloc))?;
     Ok(())

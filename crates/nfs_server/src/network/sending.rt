@@ -1,9 +1,11 @@
-//! The thread that sends messages to hosts, and takes in what they answer to GRANTED (RFC 1813, appendix II).
+//! The threads that send messages, each those to one host, and take in what it answers to GRANTED (RFC 1813, appendix
+//! II).
 
 use crate::callbacks::Callbacks;
 use crate::network::clerk::{Clerk, is_refusal};
 use crate::network::failures::Failures;
 use crate::network::line::read_some;
+use crate::network::mailbox::Mailbox;
 use crate::network::messages::{Letter, addressed, call_of_answer};
 use nfs_engine::{Host, Posted};
 use nfs_rpc::{Record, RecordError, Records};
@@ -12,8 +14,8 @@ use std::alloc::Global;
 use std::io::Write;
 use std::net::{Net, SocketAddr, TcpListener, TcpStream};
 use std::rt::Clock;
-use std::sync::Wait;
 use std::sync::ledger::Ledger;
+use std::sync::{Arc, Wait};
 use std::time::{Duration, Instant};
 use std::{io, thread};
 
@@ -24,7 +26,7 @@ const PATIENCE: u64 = 5;
 /// How many bytes of an answer are read at once. One to GRANTED has some 50.
 const PIECE_SIZE: usize = 4_096;
 
-/// In how many pieces an answer may come, so that no host has the messages behind this one wait for long.
+/// In how many pieces an answer may come, so that the messages behind this one don't wait for long.
 const MOST_PIECES: usize = 4;
 
 /// How often a message is spelled, or an answer taken in, where memory is wanting.
@@ -33,12 +35,14 @@ const TRIES: usize = 20;
 /// How long is waited for memory before the next try, in milliseconds.
 const PAUSE: u64 = 50;
 
-/// What sends messages.
+/// What sends the messages to one host.
 #[derive(Drop)]
 pub(crate) struct Sender<L: Ledger, C> {
     pub(crate) clerk: Clerk<L, C>,
-    pub(crate) callbacks: Callbacks,
-    /// Where hosts are passed over.
+    pub(crate) callbacks: Arc<Callbacks>,
+    /// Where its messages wait.
+    pub(crate) mailbox: Arc<Mailbox>,
+    /// Whether its host is passed over.
     pub(crate) failures: Failures,
 }
 
@@ -50,23 +54,11 @@ impl<L: Ledger, C: Clock> Sender<L, C> {
         alloc: Global,
     ) {
         for _ in rt.forever() {
-            match self.next(rt) {
-                Some(posted) => {
-                    self.send(rt, alloc, &posted);
-                    drop(posted);
-                }
-                None => self.clerk.bell.wait(rt),
-            }
+            let posted = self.mailbox.take(rt);
+            self.send(rt, alloc, &posted);
+            drop(posted);
         }
         unreachable!()
-    }
-
-    /// The oldest message that waits. No place is held while it is sent.
-    fn next<R: Wait>(&self, rt: &R) -> Option<Posted> {
-        let place = self.clerk.places.take(rt);
-        let posted = place.pool.message(rt);
-        self.clerk.places.give(rt, place);
-        posted
     }
 
     /// Sends a message, and takes in what its host answers to GRANTED. A message whose host is not called back, or is

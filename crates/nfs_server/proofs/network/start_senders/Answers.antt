@@ -1,0 +1,14 @@
+-- What hands messages on goes to its own thread.
+use denote.Param.{copied, param}
+use denote.Param.Send.{sendable}
+use Rattle.std.proofs.Crossing.{crosses}
+use Rattle.nfs_server.proofs.Crossing.{sorter_send}
+use Rattle.nfs_server.proofs.network.start_senders.Goals as goal
+
+pub spawn-requires-send-F : goal.spawn-requires-send-F
+spawn-requires-send-F g c κs within =
+    let rt = c.type_bounds.send-R in
+    let sorter =
+    sorter_send (param 0 g.row.L) g.L.Ledger c.type_bounds.send-L c.type_bounds.sync-L (copied 1 g.row.R)
+    c.type_bounds.send-R in
+    search (sendable, crosses) depth 20
