@@ -3,7 +3,8 @@
 
 It starts nfsd on a port of the system's choice, with a host of its own that is called back, which answers the first
 grant with GRANTED, so that the lock is held, and the second with DENIED, so that the lock is given back. Then a host
-is called back behind one whose port is closed, and behind one that never answers, while calls go on.
+is called back behind one whose port is closed, and behind one that never answers, while calls go on; and behind one
+that never answers and sends 100,000 calls whose results it is to be sent: what memory that takes is told.
 
 usage: bench/locks.py [PROGRAM]
 """
@@ -15,6 +16,10 @@ import locking
 import network
 import nfsd
 from locking import IS_BLOCKED, IS_DENIED, IS_GRANTED, status
+
+TEST_MSG = 6
+FLOOD, BATCH = 100_000, 100
+VOID = 28  # the bytes of a reply without results
 
 
 def contends(one, other, handle):
@@ -49,6 +54,33 @@ def waits(one, other, handle, host, number, answered):
     assert held == (answered == IS_GRANTED), "the lock is held just where the host wants it"
     print(f"grant {number}: the lock is", "held" if held else "free")
     other.ask(locking.freeing(10 * number + 3, 2))
+
+
+def asked_for(xid, handle):
+    """TEST_MSG, whose result is a call of the server's own, with a cookie of 1,000 bytes."""
+    cookie = struct.pack(">I", 1000) + bytes(1000)
+    return locking.call(xid, TEST_MSG, cookie + struct.pack(">I", True) + locking.lock(handle, 2, 0, 50))
+
+
+def is_flooded(program, silent):
+    """A host is called back behind one that never answers, and that sends many calls whose results it is to be sent."""
+    host = locking.Host(IS_GRANTED)
+    callbacks = ["--callback", f"127.0.0.1=127.0.0.1:{host.port}", "--callback", f"127.0.0.2=127.0.0.1:{silent}"]
+    with network.Server(program, "--era", "1000", *callbacks) as server:
+        one, other = network.Connection(server.port), network.Connection(server.port, "127.0.0.2")
+        handle = one.make(b"file")
+        assert status(one.ask(locking.locking(1, handle, 1, 0, 100))) == IS_GRANTED
+        assert status(one.ask(locking.locking(2, handle, 3, 0, 100, block=True))) == IS_BLOCKED
+        before = server.resident()
+        for batch in range(FLOOD // BATCH):
+            calls = (asked_for(batch * BATCH + number, handle) for number in range(BATCH))
+            other.answer(b"".join(calls), BATCH * VOID)
+        taken = (server.resident() - before) / 1e6
+        print(f"results of {FLOOD} calls, for a host that never answers: they take {taken:.0f} MB")
+        begin = time.monotonic()
+        assert status(one.ask(locking.unlocking(4, handle, 1, 0, 100))) == IS_GRANTED
+        host.next()
+        print(f"behind them: called back after {time.monotonic() - begin:.2f} s")
 
 
 def goes_on(program, silent, what):
@@ -89,6 +121,7 @@ def main():
     with socket.create_server(("127.0.0.1", 0)) as listener:
         silent = listener.getsockname()[1]
         goes_on(program, silent, "that never answers")
+        is_flooded(program, silent)
     goes_on(program, silent, "whose port is closed")
 
 
