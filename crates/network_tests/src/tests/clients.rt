@@ -1,7 +1,7 @@
 //! What clients do.
 
 use crate::tests::callbacks::is_called_back;
-use crate::tests::hosts::{are_called_back, is_passed_over};
+use crate::tests::hosts::{are_called_back, is_passed_over, is_told_beside};
 use crate::tests::operators::is_operated;
 use std::alloc::{AllocError, Global};
 use std::io;
@@ -47,6 +47,8 @@ pub(super) enum Visit {
     Hosts(TcpListener, TcpListener),
     /// A host that can't be reached here at first, and one that is called back here, wait for bytes of a file.
     PassedOver(SocketAddr, TcpListener),
+    /// The same of two hosts that are called back here, of which the first takes a call and does not answer.
+    Unanswered(TcpListener, TcpListener),
     /// An operator, who takes a connection here, replaces the exports.
     Operated(SocketAddr),
 }
@@ -72,6 +74,7 @@ impl Visit {
             Visit::Called(listener, status) => is_called_back(rt, tcp, &listener, status),
             Visit::Hosts(second, third) => are_called_back(rt, tcp, udp, &second, &third),
             Visit::PassedOver(second, third) => is_passed_over(rt, tcp, udp, second, &third),
+            Visit::Unanswered(second, third) => is_told_beside(rt, tcp, udp, &second, &third),
             Visit::Operated(operator) => is_operated(rt, tcp, operator),
         };
         well.unwrap_or(false)

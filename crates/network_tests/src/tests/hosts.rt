@@ -1,5 +1,5 @@
 //! Hosts that wait for bytes of a file which another has locked: each that is called back is sent what is its own, in
-//! order and once, and one that could not be reached is passed over for a while.
+//! order and once, also while another does not answer, and one that could not be reached is passed over for a while.
 
 use crate::tests::callbacks::{
     GRANTED, LOCK, LockExchange, UNLOCK, around, create, is_answered, is_heard,
@@ -13,7 +13,7 @@ use std::rt::Clock;
 use std::sync::Wait;
 use std::test::Fail;
 use std::thread::Threads;
-use std::time::Duration;
+use std::time::{Duration, Instant};
 use std::{io, thread};
 
 /// A host, by the last number of its address, and the byte for which it waits. The server's call with this number tells
@@ -25,6 +25,12 @@ const REQUESTS: [Request; 6] = [(2, 1), (3, 2), (4, 3), (2, 4), (3, 5), (2, 6)];
 
 /// The same, where the second host can't be reached at first.
 const REQUESTS_UNREACHED: [Request; 4] = [(2, 1), (3, 2), (2, 3), (3, 4)];
+
+/// The same, where the second host does not answer.
+const REQUESTS_UNANSWERED: [Request; 6] = [(2, 1), (2, 2), (3, 3), (2, 4), (3, 5), (3, 6)];
+
+/// In how many seconds a host is told beside one that does not answer, which is waited for five.
+const SOON: u64 = 3;
 
 /// UNLOCK of what stands before byte 3 by c1: GRANTED.
 const UNLOCK_FRONT: LockExchange = (
@@ -216,6 +222,47 @@ fn is_told_alone<R: AllocGlobal + Clock + Net<Listener = TcpListener, Stream = T
     )
 }
 
+/// Whether the third host is told of its own soon, one after the other, where the second one takes a call and does not
+/// answer.
+pub(crate) fn is_told_beside<
+    R: AllocGlobal + Clock + Net<Listener = TcpListener, Stream = TcpStream>,
+>(
+    rt: &R,
+    tcp: SocketAddr,
+    udp: Option<SocketAddr>,
+    second: &TcpListener,
+    third: &TcpListener,
+) -> io::Result<bool> {
+    let Some(udp) = udp else {
+        return Ok(false);
+    };
+    let stream = connect(rt, tcp)?;
+    let file = create(rt.alloc(), &stream)?;
+    Ok(
+        all_wait(rt, udp, &stream, &file, &REQUESTS_UNANSWERED)?
+            && is_answered(rt.alloc(), &stream, &file, UNLOCK)?
+            && is_told_soon(rt, second, third, &file)?,
+    )
+}
+
+/// Whether the third host is told of its own soon, once a call of the second one has come, which gets no answer.
+fn is_told_soon<R: AllocGlobal + Clock>(
+    rt: &R,
+    second: &TcpListener,
+    third: &TcpListener,
+    file: &[u8],
+) -> io::Result<bool> {
+    let unanswered = accepted(rt, second)?;
+    let begin = Instant::now(rt)?;
+    let mut is_well = true;
+    for request in &REQUESTS_UNANSWERED {
+        is_well = is_well && (request.0 == 2 || is_told(rt, third, file, *request)?);
+    }
+    let took = begin.elapsed(rt)?;
+    drop(unanswered);
+    Ok(is_well && is_left_alone(third)? && took < Duration::from_secs(SOON))
+}
+
 /// Whether a server that calls the second host and the third back at these addresses serves this visit well.
 fn is_served_with<
     R: AllocGlobal
@@ -252,6 +299,16 @@ fn each_host_is_told_of_its_own_locks_in_order(rt: HostRuntime) -> Result<(), Fa
     let third = TcpListener::bind(&rt, "127.0.0.1:0")?;
     let (to_second, to_third) = (second.local_addr()?, third.local_addr()?);
     let visit = Visit::Hosts(second, third);
+    assert!(rt; is_served_with(rt, to_second, to_third, visit)?);
+    Ok(())
+}
+
+#[test]
+fn a_host_that_does_not_answer_holds_up_no_other(rt: HostRuntime) -> Result<(), Fail> {
+    let second = TcpListener::bind(&rt, "127.0.0.1:0")?;
+    let third = TcpListener::bind(&rt, "127.0.0.1:0")?;
+    let (to_second, to_third) = (second.local_addr()?, third.local_addr()?);
+    let visit = Visit::Unanswered(second, third);
     assert!(rt; is_served_with(rt, to_second, to_third, visit)?);
     Ok(())
 }
