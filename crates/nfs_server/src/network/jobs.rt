@@ -6,6 +6,7 @@ use nfs_engine::Host;
 use nfs_rpc::Record;
 use nfs_streams::datagram_of;
 use std::alloc::Global;
+use std::io::ErrorKind;
 use std::net::{SocketAddr, UdpSocket};
 use std::rt::Clock;
 use std::sync::ledger::Ledger;
@@ -13,6 +14,9 @@ use std::sync::{Arc, Wait};
 
 /// How many jobs may wait.
 pub(crate) const JOBS: usize = 64;
+
+/// How often a datagram is sent again.
+const TRIES: usize = 100;
 
 /// What a worker is to do: answer a datagram, which is one record without a mark, to who sent it.
 #[derive(Drop)]
@@ -42,11 +46,21 @@ impl<L: Ledger, C: Clock> Clerk<L, C> {
         match self.answer_alone(rt, alloc, &host, record) {
             Ok(answer) => {
                 if let Some(datagram) = datagram_of(answer.bytes()) {
-                    let _ = socket.send_to(datagram, peer);
+                    send(&socket, datagram, peer);
                 }
                 drop(answer);
             }
             Err(_) => self.places.relieve(rt),
+        }
+    }
+}
+
+/// Sends a datagram, or drops it. A send that a signal interrupted is done again.
+fn send(socket: &UdpSocket, datagram: &[u8], peer: SocketAddr) {
+    for _ in 0..TRIES {
+        match socket.send_to(datagram, peer) {
+            Err(error) if error.kind() == ErrorKind::Interrupted => {}
+            _ => return,
         }
     }
 }

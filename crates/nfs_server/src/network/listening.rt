@@ -16,6 +16,7 @@ use nfs_engine::Host;
 use std::alloc::{AllocError, Global};
 use std::net::{IpAddr, Net, SocketAddr, TcpListener, TcpStream, UdpSocket};
 use std::rt::Clock;
+use std::io::ErrorKind;
 use std::sync::ledger::Ledger;
 use std::sync::{Arc, Wait};
 use std::thread::Threads;
@@ -269,6 +270,7 @@ pub(crate) fn take_datagrams<R: Wait + Clock, L: Ledger>(
 }
 
 /// Hands a datagram to the workers.
+            Err(error) if error.kind() == ErrorKind::Interrupted => {}
 fn take<R: Wait, L: Ledger>(
     rt: &R,
     alloc: Global,
