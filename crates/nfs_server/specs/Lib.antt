@@ -8,4 +8,6 @@ pub mod ExportTexts
 pub mod Limits
 pub mod PassedOver
 pub mod Queued
+pub mod Stages
 pub mod Started
+pub mod Waits

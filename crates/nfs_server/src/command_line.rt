@@ -20,6 +20,7 @@ use crate::exit::Exit;
 use crate::exporting::export_text;
 use crate::limits::{Limit, Limits};
 use crate::options::{Network, Options, Transport};
+use crate::patience::Patience;
 use bytes::Bytes;
 use clap::builder::ValueParser;
 use clap::error::ErrorKind;
@@ -411,6 +412,7 @@ fn named_network(
         workers: limits.workers,
         connections: limits.connections,
         accept: matches.get_one("accept").unwrap_or(0),
+        patience: Patience::USUAL,
     })
 }
 

@@ -13,8 +13,10 @@ pub mod controlling;
 pub mod exit;
 mod exporting;
 pub mod limits;
+mod marks;
 pub mod network;
 pub mod options;
+pub mod patience;
 pub mod serving;
 pub mod started;
 pub mod stdio;
@@ -31,6 +33,7 @@ pub use network::{Nobody, Operator, Sockets, serve_network, serve_operated, serv
 pub use nfs_engine::Host;
 pub use nfs_streams::{Served, StreamFault, serve_stream};
 pub use options::{Network, Options, Transport};
+pub use patience::Patience;
 pub use serving::serve;
 pub use started::serve_options;
 pub use stdio::serve_stdio;

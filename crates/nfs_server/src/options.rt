@@ -1,6 +1,7 @@
 //! What the program is asked to serve.
 
 use crate::callbacks::Callbacks;
+use crate::patience::Patience;
 use nfs_engine::Host;
 use nfs_machine::Exports;
 
@@ -51,4 +52,6 @@ pub struct Network {
     pub connections: u64,
     /// After how many connections, which have ended, the server ends; 0: never.
     pub accept: u64,
+    /// How long peers are waited for over connections. No option of the command line gives that.
+    pub patience: Patience,
 }

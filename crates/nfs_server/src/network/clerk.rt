@@ -67,11 +67,11 @@ impl<L: Ledger, C: Clock> Clerk<L, C> {
     /// # Errors
     ///
     /// There was no memory to take a record in or to answer it, or the answers can't be sent.
-    pub(crate) fn answer_all<R: Wait>(
+    pub(crate) fn answer_all<R: Wait + Clock>(
         &mut self,
         rt: &R,
         alloc: Global,
-        line: &Line,
+        line: &mut Line,
         place: Place<L>,
         first: Record,
         connection: &mut Connection,
@@ -91,7 +91,7 @@ impl<L: Ledger, C: Clock> Clerk<L, C> {
             is_refused = is_refused || refused;
         }
         self.places.give(rt, place);
-        line.send(connection)?;
+        line.send(rt, connection)?;
         Ok(is_refused)
     }
 
@@ -101,11 +101,11 @@ impl<L: Ledger, C: Clock> Clerk<L, C> {
     /// # Errors
     ///
     /// As `answer_all`. The place is given back.
-    fn answer_next<R: Wait>(
+    fn answer_next<R: Wait + Clock>(
         &mut self,
         rt: &R,
         alloc: Global,
-        line: &Line,
+        line: &mut Line,
         place: Place<L>,
         record: Record,
         connection: &mut Connection,
@@ -121,12 +121,12 @@ impl<L: Ledger, C: Clock> Clerk<L, C> {
                     return Ok((place, is_refused));
                 }
                 self.places.give(rt, place);
-                line.send(connection)?;
+                line.send(rt, connection)?;
                 Ok((self.places.take(rt), is_refused))
             }
             Err(closed) => {
                 self.places.give(rt, place);
-                line.send(connection)?;
+                line.send(rt, connection)?;
                 Err(closed)
             }
         }

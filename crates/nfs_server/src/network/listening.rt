@@ -10,13 +10,14 @@ use crate::network::line::Line;
 use crate::network::places::Places;
 use crate::network::reading::Reader;
 use crate::options::{Network, Options, Transport};
+use crate::patience::Patience;
 use bytes::Bytes;
 use crossbeam_channel::Sender;
 use nfs_engine::Host;
 use std::alloc::{AllocError, Global};
 use std::net::{IpAddr, Net, SocketAddr, TcpListener, TcpStream, UdpSocket};
-use std::rt::Clock;
 use std::io::ErrorKind;
+use std::rt::Clock;
 use std::sync::ledger::Ledger;
 use std::sync::{Arc, Wait};
 use std::thread::Threads;
@@ -28,13 +29,6 @@ const DATAGRAM_SIZE: usize = 65_536;
 
 /// How long nothing is taken where the system has no room for a connection or a datagram, in milliseconds.
 const PAUSE: u64 = 10;
-
-/// How long a write waits for a peer that reads nothing, in seconds. Where a part was written another wait follows, and
-/// then it fails.
-const PATIENCE: u64 = 15;
-
-/// How long a read waits, in seconds: what a peer that is gone had open is closed then. Clients connect anew.
-const IDLE: u64 = 600;
 
 /// The sockets that listen.
 #[derive(Drop)]
@@ -201,7 +195,16 @@ pub(crate) fn let_in<
             Ok((stream, peer)) => {
                 came = came.saturating_add(1);
                 if attendance.enter(rt, network.connections as usize)
-                    && start(rt, alloc, stream, peer, service, attendance).is_err()
+                    && start(
+                        rt,
+                        alloc,
+                        stream,
+                        peer,
+                        network.patience,
+                        service,
+                        attendance,
+                    )
+                    .is_err()
                 {
                     attendance.leave(rt);
                     service.places.relieve(rt);
@@ -228,12 +231,10 @@ fn start<
     service: &Service<L>,
     attendance: &Arc<Attendance>,
 ) -> io::Result<()> {
-    stream.set_nodelay(true)?;
-    stream.set_write_timeout(Some(Duration::from_secs(PATIENCE)))?;
-    stream.set_read_timeout(Some(Duration::from_secs(IDLE)))?;
+    patience: Patience,
     let host = host_at(alloc, peer.ip())?;
     let mut reader = Reader {
-        line: Line { stream, host },
+        line: Line::new(stream, host, patience)?,
         clerk: service.clerk(*rt)?,
     };
     let attendance = Arc::try_clone(attendance)?;
@@ -269,8 +270,8 @@ pub(crate) fn take_datagrams<R: Wait + Clock, L: Ledger>(
     unreachable!()
 }
 
-/// Hands a datagram to the workers.
             Err(error) if error.kind() == ErrorKind::Interrupted => {}
+/// Hands a datagram to the workers.
 fn take<R: Wait, L: Ledger>(
     rt: &R,
     alloc: Global,

@@ -1,15 +1,18 @@
 //! The thread of a connection: it reads, and answers what it has read.
 
+ghost use Rattle.std.specs.Io.{ReadsAtMost};
 ghost use Rattle.std.specs.Prelude.{◌≡◌, false, length, OnOk};
 
 use crate::network::clerk::{Clerk, Closed};
-use crate::network::line::{Line, read_some};
+use crate::network::line::Line;
+use crate::patience::Watch;
 use nfs_rpc::RecordError;
 use nfs_streams::Connection;
 use std::alloc::{AllocError, Global};
 use std::rt::Clock;
 use std::sync::Wait;
 use std::sync::ledger::Ledger;
+use std::time::Instant;
 
 /// How many bytes are read at once, until so many have come at once.
 const FIRST_SIZE: usize = 16_384;
@@ -26,14 +29,14 @@ pub(crate) struct Reader<L: Ledger, C> {
 
 impl<L: Ledger, C: Clock> Reader<L, C> {
     /// Serves the connection to its end. Where that is for want of memory the era is ended.
-    pub(crate) fn work<R: Wait>(&mut self, rt: &R, alloc: Global) {
+    pub(crate) fn work<R: Wait + Clock>(&mut self, rt: &R, alloc: Global) {
         if let Err(Closed::Memory) = self.read(rt, alloc) {
             self.clerk.places.relieve(rt);
         }
     }
 
     /// Serves the connection to its end.
-    fn read<R: Wait>(&mut self, rt: &R, alloc: Global) -> Result<(), Closed> {
+    fn read<R: Wait + Clock>(&mut self, rt: &R, alloc: Global) -> Result<(), Closed> {
         let mut connection = Connection::new(alloc);
         let served = self.read_pieces(rt, alloc, &mut connection);
         // A call of `drop`, since a drop at the end is proved for each exit.
@@ -41,8 +44,9 @@ impl<L: Ledger, C: Clock> Reader<L, C> {
         served
     }
 
-    /// Reads what comes over the connection and answers it, to its end.
-    fn read_pieces<R: Wait>(
+    /// Reads what comes over the connection and answers it, to its end. The time in which that is answered is the
+    /// server's, and no peer's.
+    fn read_pieces<R: Wait + Clock>(
         &mut self,
         rt: &R,
         alloc: Global,
@@ -51,25 +55,70 @@ impl<L: Ledger, C: Clock> Reader<L, C> {
         requires { connection.old.full ≡ false }
     {
         let mut buffer = Vec::from_elem(alloc, 0u8, FIRST_SIZE)?;
+        let mut now = Instant::now(rt)?;
+        let mut watch = Watch::new(now);
         'pieces: for _ in rt.forever() {
-            let count = read_some(&self.line.stream, buffer.as_mut_slice())?;
+            let count = self.next_piece(rt, &watch, now, buffer.as_mut_slice())?;
             if count == 0 {
                 return Ok(());
             }
-            let taken = connection.take_in(&buffer[..count]);
-            let is_refused = self.answer_piece(rt, alloc, connection)?;
-            match taken {
-                Ok(()) => {}
-                Err(RecordError::TooLarge) => return Err(Closed::Failed),
-                Err(RecordError::Memory) => return Err(Closed::Memory),
-            }
+            let is_refused = self.take_piece(rt, alloc, connection, &buffer[..count])?;
+            now = Instant::now(rt)?;
+            watch.go_on(&buffer[..count], now);
             fit(&mut buffer, count, is_refused)?;
         }
         unreachable!()
     }
 
+    /// Reads the next piece, for which it waits from now on: how many bytes it has, none at the end.
+    ///
+    /// # Errors
+    ///
+    /// What is waited for is overdue, or the connection failed.
+    fn next_piece<R: Wait + Clock>(
+        &mut self,
+        rt: &R,
+        watch: &Watch,
+        now: Instant,
+        buffer: &mut [u8],
+    ) -> Result<usize, Closed>
+        ensures { ReadsAtMost result buffer.new }
+    {
+        let mut now = now;
+        let patience = self.line.patience;
+        'waits: for _ in rt.forever() {
+            let seconds = watch.left(patience, now).ok_or(Closed::Failed)?;
+            // No wait is longer than that for a record: so in most reads the socket's own need not be set.
+            if let Some(count) = self.line.read(seconds.min(patience.record), buffer)? {
+                return Ok(count);
+            }
+            now = Instant::now(rt)?;
+        }
+        unreachable!()
+    }
+
+    /// Takes a piece in, and answers the whole records that have come. Whether a call was refused.
+    fn take_piece<R: Wait + Clock>(
+        &mut self,
+        rt: &R,
+        alloc: Global,
+        connection: &mut Connection,
+        piece: &[u8],
+    ) -> Result<bool, Closed>
+        requires { connection.old.full ≡ false }
+        ensures { connection.new.full ≡ false }
+    {
+        let taken = connection.take_in(piece);
+        let is_refused = self.answer_piece(rt, alloc, connection)?;
+        match taken {
+            Ok(()) => Ok(is_refused),
+            Err(RecordError::TooLarge) => Err(Closed::Failed),
+            Err(RecordError::Memory) => Err(Closed::Memory),
+        }
+    }
+
     /// Answers the whole records that have come. Whether a call was refused.
-    fn answer_piece<R: Wait>(
+    fn answer_piece<R: Wait + Clock>(
         &mut self,
         rt: &R,
         alloc: Global,
@@ -86,7 +135,7 @@ impl<L: Ledger, C: Clock> Reader<L, C> {
             let place = self.clerk.places.take(rt);
             let refused = self
                 .clerk
-                .answer_all(rt, alloc, &self.line, place, first, connection)?;
+                .answer_all(rt, alloc, &mut self.line, place, first, connection)?;
             is_refused = is_refused || refused;
         }
         unreachable!()
