@@ -16,6 +16,7 @@ use Rattle.nfs_server.proofs.network.jobs.Job.TheSendSync as job
 use Rattle.nfs_server.proofs.network.line.Line.TheSendSync as line
 use Rattle.nfs_server.proofs.network.mailbox.Mailbox.TheSendSync as mailbox
 use Rattle.nfs_server.specs.contracts.network.clerk.Clerk as Clerk
+use Rattle.nfs_server.proofs.network.places.Gathering.TheSendSync as gathering
 use Rattle.nfs_server.specs.contracts.network.listening.Service as Service
 use Rattle.nfs_server.specs.contracts.network.places.Keeper as Keeper
 use Rattle.nfs_server.specs.contracts.network.places.Place as Place
@@ -31,10 +32,14 @@ module _ (L : RattleType) (g : Ghosts L.Denot) (s : IsSend L) (y : IsSync L) whe
       search (sendable, crosses, seat.the_send) depth 20
 
   places_send : IsSend (Places.the_row L g)
-  places_send = let place = place_send in search (sendable, crosses, sender.the_send, receiver.the_send) depth 20
+  places_send =
+      let place = place_send in
+      search (sendable, crosses, sender.the_send, receiver.the_send, gathering.the_send, gathering.the_sync) depth 20
 
   pub keeper_send : IsSend (Keeper.the_row L g)
-  keeper_send = let place = place_send in search (sendable, crosses, sender.the_send, receiver.the_send) depth 20
+  keeper_send =
+      let place = place_send in
+      search (sendable, crosses, sender.the_send, receiver.the_send, gathering.the_send, gathering.the_sync) depth 20
 
   pub service_send : IsSend (Service.the_row L g)
   service_send =

@@ -33,7 +33,7 @@ pub use crate::network::listening::Sockets;
 use crate::network::listening::{Service, let_in, take_datagrams};
 use crate::network::mailbox::Mailbox;
 pub use crate::network::operating::{Nobody, Operator};
-use crate::network::places::{Keeper, Places, hand_out};
+use crate::network::places::{Gathering, Keeper, Places, hand_out};
 use crate::network::sending::Sender;
 use crate::network::sorting::Sorter;
 use crate::options::{Network, Options, Transport};
@@ -259,11 +259,13 @@ fn open_places<
     let keeper = Keeper {
         free: free.clone()?,
         back: back.clone()?,
+    let gathering = Arc::new(alloc, Gathering::new())?;
         full: filled,
         count,
     };
     thread::spawn(&rt, move || keeper.work(&rt, alloc, seats, room))?;
-    Ok(Places::new(free, back, full))
+    Ok(Places::new(free, back, full, gathering))
+        gathering: Arc::try_clone(&gathering)?,
 }
 
 /// Starts the workers.

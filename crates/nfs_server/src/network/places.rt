@@ -7,6 +7,7 @@ use crossbeam_channel::{Receiver, Sender};
 use nfs_pool::{Ended, EraRoom, FinishError, Pool, Seat};
 use std::alloc::{AllocError, Global};
 use std::rt::Clock;
+use std::sync::atomic::{AtomicBool, Ordering};
 use std::sync::ledger::Ledger;
 use std::sync::{Arc, Wait};
 use std::thread;
@@ -40,12 +41,40 @@ pub(crate) struct Place<L: Ledger> {
     pub(crate) is_stuck: bool,
 }
 
+/// Whether the keeper gathers all places: what is given back comes to it then.
+#[derive(Drop)]
+pub(crate) struct Gathering {
+    is_on: AtomicBool,
+}
+
+impl Gathering {
+    /// It does not.
+    pub(crate) fn new() -> Gathering {
+        Gathering {
+            is_on: AtomicBool::new(false),
+        }
+    }
+
+    fn begin(&self) {
+        self.is_on.store(true, Ordering::SeqCst);
+    }
+
+    fn end(&self) {
+        self.is_on.store(false, Ordering::SeqCst);
+    }
+
+    fn is_on(&self) -> bool {
+        self.is_on.load(Ordering::SeqCst)
+    }
+}
+
 /// The places that nobody has.
 #[derive(Drop)]
 pub(crate) struct Places<L: Ledger> {
     free: Receiver<Place<L>>,
     back: Sender<Place<L>>,
     full: Sender<Place<L>>,
+    gathering: Arc<Gathering>,
 }
 
 impl<L: Ledger> Places<L> {
@@ -54,8 +83,14 @@ impl<L: Ledger> Places<L> {
         free: Receiver<Place<L>>,
         back: Sender<Place<L>>,
         full: Sender<Place<L>>,
+        gathering: Arc<Gathering>,
     ) -> Places<L> {
-        Places { free, back, full }
+        Places {
+            free,
+            back,
+            full,
+            gathering,
+        }
     }
 
     /// One more owner of the places.
@@ -68,6 +103,7 @@ impl<L: Ledger> Places<L> {
             free: self.free.clone()?,
             back: self.back.clone()?,
             full: self.full.clone()?,
+            gathering: Arc::try_clone(&self.gathering)?,
         })
     }
 
@@ -82,9 +118,13 @@ impl<L: Ledger> Places<L> {
         unreachable!()
     }
 
-    /// Gives a place back.
+    /// Gives a place back: to the keeper, while that gathers all places, and else to whoever takes it.
     pub(crate) fn give<R: Wait>(&self, rt: &R, place: Place<L>) {
-        drop(self.back.send(rt, place));
+        if self.gathering.is_on() {
+            drop(self.full.send(rt, place));
+        } else {
+            drop(self.back.send(rt, place));
+        }
     }
 
     /// Has the era ended, so that what was recorded is let go where memory is wanting.
@@ -93,7 +133,8 @@ impl<L: Ledger> Places<L> {
         self.give(rt, self.turn(rt, place));
     }
 
-    /// Hands a place in, so that the era is ended, and takes one that was handed out after that was tried.
+    /// Hands a place in, so that the era is ended, and takes one that was handed out after that was tried. One that it
+    /// takes before is handed in too, as one may have been given back just before the keeper began to gather them.
     pub(crate) fn turn<R: Wait>(&self, rt: &R, place: Place<L>) -> Place<L> {
         let before = place.turns;
         let mut place = place;
@@ -117,6 +158,7 @@ pub(crate) struct Keeper<L: Ledger> {
     pub(crate) full: Receiver<Place<L>>,
     /// How many places there are.
     pub(crate) count: usize,
+    pub(crate) gathering: Arc<Gathering>,
 }
 
 impl<L: Ledger> Keeper<L> {
@@ -134,12 +176,13 @@ impl<L: Ledger> Keeper<L> {
         let mut room = room;
         let mut compared = Compared::Told;
         for first in self.full.iter(rt) {
+            self.gathering.begin();
             let turns = first.turns.saturating_add(1);
             let Some(pool) = self.gather(rt, first, &mut seats) else {
                 return;
             };
             if compared == Compared::Missing {
-                seats = hand_out(rt, &self.back, pool, seats, turns, true);
+                seats = self.hand_out(rt, pool, seats, turns, true);
             } else {
                 (seats, room, compared) = self.turn(rt, alloc, pool, seats, room, turns);
             }
@@ -186,15 +229,28 @@ impl<L: Ledger> Keeper<L> {
         let mut pool = pool;
         match next_era(alloc, &mut pool, seats, room) {
             Ok((ended, seats)) => {
-                let seats = hand_out(rt, &self.back, pool, seats, turns, false);
+                let seats = self.hand_out(rt, pool, seats, turns, false);
                 let (room, compared) = compare(rt, alloc, ended);
                 (seats, room, compared)
             }
             Err((seats, room)) => {
-                let seats = hand_out(rt, &self.back, pool, seats, turns, true);
+                let seats = self.hand_out(rt, pool, seats, turns, true);
                 (seats, room, Compared::Unknown)
             }
         }
+    }
+
+    /// Hands all places out. Nobody has one before, and so none is given to the keeper any more.
+    fn hand_out<R: Wait>(
+        &self,
+        rt: &R,
+        pool: Arc<Pool<L>>,
+        seats: Vec<Seat<L>>,
+        turns: u64,
+        is_stuck: bool,
+    ) -> Vec<Seat<L>> {
+        self.gathering.end();
+        hand_out(rt, &self.back, pool, seats, turns, is_stuck)
     }
 }
 
