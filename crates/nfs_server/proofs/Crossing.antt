@@ -9,14 +9,15 @@ use Rattle.crossbeam_channel.proofs.channel.Sender.TheSendSync as sender
 use Rattle.nfs_pool.proofs.Crossing.{pool_send, pool_sync}
 use Rattle.nfs_pool.proofs.seat.Seat.TheSendSync as seat
 use Rattle.nfs_server.proofs.callbacks.Callbacks.TheSendSync as callbacks
+use Rattle.nfs_server.proofs.clock.Latest.TheSendSync as latest
 use Rattle.nfs_server.proofs.clock.ServerClock.TheSendSync as clock
 use Rattle.nfs_server.proofs.network.bell.Bell.TheSendSync as bell
 use Rattle.nfs_server.proofs.network.failures.Failures.TheSendSync as failures
 use Rattle.nfs_server.proofs.network.jobs.Job.TheSendSync as job
 use Rattle.nfs_server.proofs.network.line.Line.TheSendSync as line
 use Rattle.nfs_server.proofs.network.mailbox.Mailbox.TheSendSync as mailbox
-use Rattle.nfs_server.specs.contracts.network.clerk.Clerk as Clerk
 use Rattle.nfs_server.proofs.network.places.Gathering.TheSendSync as gathering
+use Rattle.nfs_server.specs.contracts.network.clerk.Clerk as Clerk
 use Rattle.nfs_server.specs.contracts.network.listening.Service as Service
 use Rattle.nfs_server.specs.contracts.network.places.Keeper as Keeper
 use Rattle.nfs_server.specs.contracts.network.places.Place as Place
@@ -47,7 +48,13 @@ module _ (L : RattleType) (g : Ghosts L.Denot) (s : IsSend L) (y : IsSync L) whe
         places_send,
         (
           search (sendable, crosses, sender.the_send, job.the_send) depth 20,
-          (search (sendable, crosses, bell.the_send, bell.the_sync) depth 20, (search sendable depth 20, tt)),
+          (
+            search (sendable, crosses, bell.the_send, bell.the_sync) depth 20,
+            (
+              search sendable depth 20,
+              (search (sendable, crosses, latest.the_send, latest.the_sync) depth 20, tt),
+            ),
+          ),
         ),
       )
 

@@ -43,3 +43,17 @@ IsMomentAfter None last moment = moment ≡ last
 IsMomentAfter (Some since) last moment =
     (as_nanos since < 2 ^ 32 * 1000000000 → moment.seconds * 1000000000 + moment.nanoseconds ≡ as_nanos since)
     × (2 ^ 32 * 1000000000 ≤ as_nanos since → moment ≡ last)
+
+-- a moment as a number, which rises with it
+abbrev pub word_of : Moment → ℕ
+word_of moment = moment.seconds * 2 ^ 32 + moment.nanoseconds
+
+abbrev pub IsNotBefore : (earlier later : Moment) → Type 0
+IsNotBefore earlier later = word_of earlier ≤ word_of later
+
+-- the next moment of the machine's clock is not before the one that the machine tells, and not before the last one
+pub record GoesOn (since : Option Duration) (last moment : Moment) : Type 0 where
+  pub told : Moment
+  pub is_told : IsMomentAfter since last told
+  pub behind_told : IsNotBefore told moment
+  pub behind_last : IsNotBefore last moment

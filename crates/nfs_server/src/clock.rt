@@ -1,12 +1,16 @@
 //! The clocks of the server: one that stands still, and the machine's.
 
-ghost use Rattle.std.specs.Prelude.{◌≡◌, ◌+◌, ◌*◌, ◌^◌, ◌<◌, ◌↔◌, IsSome, IfSome};
+ghost use Rattle.std.specs.Prelude.{◌≡◌, ◌+◌, ◌*◌, ◌^◌, ◌<◌, ◌↔◌, IsSome, IfOk, IfSome};
+ghost use Rattle.nfs_machine.specs.declared.moment.Moment.{Moment};
 ghost use Rattle.std.specs.Duration.{as_nanos};
 ghost use Rattle.std.specs.Time.{system_time_nanos};
-ghost use Rattle.nfs_server.specs.Clocks.{IsMomentAfter, number_after, number_of};
+ghost use Rattle.nfs_server.specs.Clocks.{GoesOn, IsMomentAfter, IsNotBefore, number_after, number_of, word_of};
 
 use nfs_machine::{Moment, Moments};
+use std::alloc::AllocError;
 use std::rt::Clock;
+use std::sync::Arc;
+use std::sync::atomic::{AtomicU64, Ordering};
 use std::time::{Duration, SystemTime, UNIX_EPOCH};
 
 /// A clock that stands still: every moment is the beginning of one second.
@@ -29,12 +33,39 @@ impl Moments for FixedClock {
     }
 }
 
-/// The machine's clock. Where it can't be read, or its time is no moment, it gives the last moment again.
+/// The latest moment that the clocks of a server gave, which none of them goes behind.
+#[derive(Drop)]
+pub struct Latest {
+    /// Its seconds, and behind them its nanoseconds in 32 bits.
+    word: AtomicU64,
+}
+
+impl Latest {
+    /// This moment was given.
+    pub fn new(moment: Moment) -> Latest {
+        Latest {
+            word: AtomicU64::new(word_of(moment)),
+        }
+    }
+
+    /// A moment, or the latest one that was given, where that is later. It is the latest one then.
+    pub fn reached(&self, moment: Moment) -> Moment
+        ensures { IsNotBefore moment result }
+    {
+        let before = self.word.fetch_max(word_of(moment), Ordering::SeqCst);
+        later(moment, before)
+    }
+}
+
+/// The machine's clock. Where it can't be read, or its time is no moment, or one before the last moment given, it gives
+/// that again.
 #[derive(Drop)]
 pub struct MachineClock<C> {
     clock: C,
     /// The last moment given.
     pub last: Moment,
+    /// The latest moment given by the clocks of the same server, where there are others.
+    latest: Option<Arc<Latest>>,
 }
 
 impl<C> MachineClock<C> {
@@ -48,17 +79,20 @@ impl<C> MachineClock<C> {
                 seconds: 0,
                 nanoseconds: 0,
             },
+            latest: None,
         }
     }
 
-    // The next moment, so long after 1970 began as the machine says: the last one again where that is not known, or
-    // is no moment.
+    // The next moment, so long after 1970 began as the machine says: the last one again where that is not known, or is
+    // no moment. It is never before the last one.
     fn goes_on(&mut self, since_1970: Option<Duration>) -> Moment
-        ensures moment { IsMomentAfter since_1970 self.old.last result }
+        ensures moment { GoesOn since_1970 self.old.last result }
         ensures last { self.new.last ≡ result }
         ensures clock { self.new.clock ≡ self.old.clock }
     {
-        self.last = moment_after(since_1970, self.last);
+        let told = moment_after(since_1970, self.last);
+        let moment = later(told, word_of(self.last));
+        self.last = reached(&self.latest, moment);
         self.last
     }
 }
@@ -97,6 +131,27 @@ impl<C> ServerClock<C> {
             None => ServerClock::Machine(MachineClock::new(clock)),
         }
     }
+
+    /// The same, where the moments of the machine's clock go behind none that a clock of the same server gave.
+    ///
+    /// # Errors
+    ///
+    /// The latest moment has too many owners.
+    pub fn beside(
+        clock: C,
+        seconds: Option<u32>,
+        latest: &Arc<Latest>,
+    ) -> Result<ServerClock<C>, AllocError>
+    where
+        C: Drop,
+        ensures { IfOk result (IsClockOf seconds) }
+    {
+        let mut clock = ServerClock::new(clock, seconds);
+        if let ServerClock::Machine(machine) = &mut clock {
+            machine.latest = Some(Arc::try_clone(latest)?);
+        }
+        Ok(clock)
+    }
 }
 
 impl<C: Clock> Moments for ServerClock<C> {
@@ -130,6 +185,35 @@ fn time_since_1970(now: SystemTime) -> Duration
         unreachable!()
     };
     since
+}
+
+// A moment as a word: that of a later one is greater.
+fn word_of(moment: Moment) -> u64
+    ensures { result ≡ word_of moment }
+{
+    u64::from(moment.seconds) * (1 << 32) + u64::from(moment.nanoseconds)
+}
+
+// A moment, or that which is this word, where that is later.
+fn later(moment: Moment, word: u64) -> Moment
+    ensures own { IsNotBefore moment result }
+    ensures other { (last : Moment) → word ≡ word_of last → IsNotBefore last result }
+{
+    if word <= word_of(moment) {
+        return moment;
+    }
+    let (seconds, nanoseconds) = (word / (1 << 32), word % (1 << 32));
+    Moment::new(seconds as u32, nanoseconds as u32).unwrap_or(moment)
+}
+
+// A moment, or the latest one that was given, where that is later.
+fn reached(latest: &Option<Arc<Latest>>, moment: Moment) -> Moment
+    ensures { IsNotBefore moment result }
+{
+    match latest {
+        Some(latest) => latest.reached(moment),
+        None => moment,
+    }
 }
 
 // The moment that is so long after 1970 began; the last one again where that is not known, or no moment.

@@ -23,7 +23,7 @@ pub mod stdio;
 pub mod warnings;
 
 pub use callbacks::{CallbackAddress, CallbackError, Callbacks};
-pub use clock::{FixedClock, MachineClock, ServerClock, start_number};
+pub use clock::{FixedClock, Latest, MachineClock, ServerClock, start_number};
 pub use command_line::{arguments, configure};
 pub use commands::{Commands, Taken};
 pub use controlling::{Applied, control};

@@ -40,7 +40,7 @@ use crate::options::{Network, Options, Transport};
 use crate::started::open;
 use crossbeam_channel::{Receiver, bounded};
 use nfs_engine::{Config, Engine};
-use nfs_machine::{Limits, Moments};
+use nfs_machine::{Limits, Moment, Moments};
 use nfs_pool::{EraRoom, Pool, Seat};
 use std::alloc::{AllocError, Global};
 use std::marker::Brand;
@@ -179,6 +179,7 @@ fn serve_from<
     requires workers { network.now.workers ≤ 64 }
 {
     let alloc = rt.alloc();
+    let begin = config.moment;
     let engine = open(alloc, config)?;
     let count = network.workers + network.connections.min(OWN_PLACES);
     let blank = Blank::new(count);
@@ -191,6 +192,7 @@ fn serve_from<
         sockets,
         network,
         clock,
+        begin,
         callbacks,
         operator,
     )
@@ -218,6 +220,7 @@ fn serve_pool<
     sockets: Sockets,
     network: &Network,
     clock: Option<u32>,
+    begin: Moment,
     callbacks: Callbacks,
     operator: O,
 ) -> Result<(), Exit>
@@ -231,7 +234,7 @@ fn serve_pool<
     };
     let places = open_places(rt, alloc, pool, seats, count)?;
     let (jobs, queue) = bounded(alloc, JOBS)?;
-    let service = Service::new(alloc, places, jobs, clock)?;
+    let service = Service::new(alloc, places, jobs, clock, begin)?;
     start_workers(rt, alloc, &service, queue, network.workers)?;
     start_senders(rt, alloc, &service, callbacks)?;
     if network.control {
@@ -256,16 +259,16 @@ fn open_places<
     let room = EraRoom::new(alloc, count)?;
     let pool = Arc::new(alloc, pool)?;
     let seats = hand_out(&rt, &back, pool, seats, 0, false);
+    let gathering = Arc::new(alloc, Gathering::new())?;
     let keeper = Keeper {
         free: free.clone()?,
         back: back.clone()?,
-    let gathering = Arc::new(alloc, Gathering::new())?;
         full: filled,
         count,
+        gathering: Arc::try_clone(&gathering)?,
     };
     thread::spawn(&rt, move || keeper.work(&rt, alloc, seats, room))?;
     Ok(Places::new(free, back, full, gathering))
-        gathering: Arc::try_clone(&gathering)?,
 }
 
 /// Starts the workers.

@@ -1,6 +1,6 @@
 //! Sockets that listen, and who comes.
 
-use crate::clock::ServerClock;
+use crate::clock::{Latest, ServerClock};
 use crate::exit::Exit;
 use crate::network::attendance::Attendance;
 use crate::network::bell::Bell;
@@ -14,9 +14,10 @@ use crate::patience::Patience;
 use bytes::Bytes;
 use crossbeam_channel::Sender;
 use nfs_engine::Host;
+use nfs_machine::Moment;
 use std::alloc::{AllocError, Global};
-use std::net::{IpAddr, Net, SocketAddr, TcpListener, TcpStream, UdpSocket};
 use std::io::ErrorKind;
+use std::net::{IpAddr, Net, SocketAddr, TcpListener, TcpStream, UdpSocket};
 use std::rt::Clock;
 use std::sync::ledger::Ledger;
 use std::sync::{Arc, Wait};
@@ -138,21 +139,25 @@ pub(crate) struct Service<L: Ledger> {
     pub(crate) bell: Arc<Bell>,
     /// The second at which every moment is, if any.
     pub(crate) clock: Option<u32>,
+    /// The latest moment that was given.
+    pub(crate) latest: Arc<Latest>,
 }
 
 impl<L: Ledger> Service<L> {
-    /// These places and jobs, and a bell that is not rung.
+    /// These places and jobs, and a bell that is not rung. The server began at this moment.
     pub(crate) fn new(
         alloc: Global,
         places: Places<L>,
         jobs: Sender<Job>,
         clock: Option<u32>,
+        begin: Moment,
     ) -> Result<Service<L>, AllocError> {
         Ok(Service {
             places,
             jobs,
             bell: Arc::new(alloc, Bell::new())?,
             clock,
+            latest: Arc::new(alloc, Latest::new(begin))?,
         })
     }
 
@@ -163,6 +168,7 @@ impl<L: Ledger> Service<L> {
             jobs: self.jobs.clone()?,
             bell: Arc::try_clone(&self.bell)?,
             clock: self.clock,
+            latest: Arc::try_clone(&self.latest)?,
         })
     }
 
@@ -171,7 +177,7 @@ impl<L: Ledger> Service<L> {
         Ok(Clerk {
             places: self.places.share()?,
             bell: Arc::try_clone(&self.bell)?,
-            clock: ServerClock::new(clock, self.clock),
+            clock: ServerClock::beside(clock, self.clock, &self.latest)?,
         })
     }
 }
@@ -228,10 +234,10 @@ fn start<
     alloc: Global,
     stream: TcpStream,
     peer: SocketAddr,
+    patience: Patience,
     service: &Service<L>,
     attendance: &Arc<Attendance>,
 ) -> io::Result<()> {
-    patience: Patience,
     let host = host_at(alloc, peer.ip())?;
     let mut reader = Reader {
         line: Line::new(stream, host, patience)?,
@@ -264,13 +270,13 @@ pub(crate) fn take_datagrams<R: Wait + Clock, L: Ledger>(
                     service.places.relieve(rt);
                 }
             }
+            Err(error) if error.kind() == ErrorKind::Interrupted => {}
             Err(_) => thread::sleep(rt, Duration::from_millis(PAUSE)),
         }
     }
     unreachable!()
 }
 
-            Err(error) if error.kind() == ErrorKind::Interrupted => {}
 /// Hands a datagram to the workers.
 fn take<R: Wait, L: Ledger>(
     rt: &R,
