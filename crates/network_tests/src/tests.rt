@@ -12,9 +12,10 @@ mod eras;
 mod hosts;
 mod operators;
 mod sockets;
+mod waits;
 
 use crate::tests::clients::Visit;
-use nfs_server::{Options, Sockets, configure, serve_sockets};
+use nfs_server::{Options, Patience, Sockets, Transport, configure, serve_sockets};
 use std::alloc::{AllocError, Global};
 use std::net::{Net, TcpListener, TcpStream};
 use std::rt::Clock;
@@ -60,8 +61,19 @@ fn options(alloc: Global, more: &[&str]) -> Result<Options, Fail>
     }
 }
 
-/// Serves a client on sockets of the system's choice, until so many connections have come and ended as the words say.
-/// Whether all went as it should.
+/// These options, where peers are waited for so long.
+fn with_patience(options: Options, patience: Patience) -> Options
+    requires { AreWithin options }
+    ensures { AreWithin result }
+{
+    let mut options = options;
+    if let Transport::Network(network) = &mut options.transport {
+        network.patience = patience;
+    }
+    options
+}
+
+/// As `is_served_within`, where peers are waited for as ever.
 fn is_served<
     R: AllocGlobal
         + Net<Listener = TcpListener, Stream = TcpStream>
@@ -74,7 +86,24 @@ fn is_served<
         + Sync
         + 'static,
 >(rt: R, more: &[&str], visit: Visit) -> Result<bool, Fail> {
-    let options = options(rt.alloc(), more)?;
+    is_served_within(rt, more, Patience::USUAL, visit)
+}
+
+/// Serves a client on sockets of the system's choice, until so many connections have come and ended as the words say.
+/// Peers are waited for so long. Whether all went as it should.
+fn is_served_within<
+    R: AllocGlobal
+        + Net<Listener = TcpListener, Stream = TcpStream>
+        + Threads
+        + Wait
+        + Clock
+        + Copy
+        + Drop
+        + Send
+        + Sync
+        + 'static,
+>(rt: R, more: &[&str], patience: Patience, visit: Visit) -> Result<bool, Fail> {
+    let options = with_patience(options(rt.alloc(), more)?, patience);
     match Sockets::bind(&rt, rt.alloc(), &options) {
         Ok(sockets) => Ok(serve_beside(rt, options, sockets, visit)),
         Err(exit) => {

@@ -3,6 +3,7 @@
 use crate::tests::callbacks::is_called_back;
 use crate::tests::hosts::{are_called_back, is_passed_over, is_told_beside};
 use crate::tests::operators::is_operated;
+use crate::tests::waits::are_given_up;
 use std::alloc::{AllocError, Global};
 use std::io;
 use std::io::{Read, Write};
@@ -40,6 +41,8 @@ pub(super) enum Visit {
     Closed(Exchange, &'static [u32]),
     /// The same, where the client ends what it sends behind these words.
     Ended(Exchange, &'static [u32]),
+    /// A connection with this exchange, two beside it over which no whole record comes, and the exchange again.
+    Slow(Exchange),
     /// A lock that is given back while another caller waits for it; that one is called back here, and answers with this
     /// status.
     Called(TcpListener, u32),
@@ -71,6 +74,7 @@ impl Visit {
             Visit::Refused(exchange) => open_beside(rt, tcp, exchange, &[], false),
             Visit::Closed(exchange, words) => open_beside(rt, tcp, exchange, words, false),
             Visit::Ended(exchange, words) => open_beside(rt, tcp, exchange, words, true),
+            Visit::Slow(exchange) => are_given_up(rt, tcp, exchange),
             Visit::Called(listener, status) => is_called_back(rt, tcp, &listener, status),
             Visit::Hosts(second, third) => are_called_back(rt, tcp, udp, &second, &third),
             Visit::PassedOver(second, third) => is_passed_over(rt, tcp, udp, second, &third),

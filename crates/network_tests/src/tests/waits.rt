@@ -1,0 +1,76 @@
+//! Peers that are not waited for any longer: one that sends nothing, and one that does not come to a record's end.
+
+use crate::tests::answers::NULL;
+use crate::tests::clients::{Exchange, Visit, connect, exchange, send};
+use crate::tests::is_served_within;
+use nfs_server::Patience;
+use std::io;
+use std::io::{ErrorKind, Read, Write};
+use std::net::{Net, SocketAddr, TcpListener, TcpStream};
+use std::process::Abort;
+use std::test::Fail;
+use std::time::Duration;
+
+/// A record is waited for a second.
+const HASTE: Patience = Patience {
+    record: 1,
+    idle: 600,
+    answers: 30,
+};
+
+/// The header of a record of 4,096 bytes.
+const BEGUN: [u32; 1] = [0x80001000];
+
+/// How often a peer looks whether its connection is closed, a tenth of a second each time, at most, and at least.
+const MOST_LOOKS: usize = 60;
+
+const FEWEST_LOOKS: usize = 3;
+
+const THREE: [&str; 4] = ["--tcp", "127.0.0.1:0", "--accept", "3"];
+
+/// Whether a connection is closed, or is before a read of it has waited long enough.
+fn is_closed(stream: &TcpStream) -> bool {
+    let mut stream = stream;
+    let mut byte = [0u8; 1];
+    match stream.read(&mut byte) {
+        Ok(count) => count == 0,
+        Err(error) => error.kind() != ErrorKind::WouldBlock,
+    }
+}
+
+/// Sends a byte of a record now and then, until the connection is closed. How often it was looked at.
+fn trickle(stream: &TcpStream) -> io::Result<usize> {
+    stream.set_read_timeout(Some(Duration::from_millis(100)))?;
+    let mut writer = stream;
+    for looks in 0..MOST_LOOKS {
+        if is_closed(stream) {
+            return Ok(looks);
+        }
+        let _ = writer.write(&[0]);
+    }
+    Ok(MOST_LOOKS)
+}
+
+/// Whether a connection over which nothing comes is closed, and so is one over which a record begins behind a whole one
+/// and does not end, however it goes on; and not one over which whole ones came alone.
+pub(crate) fn are_given_up<R: AllocGlobal + Net<Listener = TcpListener, Stream = TcpStream>>(
+    rt: &R,
+    tcp: SocketAddr,
+    each: Exchange,
+) -> io::Result<bool> {
+    let alloc = rt.alloc();
+    let idle = connect(rt, tcp)?;
+    let slow = connect(rt, tcp)?;
+    let silent = connect(rt, tcp)?;
+    let before = exchange(alloc, &idle, each)? && exchange(alloc, &slow, each)?;
+    send(alloc, &slow, &BEGUN)?;
+    let looks = trickle(&slow)?;
+    let given_up = FEWEST_LOOKS <= looks && looks < MOST_LOOKS && is_closed(&silent);
+    Ok(before && given_up && exchange(alloc, &idle, each)?)
+}
+
+#[test]
+fn peers_that_send_no_whole_record(rt: HostRuntime) -> Result<(), Fail> {
+    assert!(rt; is_served_within(rt, &THREE, HASTE, Visit::Slow(NULL))?);
+    Ok(())
+}
