@@ -8,6 +8,7 @@ use Rattle.crossbeam_channel.proofs.channel.Receiver.TheSendSync as receiver
 use Rattle.crossbeam_channel.proofs.channel.Sender.TheSendSync as sender
 use Rattle.nfs_pool.proofs.Crossing.{pool_send, pool_sync}
 use Rattle.nfs_pool.proofs.seat.Seat.TheSendSync as seat
+use Rattle.nfs_stamps.specs.declared.log.Naming as naming
 use Rattle.nfs_server.proofs.callbacks.Callbacks.TheSendSync as callbacks
 use Rattle.nfs_server.proofs.clock.Latest.TheSendSync as latest
 use Rattle.nfs_server.proofs.clock.ServerClock.TheSendSync as clock
@@ -26,25 +27,25 @@ use Rattle.nfs_server.specs.contracts.network.reading.Reader as Reader
 use Rattle.nfs_server.specs.contracts.network.sending.Sender as Sender
 use Rattle.nfs_server.specs.contracts.network.sorting.Sorter as Sorter
 
-module _ (L : RattleType) (g : Ghosts L.Denot) (s : IsSend L) (y : IsSync L) where
-  place_send : IsSend (Place.the_row L g)
+module _ (L : RattleType) (g : Ghosts L.Denot) (n : naming.Ghosts L.Denot) (s : IsSend L) (y : IsSync L) where
+  place_send : IsSend (Place.the_row L g n)
   place_send =
-      let sends = pool_send L g s y in let syncs = pool_sync L g s y in
+      let sends = pool_send L g n s y in let syncs = pool_sync L g n s y in
       search (sendable, crosses, seat.the_send) depth 20
 
-  places_send : IsSend (Places.the_row L g)
+  places_send : IsSend (Places.the_row L g n)
   places_send =
       let place = place_send in
       search (sendable, crosses, sender.the_send, receiver.the_send, gathering.the_send, gathering.the_sync) depth 20
 
-  pub keeper_send : IsSend (Keeper.the_row L g)
+  pub keeper_send : IsSend (Keeper.the_row L g n)
   keeper_send =
       let place = place_send in
       search (sendable, crosses, sender.the_send, receiver.the_send, gathering.the_send, gathering.the_sync) depth 20
 
-  pub service_send : IsSend (Service.the_row L g)
+  pub service_send : IsSend (Service.the_row L g n)
   service_send =
-      declared_send (Service.the_type L g) (
+      declared_send (Service.the_type L g n) (
         places_send,
         (
           search (sendable, crosses, sender.the_send, job.the_send) depth 20,
@@ -58,9 +59,9 @@ module _ (L : RattleType) (g : Ghosts L.Denot) (s : IsSend L) (y : IsSync L) whe
         ),
       )
 
-  pub clerk_send : (C : RattleType) → IsSend C → IsSend (Clerk.the_row L C g)
+  pub clerk_send : (C : RattleType) → IsSend C → IsSend (Clerk.the_row L C g n)
   clerk_send C c =
-      declared_send (Clerk.the_type L C g) (
+      declared_send (Clerk.the_type L C g n) (
         places_send,
         (
           search (sendable, crosses, bell.the_send, bell.the_sync) depth 20,
@@ -68,13 +69,13 @@ module _ (L : RattleType) (g : Ghosts L.Denot) (s : IsSend L) (y : IsSync L) whe
         ),
       )
 
-  pub reader_send : (C : RattleType) → IsSend C → IsSend (Reader.the_row L C g)
+  pub reader_send : (C : RattleType) → IsSend C → IsSend (Reader.the_row L C g n)
   reader_send C c =
-      declared_send (Reader.the_type L C g) (search (sendable, crosses, line.the_send) depth 20, (clerk_send C c, tt))
+      declared_send (Reader.the_type L C g n) (search (sendable, crosses, line.the_send) depth 20, (clerk_send C c, tt))
 
-  pub sender_send : (C : RattleType) → IsSend C → IsSend (Sender.the_row L C g)
+  pub sender_send : (C : RattleType) → IsSend C → IsSend (Sender.the_row L C g n)
   sender_send C c =
-      declared_send (Sender.the_type L C g) (
+      declared_send (Sender.the_type L C g n) (
         clerk_send C c,
         (
           search (sendable, crosses, callbacks.the_send, callbacks.the_sync) depth 20,
@@ -85,9 +86,9 @@ module _ (L : RattleType) (g : Ghosts L.Denot) (s : IsSend L) (y : IsSync L) whe
         ),
       )
 
-  pub sorter_send : (C : RattleType) → IsSend C → IsSend (Sorter.the_row L C g)
+  pub sorter_send : (C : RattleType) → IsSend C → IsSend (Sorter.the_row L C g n)
   sorter_send C c =
-      declared_send (Sorter.the_type L C g) (
+      declared_send (Sorter.the_type L C g n) (
         clerk_send C c,
         (
           search (sendable, crosses, callbacks.the_send, callbacks.the_sync) depth 20,

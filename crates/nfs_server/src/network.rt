@@ -41,7 +41,7 @@ use crate::started::open;
 use crossbeam_channel::{Receiver, bounded};
 use nfs_engine::{Config, Engine};
 use nfs_machine::{Limits, Moment, Moments};
-use nfs_pool::{EraRoom, Pool, Seat};
+use nfs_pool::{EraRoom, Naming, Opened, Pool, Seat};
 use std::alloc::{AllocError, Global};
 use std::marker::Brand;
 use std::net::{Net, TcpListener, TcpStream, UdpSocket};
@@ -187,6 +187,7 @@ fn serve_from<
         rt,
         alloc,
         blank,
+        Opened::new(),
         engine,
         count as usize,
         sockets,
@@ -200,7 +201,7 @@ fn serve_from<
 
 /// Serves with a pool of so many seats.
 fn serve_pool<
-    L: Ledger + Send + Sync + 'static,
+    L: Ledger + Naming + Send + Sync + 'static,
     R: Net<Listener = TcpListener, Stream = TcpStream>
         + Threads
         + Wait
@@ -215,6 +216,7 @@ fn serve_pool<
     rt: R,
     alloc: Global,
     blank: Blank,
+    opened: Opened,
     engine: Engine,
     count: usize,
     sockets: Sockets,
@@ -227,9 +229,10 @@ fn serve_pool<
     requires name { blank.name ≡ L.name }
     requires parts { blank.parts ≡ L.parts }
     requires count { blank.parts ≡ count }
+    requires log { opened.seen.book ≡ L.book }
     requires records { engine.book.records ≡ [] }
 {
-    let Ok((pool, seats)) = Pool::<L>::new(alloc, blank, engine, count) else {
+    let Ok((pool, seats)) = Pool::<L>::new(alloc, blank, opened, engine, count) else {
         return Err(Exit::Memory);
     };
     let places = open_places(rt, alloc, pool, seats, count)?;
@@ -245,7 +248,7 @@ fn serve_pool<
 
 /// A place for each seat, and the thread that ends eras.
 fn open_places<
-    L: Ledger + Send + Sync + 'static,
+    L: Ledger + Naming + Send + Sync + 'static,
     R: Threads + Wait + Clock + Copy + Drop + Send + Sync + 'static,
 >(
     rt: R,
@@ -273,7 +276,7 @@ fn open_places<
 
 /// Starts the workers.
 fn start_workers<
-    L: Ledger + Send + Sync + 'static,
+    L: Ledger + Naming + Send + Sync + 'static,
     R: Threads + Wait + Clock + Copy + Drop + Send + Sync + 'static,
 >(
     rt: R,
@@ -292,7 +295,7 @@ fn start_workers<
 
 /// Starts a thread for each callback, which sends the messages to its host, and the thread that hands them on to these.
 fn start_senders<
-    L: Ledger + Send + Sync + 'static,
+    L: Ledger + Naming + Send + Sync + 'static,
     R: Net<Listener = TcpListener, Stream = TcpStream>
         + Threads
         + Wait
@@ -322,7 +325,7 @@ fn start_senders<
 
 /// Starts the thread that sends the messages to one host.
 fn start_sender<
-    L: Ledger + Send + Sync + 'static,
+    L: Ledger + Naming + Send + Sync + 'static,
     R: Net<Listener = TcpListener, Stream = TcpStream>
         + Threads
         + Wait
@@ -351,7 +354,7 @@ fn start_sender<
 
 /// Starts the thread that does what an operator's lines say. Nothing waits for its end.
 fn start_operator<
-    L: Ledger + Send + Sync + 'static,
+    L: Ledger + Naming + Send + Sync + 'static,
     R: Threads + Wait + Clock + Copy + Drop + Send + Sync + 'static,
     O: Operator + Drop + Send + 'static,
 >(rt: R, alloc: Global, service: &Service<L>, operator: O) -> Result<(), AllocError> {
@@ -364,7 +367,7 @@ fn start_operator<
 
 /// Serves those who come: datagrams by a thread of their own, where connections are taken too.
 fn attend<
-    L: Ledger + Send + Sync + 'static,
+    L: Ledger + Naming + Send + Sync + 'static,
     R: Threads + Wait + Clock + Copy + Drop + Send + Sync + 'static,
 >(
     rt: R,
@@ -387,7 +390,7 @@ fn attend<
 
 /// Serves connections until so many have come and ended.
 fn serve_connections<
-    L: Ledger + Send + Sync + 'static,
+    L: Ledger + Naming + Send + Sync + 'static,
     R: Threads + Wait + Clock + Copy + Drop + Send + Sync + 'static,
 >(
     rt: &R,
@@ -404,7 +407,7 @@ fn serve_connections<
 
 /// Starts the thread that takes datagrams.
 fn start_datagrams<
-    L: Ledger + Send + Sync + 'static,
+    L: Ledger + Naming + Send + Sync + 'static,
     R: Threads + Wait + Clock + Copy + Drop + Send + Sync + 'static,
 >(rt: R, alloc: Global, socket: UdpSocket, service: Service<L>) -> Result<(), AllocError> {
     thread::spawn(&rt, move || {

@@ -12,7 +12,7 @@ use crate::network::line::Line;
 use crate::network::places::{Place, Places};
 use nfs_engine::{Arrival, Asked, Faulted, Host, Incoming, Reading, Receipt, Received};
 use nfs_machine::{Exports, Moments};
-use nfs_pool::{Open, PoolError, Seat, Sent};
+use nfs_pool::{Naming, Open, PoolError, Seat, Sent};
 use nfs_rpc::Record;
 use nfs_schedule::answer::refusal;
 use nfs_schedule::{Answer, Declined};
@@ -52,14 +52,14 @@ pub(crate) type Answered = Result<Answer, Closed>;
 
 /// What answers records, on a place that it takes for them and at the moments of its clock.
 #[derive(Drop)]
-pub(crate) struct Clerk<L: Ledger, C> {
+pub(crate) struct Clerk<L: Ledger + Naming, C> {
     pub(crate) places: Places<L>,
     /// Rung when messages wait to be sent.
     pub(crate) bell: Arc<Bell>,
     pub(crate) clock: ServerClock<C>,
 }
 
-impl<L: Ledger, C: Clock> Clerk<L, C> {
+impl<L: Ledger + Naming, C: Clock> Clerk<L, C> {
     /// Answers a record of a connection and those behind it, one after the other and so many at most, and sends the
     /// answers. The place is given back behind the last one, and whenever the answers that wait are to be sent before the
     /// next one. Whether a call was refused.
@@ -281,7 +281,7 @@ fn put(waiting: &mut Connection, answer: Answer) -> bool
 /// # Errors
 ///
 /// The era is full, or memory was wanting: what came in is handed back.
-fn submit<R: Wait, L: Ledger>(
+fn submit<R: Wait, L: Ledger + Naming>(
     rt: &R,
     alloc: Global,
     place: &mut Place<L>,
@@ -295,7 +295,7 @@ fn submit<R: Wait, L: Ledger>(
 }
 
 /// What is told of a record that was submitted, on this seat.
-fn answered<L: Ledger>(sent: Sent, seat: &Seat<L>) -> Answered {
+fn answered<L: Ledger + Naming>(sent: Sent, seat: &Seat<L>) -> Answered {
     match sent {
         Sent::Executed => executed(seat),
         Sent::Repeated(kept) => Ok(Answer::Repeated(kept)),
@@ -306,7 +306,7 @@ fn answered<L: Ledger>(sent: Sent, seat: &Seat<L>) -> Answered {
 }
 
 /// The answer that a seat's last receipt tells, and shares with it.
-fn executed<L: Ledger>(seat: &Seat<L>) -> Answered {
+fn executed<L: Ledger + Naming>(seat: &Seat<L>) -> Answered {
     let receipt = seat.receipts().last().ok_or(Closed::Memory)?;
     Ok(Answer::Executed(Receipt {
         number: receipt.number,

@@ -3,6 +3,7 @@
 use crate::network::clerk::Clerk;
 use crossbeam_channel::Receiver;
 use nfs_engine::Host;
+use nfs_pool::Naming;
 use nfs_rpc::Record;
 use nfs_streams::datagram_of;
 use std::alloc::Global;
@@ -27,7 +28,7 @@ pub(crate) struct Job {
     pub(crate) record: Record,
 }
 
-impl<L: Ledger, C: Clock> Clerk<L, C> {
+impl<L: Ledger + Naming, C: Clock> Clerk<L, C> {
     /// Does jobs, until nobody sends any more.
     pub(crate) fn work<R: Wait>(&mut self, rt: &R, alloc: Global, jobs: &Receiver<Job>) {
         for job in jobs.iter(rt) {

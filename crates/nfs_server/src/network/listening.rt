@@ -15,6 +15,7 @@ use bytes::Bytes;
 use crossbeam_channel::Sender;
 use nfs_engine::Host;
 use nfs_machine::Moment;
+use nfs_pool::Naming;
 use std::alloc::{AllocError, Global};
 use std::io::ErrorKind;
 use std::net::{IpAddr, Net, SocketAddr, TcpListener, TcpStream, UdpSocket};
@@ -132,7 +133,7 @@ fn host_at(alloc: Global, address: IpAddr) -> Result<Host, AllocError> {
 
 /// What each thread that serves peers has.
 #[derive(Drop)]
-pub(crate) struct Service<L: Ledger> {
+pub(crate) struct Service<L: Ledger + Naming> {
     pub(crate) places: Places<L>,
     pub(crate) jobs: Sender<Job>,
     /// Rung when messages wait to be sent.
@@ -143,7 +144,7 @@ pub(crate) struct Service<L: Ledger> {
     pub(crate) latest: Arc<Latest>,
 }
 
-impl<L: Ledger> Service<L> {
+impl<L: Ledger + Naming> Service<L> {
     /// These places and jobs, and a bell that is not rung. The server began at this moment.
     pub(crate) fn new(
         alloc: Global,
@@ -186,7 +187,7 @@ impl<L: Ledger> Service<L> {
 /// are open as may be is closed at once.
 pub(crate) fn let_in<
     R: Threads + Wait + Clock + Copy + Drop + Send + Sync + 'static,
-    L: Ledger + Send + Sync + 'static,
+    L: Ledger + Naming + Send + Sync + 'static,
 >(
     rt: &R,
     alloc: Global,
@@ -228,7 +229,7 @@ pub(crate) fn let_in<
 /// Starts the thread of a connection.
 fn start<
     R: Threads + Wait + Clock + Copy + Drop + Send + Sync + 'static,
-    L: Ledger + Send + Sync + 'static,
+    L: Ledger + Naming + Send + Sync + 'static,
 >(
     rt: &R,
     alloc: Global,
@@ -254,7 +255,7 @@ fn start<
 }
 
 /// Takes datagrams, each a record of its own with no mark, and hands them to the workers.
-pub(crate) fn take_datagrams<R: Wait + Clock, L: Ledger>(
+pub(crate) fn take_datagrams<R: Wait + Clock, L: Ledger + Naming>(
     rt: &R,
     alloc: Global,
     socket: UdpSocket,
@@ -278,7 +279,7 @@ pub(crate) fn take_datagrams<R: Wait + Clock, L: Ledger>(
 }
 
 /// Hands a datagram to the workers.
-fn take<R: Wait, L: Ledger>(
+fn take<R: Wait, L: Ledger + Naming>(
     rt: &R,
     alloc: Global,
     socket: &Arc<UdpSocket>,

@@ -4,7 +4,7 @@
 //! places are gathered nobody else has the pool, and its era can be ended: no thread has to be joined for that.
 
 use crossbeam_channel::{Receiver, Sender};
-use nfs_pool::{Ended, EraRoom, FinishError, Pool, Seat};
+use nfs_pool::{Ended, EraRoom, FinishError, Naming, Pool, Seat};
 use std::alloc::{AllocError, Global};
 use std::rt::Clock;
 use std::sync::atomic::{AtomicBool, Ordering};
@@ -32,7 +32,7 @@ enum Compared {
 
 /// A seat with its pool: the leave to execute calls.
 #[derive(Drop)]
-pub(crate) struct Place<L: Ledger> {
+pub(crate) struct Place<L: Ledger + Naming> {
     pub(crate) pool: Arc<Pool<L>>,
     pub(crate) seat: Seat<L>,
     /// How often an era was to be ended before it was handed out.
@@ -70,14 +70,14 @@ impl Gathering {
 
 /// The places that nobody has.
 #[derive(Drop)]
-pub(crate) struct Places<L: Ledger> {
+pub(crate) struct Places<L: Ledger + Naming> {
     free: Receiver<Place<L>>,
     back: Sender<Place<L>>,
     full: Sender<Place<L>>,
     gathering: Arc<Gathering>,
 }
 
-impl<L: Ledger> Places<L> {
+impl<L: Ledger + Naming> Places<L> {
     /// Places come from `free`, whose other end is `back`, and go to `back`, or where the era is to be ended to `full`.
     pub(crate) fn new(
         free: Receiver<Place<L>>,
@@ -151,7 +151,7 @@ impl<L: Ledger> Places<L> {
 
 /// What ends eras.
 #[derive(Drop)]
-pub(crate) struct Keeper<L: Ledger> {
+pub(crate) struct Keeper<L: Ledger + Naming> {
     pub(crate) free: Receiver<Place<L>>,
     pub(crate) back: Sender<Place<L>>,
     /// Places whose era is to be ended.
@@ -161,7 +161,7 @@ pub(crate) struct Keeper<L: Ledger> {
     pub(crate) gathering: Arc<Gathering>,
 }
 
-impl<L: Ledger> Keeper<L> {
+impl<L: Ledger + Naming> Keeper<L> {
     /// Ends eras, until nobody calls any more. What was recorded in them is compared and let go by this thread, which
     /// serves nobody; after a record without its receipt no era is ended any more, so nothing is executed behind it.
     /// There is room for all seats, and to end an era in: each era takes the room of the one before it.
@@ -260,7 +260,7 @@ impl<L: Ledger> Keeper<L> {
 /// # Errors
 ///
 /// Somebody else has the pool, or a seat is missing. Seats and room are handed back.
-fn next_era<L: Ledger>(
+fn next_era<L: Ledger + Naming>(
     alloc: Global,
     pool: &mut Arc<Pool<L>>,
     seats: Vec<Seat<L>>,
@@ -290,7 +290,7 @@ fn compare<R: Wait + Clock>(rt: &R, alloc: Global, ended: Ended) -> (EraRoom, Co
 }
 
 /// Makes a place of each seat, and hands it out. The room of the seats is left.
-pub(crate) fn hand_out<R: Wait, L: Ledger>(
+pub(crate) fn hand_out<R: Wait, L: Ledger + Naming>(
     rt: &R,
     back: &Sender<Place<L>>,
     pool: Arc<Pool<L>>,

@@ -6,6 +6,7 @@ ghost use Rattle.std.specs.Prelude.{◌≡◌, false, length, OnOk};
 use crate::network::clerk::{Clerk, Closed};
 use crate::network::line::Line;
 use crate::patience::Watch;
+use nfs_pool::Naming;
 use nfs_rpc::RecordError;
 use nfs_streams::Connection;
 use std::alloc::{AllocError, Global};
@@ -22,12 +23,12 @@ const BUFFER_SIZE: usize = 262_144;
 
 /// What reads a connection.
 #[derive(Drop)]
-pub(crate) struct Reader<L: Ledger, C> {
+pub(crate) struct Reader<L: Ledger + Naming, C> {
     pub(crate) line: Line,
     pub(crate) clerk: Clerk<L, C>,
 }
 
-impl<L: Ledger, C: Clock> Reader<L, C> {
+impl<L: Ledger + Naming, C: Clock> Reader<L, C> {
     /// Serves the connection to its end. Where that is for want of memory the era is ended.
     pub(crate) fn work<R: Wait + Clock>(&mut self, rt: &R, alloc: Global) {
         if let Err(Closed::Memory) = self.read(rt, alloc) {

@@ -8,6 +8,7 @@ use crate::network::line::read_some;
 use crate::network::mailbox::Mailbox;
 use crate::network::messages::{Letter, addressed, call_of_answer};
 use nfs_engine::{Host, Posted};
+use nfs_pool::Naming;
 use nfs_rpc::{Record, RecordError, Records};
 use side_wire::Callback;
 use std::alloc::Global;
@@ -37,7 +38,7 @@ const PAUSE: u64 = 50;
 
 /// What sends the messages to one host.
 #[derive(Drop)]
-pub(crate) struct Sender<L: Ledger, C> {
+pub(crate) struct Sender<L: Ledger + Naming, C> {
     pub(crate) clerk: Clerk<L, C>,
     pub(crate) callbacks: Arc<Callbacks>,
     /// Where its messages wait.
@@ -46,7 +47,7 @@ pub(crate) struct Sender<L: Ledger, C> {
     pub(crate) failures: Failures,
 }
 
-impl<L: Ledger, C: Clock> Sender<L, C> {
+impl<L: Ledger + Naming, C: Clock> Sender<L, C> {
     /// Sends messages as they come, the oldest first.
     pub(crate) fn work<R: Wait + Clock + Net<Listener = TcpListener, Stream = TcpStream>>(
         &mut self,
@@ -91,7 +92,11 @@ impl<L: Ledger, C: Clock> Sender<L, C> {
 }
 
 /// Sends a letter and takes in what is answered, unless its address is passed over. From a failure on it is.
-fn deliver<L: Ledger, C: Clock, R: Wait + Clock + Net<Listener = TcpListener, Stream = TcpStream>>(
+fn deliver<
+    L: Ledger + Naming,
+    C: Clock,
+    R: Wait + Clock + Net<Listener = TcpListener, Stream = TcpStream>,
+>(
     rt: &R,
     alloc: Global,
     clerk: &mut Clerk<L, C>,
@@ -130,7 +135,11 @@ fn pass_over<R: Clock>(rt: &R, failures: &mut Failures, address: SocketAddr) {
 /// # Errors
 ///
 /// The connection failed, or no answer to GRANTED came in time. Other messages need no answer.
-fn asked<L: Ledger, C: Clock, R: Wait + Clock + Net<Listener = TcpListener, Stream = TcpStream>>(
+fn asked<
+    L: Ledger + Naming,
+    C: Clock,
+    R: Wait + Clock + Net<Listener = TcpListener, Stream = TcpStream>,
+>(
     rt: &R,
     alloc: Global,
     clerk: &Clerk<L, C>,
@@ -158,7 +167,7 @@ fn connected<R: Net<Listener = TcpListener, Stream = TcpStream>>(
 }
 
 /// The first record that comes; None where the peer sends none.
-fn first_record<L: Ledger, C: Clock, R: Wait + Clock>(
+fn first_record<L: Ledger + Naming, C: Clock, R: Wait + Clock>(
     rt: &R,
     alloc: Global,
     clerk: &Clerk<L, C>,
@@ -178,7 +187,7 @@ fn first_record<L: Ledger, C: Clock, R: Wait + Clock>(
     Ok(None)
 }
 
-impl<L: Ledger, C: Clock> Clerk<L, C> {
+impl<L: Ledger + Naming, C: Clock> Clerk<L, C> {
     /// Has what was recorded let go, and waits a while for memory.
     fn make_room<R: Wait + Clock>(&self, rt: &R) {
         self.places.relieve(rt);

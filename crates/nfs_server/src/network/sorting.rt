@@ -4,6 +4,7 @@ use crate::callbacks::Callbacks;
 use crate::network::clerk::Clerk;
 use crate::network::mailbox::Mailbox;
 use nfs_engine::Posted;
+use nfs_pool::Naming;
 use std::rt::Clock;
 use std::sync::ledger::Ledger;
 use std::sync::{Arc, Wait};
@@ -13,14 +14,14 @@ const MOST_MESSAGES: usize = 64;
 
 /// What hands messages on.
 #[derive(Drop)]
-pub(crate) struct Sorter<L: Ledger, C> {
+pub(crate) struct Sorter<L: Ledger + Naming, C> {
     pub(crate) clerk: Clerk<L, C>,
     pub(crate) callbacks: Arc<Callbacks>,
     /// Where messages to the host of each callback wait.
     pub(crate) mailboxes: Vec<Arc<Mailbox>>,
 }
 
-impl<L: Ledger, C: Clock> Sorter<L, C> {
+impl<L: Ledger + Naming, C: Clock> Sorter<L, C> {
     /// Hands messages on as they come, the oldest first.
     pub(crate) fn work<R: Wait>(&self, rt: &R) {
         for _ in rt.forever() {

@@ -10,5 +10,5 @@ use Rattle.nfs_server.proofs.network.open_places.Goals as goal
 pub spawn-requires-send-F : goal.spawn-requires-send-F
 spawn-requires-send-F g c κs within =
     let rt = c.type_bounds.send-R in let ledger = c.type_bounds.send-L in
-    let keeper = keeper_send (param 0 g.row.L) g.L.Ledger c.type_bounds.send-L c.type_bounds.sync-L in
+    let keeper = keeper_send (param 0 g.row.L) g.L.Ledger g.L.Naming c.type_bounds.send-L c.type_bounds.sync-L in
     search (sendable, crosses, room.the_send, seat.the_send) depth 20

@@ -9,6 +9,6 @@ pub spawn-requires-send-F : goal.spawn-requires-send-F
 spawn-requires-send-F g c κs within =
     let rt = c.type_bounds.send-R in
     let sorter =
-    sorter_send (param 0 g.row.L) g.L.Ledger c.type_bounds.send-L c.type_bounds.sync-L (copied 1 g.row.R)
+    sorter_send (param 0 g.row.L) g.L.Ledger g.L.Naming c.type_bounds.send-L c.type_bounds.sync-L (copied 1 g.row.R)
     c.type_bounds.send-R in
     search (sendable, crosses) depth 20

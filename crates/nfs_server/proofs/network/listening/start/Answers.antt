@@ -10,6 +10,6 @@ pub spawn-requires-send-F : goal.spawn-requires-send-F
 spawn-requires-send-F g c κs within =
     let rt = c.type_bounds.send-R in
     let reader =
-    reader_send (param 1 g.row.L) g.L.Ledger c.type_bounds.send-L c.type_bounds.sync-L (copied 0 g.row.R)
+    reader_send (param 1 g.row.L) g.L.Ledger g.L.Naming c.type_bounds.send-L c.type_bounds.sync-L (copied 0 g.row.R)
     c.type_bounds.send-R in
     search (sendable, crosses, attendance.the_send, attendance.the_sync) depth 20
