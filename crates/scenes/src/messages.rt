@@ -44,6 +44,17 @@ pub fn record(alloc: Global, xid: u32, message: &[u8]) -> Result<Vec<u8>, Fault>
     Ok(joined(alloc, &[&mark.to_be_bytes(), &xid.to_be_bytes(), message])?)
 }
 
+/// Whether bytes are a record of one fragment.
+pub fn is_record(bytes: &[u8]) -> bool {
+    match bytes.split_at_checked(4) {
+        Some(([a, b, c, d], message)) => {
+            let mark = u32::from_be_bytes([*a, *b, *c, *d]) as usize;
+            mark == 0x80000000 | message.len()
+        }
+        _ => false,
+    }
+}
+
 /// These bytes, one after the other.
 pub fn joined(alloc: Global, parts: &[&[u8]]) -> Result<Vec<u8>, AllocError> {
     let mut bytes = Vec::new(alloc);

@@ -16,7 +16,7 @@ use nfs_schedule::{Answer, Event, World, drive, is_at_rest};
 use std::alloc::{AllocError, Global};
 
 /// As many turns as bring a worker to the end of any call.
-const TURNS: usize = 30;
+const TURNS: usize = 200;
 
 /// The moment at which each record comes in.
 const MOMENT: Moment = Moment {
@@ -35,9 +35,9 @@ impl<'a> WorldScene<'a> {
     }
 
     /// Whether it goes so whichever worker is stopped after however many of the steps behind the opening, where the
-    /// other one goes on to its end: then no call is in progress, and no address is held.
+    /// other one goes on to its end: then both rest, and what is asked then is answered.
     fn is_followed_stopped<R: Print>(&self, rt: &R) -> Result<bool, Fault> {
-        for count in self.opening..=self.steps.len() {
+        for count in self.opening..=self.stoppable() {
             for (stopped, other) in [(1, 2), (2, 1)] {
                 let steps = self.steps_to_stop(count, stopped, other)?;
                 let is_followed = self.is_followed(rt, &steps);
@@ -51,7 +51,7 @@ impl<'a> WorldScene<'a> {
         Ok(true)
     }
 
-    /// So many steps, the stop of a worker, and the other one to its end.
+    /// So many steps, the stop of a worker, the other one to its end, and what is asked then.
     fn steps_to_stop(
         &self,
         count: usize,
@@ -73,16 +73,13 @@ impl<'a> WorldScene<'a> {
                 what: Move::Turn(other),
             })?;
         }
-        let rests = Counts {
-            living: 0,
-            locked: 0,
-            records: None,
-            objects: None,
-        };
         steps.push(Step {
             line,
-            what: Move::Counts(rests),
+            what: Move::Rest,
         })?;
+        for step in self.steps.iter().skip(self.stoppable()) {
+            steps.push(*step)?;
+        }
         Ok(steps)
     }
 
@@ -153,6 +150,11 @@ impl<'a> WorldScene<'a> {
                     }
                 }
                 Move::Settle => self.settle(world, answers)?,
+                Move::Rest => {
+                    if let Some(counts) = other_counts(world, rest_behind(answers)) {
+                        return Ok(Some(Difference::Counts { line, counts }));
+                    }
+                }
                 what => self.make_at_last(world, answers, what)?,
             }
         }
@@ -442,6 +444,20 @@ fn has_worker(event: &Event, workers: usize) -> bool
     match event {
         Event::Turn(worker) | Event::Stop(worker) => 0 < *worker && *worker <= workers,
         _ => true,
+    }
+}
+
+/// The counts of a world that rests behind these answers.
+fn rest_behind(answers: &[Answer]) -> Counts {
+    let executed = answers
+        .iter()
+        .filter(|answer| matches!(Kind::of(answer), Kind::Executed(_)))
+        .count();
+    Counts {
+        living: 0,
+        locked: 0,
+        records: Some(executed as u64),
+        objects: None,
     }
 }
 

@@ -1,7 +1,7 @@
 //! A scene: what a new server is sent in one stream or more, and what it must answer.
 
 use crate::fault::Fault;
-use crate::messages::{USER_0, call_message, record, success_message, words_in};
+use crate::messages::{USER_0, call_message, is_record, record, success_message, words_in};
 use crate::posts::wanted_post;
 use crate::server::{OPTIONS, Server};
 use crate::stream::{Difference, Stream, part};
@@ -160,7 +160,7 @@ impl<'a> Scene<'a> {
         end: Result<Served, StreamFault>,
     ) -> Result<(), Fault> {
         if end == Ok(Served) && written == stream.replies.as_slice() {
-            return Ok(());
+            return self.cut(rt, stream);
         }
         self.is_kept = false;
         let title = self.title;
@@ -168,6 +168,21 @@ impl<'a> Scene<'a> {
             Some(difference) => tell(self.alloc, rt, title, difference, stream, written),
             None => Ok(println!(rt; "{title}: there is more, or no good end")?),
         }
+    }
+
+    /// Streams that end within a record of this one have no answer and change nothing.
+    fn cut<R: Print>(&mut self, rt: &R, stream: &Stream) -> Result<(), Fault> {
+        for number in 0..stream.count() {
+            let call = stream.call(number);
+            if is_record(call) && !self.server.leaves_fronts(self.alloc, call) {
+                self.is_kept = false;
+                let title = self.title;
+                println!(rt;
+                    "{title}: a front of call {number} is answered, or changes something"
+                )?;
+            }
+        }
+        Ok(())
     }
 }
 

@@ -5,6 +5,7 @@ ghost use Rattle.nfs_schedule.specs.Worlds.{IsAtRest};
 
 use crate::fault::Fault;
 use crate::posts::given_post;
+use crate::stream::part;
 use bytes::Bytes;
 use nfs_engine::{Config, Engine};
 use nfs_machine::{ExportError, ExportText, Exports, Limits, Moment};
@@ -16,6 +17,9 @@ use std::marker::Model;
 
 /// The options of a server where a scene gives none.
 pub const OPTIONS: &str = "--export /data,rw,* --start 7 --clock 1000 --host 10.0.0.1";
+
+/// Behind how many of its bytes at most a record is cut, besides before its last.
+const MOST_CUT: usize = 1024;
 
 /// A server, and the host and the second of the calls that come next.
 #[derive(Drop)]
@@ -112,6 +116,27 @@ impl Server {
             &mut writer,
         );
         (writer.into_inner(), end)
+    }
+
+    /// Whether a stream that ends within this record, behind any of its first bytes or before its last, has no answer
+    /// and changes nothing.
+    pub fn leaves_fronts(&mut self, alloc: Global, record: &[u8]) -> bool {
+        let longest = record.len().saturating_sub(1);
+        for length in 0..longest.min(MOST_CUT) {
+            if !self.leaves(alloc, part(record, 0, length)) {
+                return false;
+            }
+        }
+        self.leaves(alloc, part(record, 0, longest))
+    }
+
+    /// Whether a stream of these bytes has no answer and changes nothing.
+    fn leaves(&mut self, alloc: Global, bytes: &[u8]) -> bool {
+        let size = self.engine.era_size();
+        let (written, end) = self.answers(alloc, bytes);
+        let is_left = written.is_empty() && end == Ok(Served);
+        drop(written);
+        is_left && self.engine.era_size() == size
     }
 }
 

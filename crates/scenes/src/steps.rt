@@ -19,6 +19,8 @@ pub enum Move<'a> {
     Counts(Counts),
     /// Each record that was refused, and not executed later, comes again, and worker 1 goes on to its end.
     Settle,
+    /// No call is in progress, no address is held, and the era has as many records as were executed.
+    Rest,
 }
 
 /// How many calls are in progress, and how many addresses are held; if that is told, how many records the era has, and

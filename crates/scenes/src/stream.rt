@@ -22,10 +22,11 @@ pub struct Difference {
 pub struct Stream {
     pub calls: Vec<u8>,
     pub replies: Vec<u8>,
+    /// Where each call begins.
+    starts: Vec<usize>,
     /// The parts of the replies.
     rows: Vec<Row>,
-    /// Where the last call begins, and the last reply.
-    last_call: usize,
+    /// Where the last reply begins.
     last_reply: usize,
 }
 
@@ -34,15 +35,15 @@ impl Stream {
         Stream {
             calls: Vec::new(alloc),
             replies: Vec::new(alloc),
+            starts: Vec::new(alloc),
             rows: Vec::new(alloc),
-            last_call: 0,
             last_reply: 0,
         }
     }
 
     /// These bytes are sent.
     pub fn send(&mut self, bytes: &[u8]) -> Result<(), AllocError> {
-        self.last_call = self.calls.len();
+        self.starts.push(self.calls.len())?;
         self.calls.extend_from_slice(bytes)
     }
 
@@ -57,10 +58,27 @@ impl Stream {
 
     /// What was sent last is sent again, and has the same answer again.
     pub fn repeat(&mut self, alloc: Global, line: u64) -> Result<(), AllocError> {
-        let call = copy_from(alloc, &self.calls, self.last_call)?;
+        let start = self.starts.last().copied().unwrap_or(0);
+        let call = copy_from(alloc, &self.calls, start)?;
         self.send(&call)?;
         let reply = copy_from(alloc, &self.replies, self.last_reply)?;
         self.receive(line, &reply)
+    }
+
+    /// How many calls were sent.
+    pub fn count(&self) -> usize {
+        self.starts.len()
+    }
+
+    /// The call with this number, from 0.
+    pub fn call(&self, number: usize) -> &[u8] {
+        let start = self.start_of(number);
+        part(&self.calls, start, self.start_of(number.wrapping_add(1)))
+    }
+
+    /// Where the call with this number begins, or the end of the calls.
+    fn start_of(&self, number: usize) -> usize {
+        self.starts.get(number).copied().unwrap_or(self.calls.len())
     }
 
     /// The first part of the replies that is not what was written.

@@ -35,6 +35,8 @@ pub struct WorldScene<'a> {
     pub end: u64,
     /// How many of its steps are its opening.
     pub opening: usize,
+    /// How many of its steps come before what is asked behind a stop; none where nothing is.
+    asked: Option<usize>,
     /// Whether it is played with a worker stopped after any step.
     pub is_stopped: bool,
 }
@@ -57,6 +59,7 @@ impl<'a> WorldScene<'a> {
             posts: Vec::new(alloc),
             end: 0,
             opening: 0,
+            asked: None,
             is_stopped: false,
         })
     }
@@ -91,6 +94,10 @@ impl<'a> WorldScene<'a> {
             "open" | "stops" => {
                 self.opening = self.steps.len();
                 self.is_stopped = verb == "stops";
+                Ok(())
+            }
+            "then" => {
+                self.asked = Some(self.steps.len());
                 Ok(())
             }
             "either" => {
@@ -258,6 +265,11 @@ impl<'a> WorldScene<'a> {
             bytes,
         })?;
         Ok(())
+    }
+
+    /// How many of its steps come before what is asked behind a stop.
+    pub fn stoppable(&self) -> usize {
+        self.asked.unwrap_or(self.steps.len())
     }
 
     /// The record of this number; none where there is no such record.
