@@ -6,6 +6,7 @@
 ghost use Rattle.std.specs.Prelude.{◌≡◌, [], IfOk};
 ghost use Rattle.nfs_schedule.specs.Worlds.{IsAtRest};
 
+mod after_faults;
 mod callbacks;
 mod clocks;
 mod command_lines;
@@ -66,6 +67,20 @@ const MNT: [u32; 14] = [
 /// OK: the root's handle, and AUTH_SYS as the one flavor.
 const MNT_REPLY: [u32; 19] = [
     0x80000048, 2, 1, 0, 0, 0, 0, 0, 32, 0x4e464433, 1, 0, 7, 0, 1, 0, 1, 1, 1,
+];
+
+/// CREATE GUARDED of `x` in the root.
+const CREATE: [u32; 29] = [
+    0x80000070, 8, 0, 2, 100003, 3, 8, 0, 0, 0, 0, 32, 0x4e464433, 1, 0, 7, 0, 1, 0, 1, 1,
+    0x78000000, 1, 0, 0, 0, 0, 0, 0,
+];
+
+/// OK: the first new object, a file of nobody's, and the root behind its first change.
+const CREATE_REPLY: [u32; 69] = [
+    0x80000110, 8, 1, 0, 0, 0, 0, 0, 1, 32, 0x4e464433, 1, 0, 7, 0, 17, 0, 2, 1, 1, 0o644, 1,
+    65534, 65534, 0, 0, 0, 0, 0, 0, 0, 1, 0, 17, 1000, 0, 1000, 0, 1000, 0, 1, 0, 0x1000, 1000, 0,
+    1000, 0, 1, 2, 0o777, 2, 0, 0, 0, 0x1000, 0, 0x1000, 0, 0, 0, 1, 0, 1, 1000, 0, 1000, 1, 1000,
+    1,
 ];
 
 /// Words as bytes.

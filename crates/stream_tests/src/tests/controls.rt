@@ -1,6 +1,6 @@
 //! What an operator's lines are answered, and which exports are handed in.
 
-use super::readers_and_writers::{Choppy, Course, Failing, Trouble, WRITES_ALL};
+use super::readers_and_writers::{Choppy, Course, Failing, Pace, Trouble, WRITES_ALL};
 use super::*;
 use nfs_rpc::stream::Counts;
 use nfs_server::{Applied, control};
@@ -35,7 +35,10 @@ fn tell(
     let mut lists = Vec::new(alloc);
     let mut reader = Counted::new(Failing {
         reader: first.chain(second).chain(third),
-        good,
+        pace: Pace {
+            good,
+            most: usize::MAX,
+        },
     });
     let mut writer = Counted::new(Choppy {
         written: Vec::new(alloc),
@@ -275,7 +278,7 @@ fn writes_fail(rt: HostRuntime) -> Result<(), Fail> {
         (1, 3, Fails, b"app", &[1], 1),
         (4, 3, Fails, b"applied\napp", &[1, 0], 1),
         (6, 3, Fails, b"applied\napplied\n", &[1, 0], 0),
-        (u64::MAX, usize::MAX, IsNotFlushed, b"applied\n", &[1], 1),
+        (u64::MAX, usize::MAX, IsNotFlushed(0), b"applied\n", &[1], 1),
     ];
     for (good, most, trouble, answers, lists, failures) in rows {
         let course = Course {

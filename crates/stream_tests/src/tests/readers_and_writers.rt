@@ -2,21 +2,36 @@
 
 use std::io::{Error, ErrorKind, Read, Result, Write};
 
-/// A reader that fails after some calls.
+/// How a reader goes.
+#[derive(Clone, Copy)]
+pub(super) struct Pace {
+    /// How many reads come before the one that fails.
+    pub good: u64,
+    /// How many bytes a read gives at most.
+    pub most: usize,
+}
+
+/// A reader that gives what it has.
+pub(super) const READS_ALL: Pace = Pace {
+    good: u64::MAX,
+    most: usize::MAX,
+};
+
+/// A reader that goes so.
 #[derive(Drop)]
 pub(super) struct Failing<R> {
     pub reader: R,
-    /// How many calls come before the one that fails.
-    pub good: u64,
+    pub pace: Pace,
 }
 
 impl<R: Read> Read for Failing<R> {
     fn read(&mut self, buffer: &mut [u8]) -> Result<usize> {
-        if self.good == 0 {
+        if self.pace.good == 0 {
             return Err(Error::from(ErrorKind::Other));
         }
-        self.good -= 1;
-        self.reader.read(buffer)
+        self.pace.good -= 1;
+        let most = buffer.len().min(self.pace.most);
+        self.reader.read(&mut buffer[..most])
     }
 }
 
@@ -27,8 +42,8 @@ pub(super) enum Trouble {
     Fails,
     /// It takes nothing.
     TakesNothing,
-    /// No flush is done.
-    IsNotFlushed,
+    /// The flush behind so many good ones fails.
+    IsNotFlushed(usize),
 }
 
 /// How a writer goes.
@@ -72,7 +87,9 @@ impl Write for Choppy {
 
     fn flush(&mut self) -> Result<()> {
         match self.course.trouble {
-            Trouble::IsNotFlushed => Err(Error::from(ErrorKind::Other)),
+            Trouble::IsNotFlushed(good) if self.flushes.len() >= good => {
+                Err(Error::from(ErrorKind::Other))
+            }
             _ => {
                 self.flushes.push(self.written.len())?;
                 Ok(())

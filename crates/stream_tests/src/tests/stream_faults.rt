@@ -1,16 +1,18 @@
 //! Streams that come in pieces, or whose reads and writes fail, and what was written by then.
 
-use super::readers_and_writers::{Choppy, Course, Failing, Trouble, WRITES_ALL};
+ghost use Rattle.nfs_schedule.specs.Worlds.{IsAtRest};
+
+use super::readers_and_writers::{Choppy, Course, Failing, Pace, READS_ALL, Trouble, WRITES_ALL};
 use super::*;
 use nfs_rpc::stream::Counts;
 
 /// What was written, and how many bytes it were at each flush; how serving ended, and how many reads and writes failed.
 #[derive(Drop)]
-struct Ended {
-    written: Vec<u8>,
+pub(super) struct Ended {
+    pub written: Vec<u8>,
     flushes: Vec<usize>,
-    end: Result<Served, StreamFault>,
-    failures: (u64, u64),
+    pub end: Result<Served, StreamFault>,
+    pub failures: (u64, u64),
 }
 
 impl Ended {
@@ -19,24 +21,39 @@ impl Ended {
     }
 }
 
-/// A new server is sent these pieces, of which so many reads are good, and its writer goes so.
+/// A new server is sent these pieces, and its reader and its writer go so.
 fn served(
     alloc: Global,
-    [first, second, third]: [&[u8]; 3],
-    good: u64,
+    pieces: [&[u8]; 3],
+    pace: Pace,
     course: Course,
 ) -> Result<Ended, AllocError> {
     let mut engine = opened(alloc)?;
+    served_on(alloc, &mut engine, pieces, pace, course)
+}
+
+/// The same from the engine's state on.
+pub(super) fn served_on(
+    alloc: Global,
+    engine: &mut Engine,
+    pieces: [&[u8]; 3],
+    pace: Pace,
+    course: Course,
+) -> Result<Ended, AllocError>
+    requires { IsAtRest engine.old }
+    ensures { IsAtRest engine.new }
+{
+    let [first, second, third] = pieces;
     let mut reader = Counted::new(Failing {
         reader: first.chain(second).chain(third),
-        good,
+        pace,
     });
     let mut writer = Counted::new(Choppy {
         written: Vec::new(alloc),
         flushes: Vec::new(alloc),
         course,
     });
-    let end = serve(alloc, &mut engine, &mut reader, &mut writer);
+    let end = serve(alloc, engine, &mut reader, &mut writer);
     let failures = (reader.failures(), writer.failures());
     let Choppy {
         written,
@@ -61,7 +78,11 @@ fn ends_after_reads(
 ) -> Result<bool, AllocError> {
     let (first, other) = (spelled(alloc, &NULL)?, spelled(alloc, &OTHER_NULL)?);
     let pieces = [first.as_slice(), other.as_slice(), &[]];
-    let ended = served(alloc, pieces, good, WRITES_ALL)?;
+    let pace = Pace {
+        good,
+        most: usize::MAX,
+    };
+    let ended = served(alloc, pieces, pace, WRITES_ALL)?;
     Ok(ended.is(words, end, (failures, 0)))
 }
 
@@ -92,7 +113,7 @@ fn ends_after_writes(
     failures: u64,
 ) -> Result<bool, AllocError> {
     let input = spelled(alloc, &BOTH_NULLS)?;
-    let ended = served(alloc, [input.as_slice(), &[], &[]], u64::MAX, course)?;
+    let ended = served(alloc, [input.as_slice(), &[], &[]], READS_ALL, course)?;
     Ok(ended.is(words, end, (0, failures)))
 }
 
@@ -114,7 +135,14 @@ fn writes_fail(rt: HostRuntime) -> Result<(), Fail> {
         (1, 28, TakesNothing, &NULL_REPLY, failed, 1),
         (5, 8, Fails, &BOTH_REPLIES[..10], failed, 1),
         (56, 1, Fails, &BOTH_REPLIES, Ok(Served), 0),
-        (u64::MAX, usize::MAX, IsNotFlushed, &BOTH_REPLIES, failed, 1),
+        (
+            u64::MAX,
+            usize::MAX,
+            IsNotFlushed(0),
+            &BOTH_REPLIES,
+            failed,
+            1,
+        ),
     ];
     for (good, most, trouble, words, end, failures) in rows {
         let course = Course {
@@ -133,7 +161,7 @@ fn is_answered_in_pieces(alloc: Global, first: usize, second: usize) -> Result<b
     let call = spelled(alloc, &NULL)?;
     let (first, others) = call.split_at(call.len().min(first));
     let (second, third) = others.split_at(others.len().min(second));
-    let ended = served(alloc, [first, second, third], u64::MAX, WRITES_ALL)?;
+    let ended = served(alloc, [first, second, third], READS_ALL, WRITES_ALL)?;
     Ok(ended.is(&NULL_REPLY, Ok(Served), (0, 0)))
 }
 
@@ -152,7 +180,7 @@ fn sends_on(
 ) -> Result<bool, AllocError> {
     let (first, second) = (spelled(alloc, first)?, spelled(alloc, second)?);
     let pieces = [first.as_slice(), second.as_slice(), &[]];
-    let ended = served(alloc, pieces, u64::MAX, WRITES_ALL)?;
+    let ended = served(alloc, pieces, READS_ALL, WRITES_ALL)?;
     Ok(ended.end == Ok(Served) && ended.flushes.as_slice() == wanted)
 }
 
@@ -175,14 +203,30 @@ fn ends_so(
     Ok(end == wanted && is_spelled(&written, words))
 }
 
+/// Whether a record with this mark ends the stream, alone and behind a call, whole and byte by byte.
+fn is_too_large(alloc: Global, mark: u32) -> Result<bool, AllocError> {
+    let (alone, second) = (spelled(alloc, &[mark])?, both(alloc, &NULL, &[mark])?);
+    let too_large = Err(StreamFault::TooLarge);
+    for most in [1, usize::MAX] {
+        let pace = Pace {
+            good: u64::MAX,
+            most,
+        };
+        let first = served(alloc, [alone.as_slice(), &[], &[]], pace, WRITES_ALL)?;
+        let other = served(alloc, [second.as_slice(), &[], &[]], pace, WRITES_ALL)?;
+        if !first.is(&[], too_large, (0, 0)) || !other.is(&NULL_REPLY, too_large, (0, 0)) {
+            return Ok(false);
+        }
+    }
+    Ok(true)
+}
+
+/// A header of one byte too many, and the greatest of a last fragment and of another.
 #[test]
 fn a_record_is_too_large(rt: HostRuntime) -> Result<(), Fail> {
-    let alloc = rt.alloc();
-    let too_large = Err(StreamFault::TooLarge);
-    let alone = spelled(alloc, &[0x80012001])?;
-    assert!(rt; ends_so(alloc, &alone, &[], too_large)?);
-    let second = both(alloc, &NULL, &[0x80012001])?;
-    assert!(rt; ends_so(alloc, &second, &NULL_REPLY, too_large)?);
+    for mark in [0x80012001, 0x7fffffff, 0xffffffff] {
+        assert!(rt; is_too_large(rt.alloc(), mark)?, "{mark}");
+    }
     Ok(())
 }
 

@@ -133,23 +133,13 @@ fn mnt_is_refused(rt: HostRuntime) -> Result<(), Fail> {
 /// generation or of the next: one that was reserved is not given again.
 #[test]
 fn create_is_refused(rt: HostRuntime) -> Result<(), Fail> {
-    let call = [
-        0x80000070, 8, 0, 2, 100003, 3, 8, 0, 0, 0, 0, 32, 0x4e464433, 1, 0, 7, 0, 1, 0, 1, 1,
-        0x78000000, 1, 0, 0, 0, 0, 0, 0,
-    ];
-    let reply = [
-        0x80000110, 8, 1, 0, 0, 0, 0, 0, 1, 32, 0x4e464433, 1, 0, 7, 0, 17, 0, 2, 1, 1, 0o644, 1,
-        65534, 65534, 0, 0, 0, 0, 0, 0, 0, 1, 0, 17, 1000, 0, 1000, 0, 1000, 0, 1, 0, 0x1000, 1000,
-        0, 1000, 0, 1, 2, 0o777, 2, 0, 0, 0, 0x1000, 0, 0x1000, 0, 0, 0, 1, 0, 1, 1000, 0, 1000, 1,
-        1000, 1,
-    ];
     let refusal = [0x80000024, 8, 1, 0, 0, 0, 0, 10008, 0, 0];
-    let mut then = reply;
+    let mut then = CREATE_REPLY;
     then[17] = 3;
     let replies = Replies {
-        at_once: &reply,
+        at_once: &CREATE_REPLY,
         refusal: &refusal,
         then: &then,
     };
-    answers_at_last(&rt, &call, replies)
+    answers_at_last(&rt, &CREATE, replies)
 }
