@@ -63,7 +63,7 @@ struct Script {
     questions: Vec<u8>,
 }
 
-fn script(alloc: Global) -> Result<Script, AllocError> {
+fn make_script(alloc: Global) -> Result<Script, AllocError> {
     Ok(Script {
         create: spelled(alloc, &CREATE)?,
         mkdir: spelled(alloc, &MKDIR)?,
@@ -215,7 +215,7 @@ fn goes(
 /// Each read fails in turn, of a piece or of a byte; the last finds the end.
 #[test]
 fn each_read_fails(rt: HostRuntime) -> Result<(), Fail> {
-    let script = script(rt.alloc())?;
+    let script = make_script(rt.alloc())?;
     for good in 0..5 {
         let pace = Pace {
             good: good as u64,
@@ -248,7 +248,7 @@ fn each_read_fails(rt: HostRuntime) -> Result<(), Fail> {
 /// Each write of a byte fails in turn, or takes nothing.
 #[test]
 fn each_write_fails(rt: HostRuntime) -> Result<(), Fail> {
-    let script = script(rt.alloc())?;
+    let script = make_script(rt.alloc())?;
     for trouble in [Trouble::Fails, Trouble::TakesNothing] {
         for good in 0..717 {
             let course = Course {
@@ -273,7 +273,7 @@ fn each_write_fails(rt: HostRuntime) -> Result<(), Fail> {
 /// Each flush fails in turn: the answer of its piece is written.
 #[test]
 fn each_flush_fails(rt: HostRuntime) -> Result<(), Fail> {
-    let script = script(rt.alloc())?;
+    let script = make_script(rt.alloc())?;
     for (good, written) in [(0, 276), (1, 552), (2, 716)] {
         let course = Course {
             good: u64::MAX,
