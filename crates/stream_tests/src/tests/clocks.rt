@@ -38,15 +38,16 @@ fn the_machine_s_clock_falls_back_on_the_last_moment(rt: HostRuntime) {
     let mut clock = ServerClock::new(&times, None);
     let given = [
         (None, (0, 0)),
+        (Some(Duration::from_secs(7)), (7, 0)),
+        (Some(Duration::from_secs(4_294_967_296)), (7, 0)),
+        (Some(Duration::from_secs(u64::MAX)), (7, 0)),
         (Some(Duration::new(1000, 5)), (1000, 5)),
         (None, (1000, 5)),
+        (Some(Duration::new(1000, 4)), (1000, 5)),
         (
             Some(Duration::new(4_294_967_295, 999_999_999)),
             (4_294_967_295, 999_999_999),
         ),
-        (Some(Duration::from_secs(7)), (7, 0)),
-        (Some(Duration::from_secs(4_294_967_296)), (7, 0)),
-        (Some(Duration::from_secs(u64::MAX)), (7, 0)),
     ];
     for (time, (seconds, nanoseconds)) in given {
         times.time.set(time);
