@@ -5,9 +5,9 @@ which are this machine at 127.0.0.2 and 127.0.0.3.
 
 Locks are exclusive and shared, beside each other and not, and become the one and the other; who waits for one gets it
 by a call within a second, and not when the client asks again, which is after 30; nothing is left of a process that is
-killed as it waits. A GRANTED that is late, since nobody lets in the one that stands before it, comes when the client
-asked again and has its lock: it stays the client's until this gives it back. At last the client is switched off, and
-its locks are free once it comes back and its sm-notify tells so.
+killed as it waits. A GRANTED that is kept back on its way comes when the client asked again and has its lock: it stays
+the client's until this gives it back. At last the client is switched off, and its locks are free once it comes back and
+its sm-notify tells so.
 
 It fetches Debian's kernel, mount.nfs, rpcbind and rpc.statd (apt-get download), as bench/linux.py does. lockd is the
 port mapper of 127.0.0.1, at port 111, so this has to be root's, and no port mapper may run. QEMU hides the client
@@ -35,13 +35,14 @@ import network
 import nfsd
 from locking import IS_BLOCKED, IS_DENIED, IS_GRANTED
 
-HERE, OTHER, SILENT = "127.0.0.1", "127.0.0.2", "127.0.0.3"  # the client, and the other hosts
+HERE, OTHER, THIRD = "127.0.0.1", "127.0.0.2", "127.0.0.3"  # the client, and the other hosts
 PROCESSES = 4
 PATIENCE = 600  # seconds for the machine to start, on a busy processor
 SOON = 1  # seconds in which a client is called back
 ASKS_AGAIN = 30  # seconds after which Linux asks again for a lock that it waits for
-BEFORE = 2  # so many seconds before that the lock is given back, where a host is waited for 5
-LATE = 10  # seconds in which a GRANTED comes that waits for another host
+BEFORE = 2  # so many seconds before that the lock is given back
+KEPT_BACK = 4  # seconds for which the GRANTED is kept back then; the server waits 5 for an answer
+LATE = 10  # seconds in which it comes
 PROGRAMS = ("sbin/rpcbind", "sbin/rpc.statd", "sbin/sm-notify")
 USERS = "root:x:0:0:root:/:/bin/sh\n_rpc:x:100:100::/run/rpcbind:/bin/false\nstatd:x:101:100::/var/lib/nfs:/bin/false\n"
 
@@ -154,29 +155,19 @@ class Owner:
 
 
 class Relay(locking.Host):
-    """Hands its calls on to a port, and keeps when each came and with which status it was answered."""
+    """Hands its calls on to a port, after so many seconds, and keeps when each came there and with which status it was
+    answered."""
 
     def __init__(self, to_port):
-        self.to_port, self.answers = to_port, []
+        self.to_port, self.answers, self.delay = to_port, [], 0
         super().__init__()
 
     def answer(self, record):
+        time.sleep(self.delay)
         came = time.monotonic()
         reply = network.Connection(self.to_port).ask(struct.pack(">I", 0x80000000 | len(record)) + record)
         self.answers.append((came, *struct.unpack(">I", reply[-4:])))
         return reply
-
-
-class Full:
-    """A port that lets nobody in: as many wait for that as may."""
-
-    def __init__(self):
-        self.listener = socket.create_server((HERE, 0), backlog=0)
-        self.port = self.listener.getsockname()[1]
-        self.waiting = [socket.socket() for _ in range(4)]
-        for each in self.waiting:
-            each.setblocking(False)
-            each.connect_ex((HERE, self.port))
 
 
 def is_called(process, relay, what, give):
@@ -289,13 +280,12 @@ def is_killed(client, other, third):
     print("locks: killed: nothing is left of a process that waited")
 
 
-def is_late(client, other, silent, relay):
+def is_late(client, other, relay):
     """A GRANTED that is late comes to a client that has asked again meanwhile and works under its lock."""
     one, two = client.processes[:2]
     assert other.locks(0, 200)
-    silent.waits(0, 100)
     since = one.waits("w", 100, 100, two)
-    heard = len(relay.answers)
+    heard, relay.delay = len(relay.answers), KEPT_BACK
     time.sleep(since + ASKS_AGAIN - BEFORE - time.monotonic())
     begin = time.monotonic()
     other.unlocks()
@@ -308,7 +298,7 @@ def is_late(client, other, silent, relay):
     assert status == IS_DENIED, "the client waits for no lock any more"
     assert one.locks("u", 100, 100) and other.locks(100, 100)
     other.unlocks()
-    silent.unlocks()
+    relay.delay = 0
     assert other.may_lock()
     print(f"locks: late: called back after {came - begin:.1f} s it denied that, and had its lock until it was done")
 
@@ -354,8 +344,8 @@ def main():
     program = words.parse_args().program
     first = lockd.free_ports(3)
     mapper, manager = first + 1, first + 2
-    called, relay, full = locking.Host(IS_GRANTED), Relay(first), Full()
-    places = ((HERE, relay), (OTHER, called), (SILENT, full))
+    called, relay = locking.Host(IS_GRANTED), Relay(first)
+    places = ((HERE, relay), (OTHER, called))
     callbacks = [f"--callback={address}={HERE}:{place.port}" for address, place in places]
     with tempfile.TemporaryDirectory() as folder, network.Server(program, *callbacks) as server:
         folder = pathlib.Path(folder)
@@ -364,7 +354,7 @@ def main():
         mine += ["--client-mapper", mapper, "--mapper", "own"]
         with lockd.Lockd(*mine) as lockd_run, Client(folder, server.port, mapper, manager) as client:
             other = Owner(server.port, OTHER, 1)
-            third = Owner(server.port, SILENT, 2, other.file)
+            third = Owner(server.port, THIRD, 2, other.file)
             client.switch_on()
             excludes(client, other)
             shares(client, other)
@@ -373,7 +363,7 @@ def main():
             downgrades(client, other, called, relay)
             waits(client, other, called, relay)
             is_killed(client, other, third)
-            is_late(client, other, third, relay)
+            is_late(client, other, relay)
             comes_back(client, other, lockd_run)
             client.shut_down()
 
