@@ -13,15 +13,15 @@ use Rattle.nfs_machine.specs.LockSteps.{GrantEnds, is_answered}
 use Rattle.nfs_machine.specs.NlmSteps.{NlmStep}
 use Rattle.nfs_machine.specs.OneFile.{SetsMode, requested}
 use Rattle.nfs_machine.specs.State.{Lock, Owner, PendingGrant, Range}
-use Rattle.nfs_machine.proofs.Checked.{LockOf, UnlockOf}
-use Rattle.nfs_machine.proofs.FileMaps.{no-list, of-there}
-use Rattle.nfs_machine.proofs.Firm.{none-listed}
-use Rattle.nfs_machine.proofs.Modes.{holds, inside, listed_locks_tell, mode_by, narrower}
-use Rattle.nfs_machine.proofs.Opened.{none_of}
+use Rattle.nfs_machine.proofs.NlmChecksLemmas.{LockOf, UnlockOf}
+use Rattle.nfs_machine.proofs.FileMapLemmas.{no-list, of-there}
+use Rattle.nfs_machine.proofs.FirmLemmas.{none-listed}
+use Rattle.nfs_machine.proofs.ModesLemmas.{holds, inside, listed_locks_tell, mode_by, narrower}
+use Rattle.nfs_machine.proofs.OpeningStateLemmas.{none_of}
 use Rattle.machine_examples.proofs.LockingWorked.{is-x, lock_by, none-ends}
-use Rattle.machine_examples.proofs.OneFile.{grant-gone, grant-stays, with-again}
-use Rattle.machine_examples.proofs.Ranges.{one-has, one-listed}
-use Rattle.machine_examples.proofs.Settled.{having}
+use Rattle.machine_examples.proofs.OneFileLemmas.{grant-gone, grant-stays, with-again}
+use Rattle.machine_examples.proofs.RangesWorked.{one-has, one-listed}
+use Rattle.machine_examples.proofs.SettlingWorked.{having}
 use Rattle.machine_examples.specs.WorkedEnding.{WorkedEnding, asking, b_has, unlocking, with_none, with_pending}
 use Rattle.machine_examples.specs.WorkedLocking.{locking}
 use Rattle.machine_examples.specs.WorkedLocks.{Exclusive, Unlocked, a, b, lock, range_at}

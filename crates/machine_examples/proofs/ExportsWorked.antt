@@ -23,10 +23,10 @@ use Rattle.nfs_machine.specs.WellFormed.{IsParent}
 use Rattle.machine_examples.specs.WorkedExports.{WorkedExporting, dots, exporting, handle, listing, lower_root}
 use Rattle.machine_examples.specs.WorkedExports.{objects, page_of, sub, upper, upper_root}
 use Rattle.machine_examples.specs.WorkedRun.{nobody}
-use Rattle.nfs_machine.proofs.Exported.{export-all}
-use Rattle.nfs_machine.proofs.Pages.{PagesOf, page-ends}
-use Rattle.nfs_machine.proofs.Sums.{get-inserted}
-use Rattle.nfs_machine.proofs.Facts.{numbered}
+use Rattle.nfs_machine.proofs.ExportedLemmas.{export-all}
+use Rattle.nfs_machine.proofs.PageLemmas.{PagesOf, page-ends}
+use Rattle.nfs_machine.proofs.MapSumLemmas.{get-inserted}
+use Rattle.nfs_machine.proofs.ChecksPassedLemmas.{numbered}
 
 root-at : get objects 12 ≡ Some upper_root
 root-at = get-inserted (insert (insert empty 20 lower_root) 7 sub) 12 upper_root 12

@@ -40,14 +40,14 @@ use Rattle.machine_examples.specs.WorkedLocking.{sharing, testing, waiting, with
 use Rattle.machine_examples.specs.WorkedLocking.{with_waiting, with_whole}
 use Rattle.machine_examples.specs.WorkedRun.{nobody, read_only, root_with_x, with_hi, x_bytes, x_written}
 use Rattle.nfs_machine.specs.NlmSteps.{NlmStep}
-use Rattle.nfs_machine.proofs.Checked.{CancelOf, Cancels, LockOf, ShareOf, ShareAnswers, TestOf, UnlockOf, UnshareOf}
-use Rattle.nfs_machine.proofs.FileMaps.{grants-none, no-list, of-there}
-use Rattle.machine_examples.proofs.OneFile.{first-list, next-list, with-again}
-use Rattle.nfs_machine.proofs.Modes.{listed_locks_tell, holds, mode_by}
-use Rattle.nfs_machine.proofs.Opened.{le_or, none_of}
-use Rattle.machine_examples.proofs.Ranges.{at-30, locked}
+use Rattle.nfs_machine.proofs.NlmChecksLemmas.{CancelOf, Cancels, LockOf, ShareOf, ShareAnswers, TestOf, UnlockOf, UnshareOf}
+use Rattle.nfs_machine.proofs.FileMapLemmas.{grants-none, no-list, of-there}
+use Rattle.machine_examples.proofs.OneFileLemmas.{first-list, next-list, with-again}
+use Rattle.nfs_machine.proofs.ModesLemmas.{listed_locks_tell, holds, mode_by}
+use Rattle.nfs_machine.proofs.OpeningStateLemmas.{le_or, none_of}
+use Rattle.machine_examples.proofs.RangesWorked.{at-30, locked}
 use Rattle.machine_examples.proofs.RunWorked.{root-named, root-written, x-lives, x-named}
-use Rattle.nfs_machine.proofs.Facts.{numbered}
+use Rattle.nfs_machine.proofs.ChecksPassedLemmas.{numbered}
 
 -- ---- 0 to 99 without 40 to 59
 module _ (offset : ℕ) where

@@ -34,10 +34,10 @@ use Rattle.machine_examples.specs.WorkedMaking.{guarded, made_as, new, not_made,
 use Rattle.machine_examples.specs.WorkedMaking.{with_new}
 use Rattle.machine_examples.specs.WorkedReplies.{root}
 use Rattle.machine_examples.specs.WorkedRun.{in_root, nobody, opened, root_with_x, with_hi, x_entry}
-use Rattle.nfs_machine.proofs.Choosing.{End, EndsAs, known, make_new, makes-so}
+use Rattle.nfs_machine.proofs.ChoiceLemmas.{End, EndsAs, known, make_new, makes-so}
 use Rattle.machine_examples.proofs.RunWorked.{fresh, root-named, root-opened, root-written, x-lives}
-use Rattle.nfs_machine.proofs.Sums.{get-inserted}
-use Rattle.nfs_machine.proofs.Facts.{numbered, entries_with}
+use Rattle.nfs_machine.proofs.MapSumLemmas.{get-inserted}
+use Rattle.nfs_machine.proofs.ChecksPassedLemmas.{numbered, entries_with}
 
 root-with-d : (o : Living) → get (with_new o).objects 1 ≡ Some root_with_d
 root-with-d o = get-inserted (insert opened.objects 1 root_with_d) 5 o 1 ∙ get-inserted opened.objects 1 root_with_d 1

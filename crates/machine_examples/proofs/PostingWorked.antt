@@ -11,15 +11,15 @@ use Rattle.nfs_machine.specs.Locks.{HasModes, is_within, modes_with, same_owner}
 use Rattle.nfs_machine.specs.NlmSteps.{NlmStep}
 use Rattle.nfs_machine.specs.OneFile.{FileLocks, SetsMode, requested}
 use Rattle.nfs_machine.specs.State.{Lock, Owner}
-use Rattle.nfs_machine.proofs.Checked.{UnlockOf}
-use Rattle.nfs_machine.proofs.FileMaps.{no-list, of-there}
-use Rattle.nfs_machine.proofs.Firm.{none-listed}
-use Rattle.nfs_machine.proofs.Modes.{listed_locks_tell, mode_by, narrower}
-use Rattle.nfs_machine.proofs.Opened.{none_of}
+use Rattle.nfs_machine.proofs.NlmChecksLemmas.{UnlockOf}
+use Rattle.nfs_machine.proofs.FileMapLemmas.{no-list, of-there}
+use Rattle.nfs_machine.proofs.FirmLemmas.{none-listed}
+use Rattle.nfs_machine.proofs.ModesLemmas.{listed_locks_tell, mode_by, narrower}
+use Rattle.nfs_machine.proofs.OpeningStateLemmas.{none_of}
 use Rattle.machine_examples.proofs.LockingWorked.{cancels-b, is-x, lock_by, none-ends, tests-b, unlocks-part}
-use Rattle.machine_examples.proofs.OneFile.{with-again}
-use Rattle.machine_examples.proofs.Ranges.{one-has}
-use Rattle.machine_examples.proofs.Settled.{grants-one, having}
+use Rattle.machine_examples.proofs.OneFileLemmas.{with-again}
+use Rattle.machine_examples.proofs.RangesWorked.{one-has}
+use Rattle.machine_examples.proofs.SettlingWorked.{grants-one, having}
 use Rattle.machine_examples.specs.WorkedLocking.{waiting, with_waiting}
 use Rattle.machine_examples.specs.WorkedLocks.{a, b, holder, lock, range_at, split, Unlocked}
 use Rattle.machine_examples.specs.WorkedPosting.{WorkedPosting, giving_all, with_granted}

@@ -10,7 +10,7 @@ use Rattle.nfs_machine.specs.MountSteps.{MountStep}
 use Rattle.nfs_machine.specs.Replacing.{ReplaceStep, new_root, staying}
 use Rattle.nfs_machine.specs.Resolve.{Names, Stale, living_at}
 use Rattle.nfs_machine.specs.State.{Living, State}
-use Rattle.nfs_machine.proofs.Sums.{get-inserted}
+use Rattle.nfs_machine.proofs.MapSumLemmas.{get-inserted}
 use Rattle.machine_examples.specs.WorkedReplacing.{WorkedNumberings, WorkedReplacings, data_export, data_fixed}
 use Rattle.machine_examples.specs.WorkedReplacing.{living_as, new_export, new_fixed}
 

@@ -8,7 +8,7 @@ use Rattle.std.proofs.lemmas.Bool.{leb-true, or_right}
 use Rattle.std.specs.FinMap.{get, insert, get-empty}
 use Rattle.std.specs.List.{Contains, list_any}
 use Rattle.std.specs.Ordering.{nat_cmp}
-use Rattle.nfs_xdr.proofs.Spelling.{writing_spells}
+use Rattle.nfs_xdr.proofs.SpellingLaws.{writing_spells}
 use Rattle.nfs_xdr.specs.Reading.{read}
 use Rattle.nfs_xdr.specs.Types.{HasSpelling}
 use Rattle.nfs_xdr.specs.Writing.{appended, with_arm, with_hyper, with_padded, with_word}
@@ -64,15 +64,15 @@ use Rattle.machine_examples.specs.WorkedRun.{with_x, writing}
 use Rattle.machine_examples.specs.WorkedRun.{with_hi, x, x_bytes, x_entry, x_written, y_entry}
 use Rattle.nfs_machine.specs.declared.calls.Call.TheVariants as calls
 use Rattle.nfs_machine.specs.declared.context.Ctx.{Ctx}
-use Rattle.nfs_machine.proofs.Choosing.{End, EndsAs, Fresh, known, make_new, makes-so}
+use Rattle.nfs_machine.proofs.ChoiceLemmas.{End, EndsAs, Fresh, known, make_new, makes-so}
 use Rattle.nfs_machine.specs.RemoveSteps.{remove_end, without_object}
-use Rattle.nfs_machine.proofs.Moves.{move_end}
-use Rattle.nfs_machine.proofs.Opened.{only_roots, roots_formed}
-use Rattle.nfs_machine.proofs.Kept.{chains_keep_form}
-use Rattle.nfs_machine.proofs.Runs.{runs_are_chains}
-use Rattle.nfs_machine.proofs.Pages.{PagesOf, fits-shrinks, page-ends, page-stops}
-use Rattle.nfs_machine.proofs.Sums.{get-inserted, sum-insert_new, sum-insert_old, sum-none}
-use Rattle.nfs_machine.proofs.Facts.{numbered, entries_with}
+use Rattle.nfs_machine.proofs.MovedNameLemmas.{move_end}
+use Rattle.nfs_machine.proofs.OpeningStateLemmas.{only_roots, roots_formed}
+use Rattle.nfs_machine.proofs.StepKeepsLemmas.{chains_keep_form}
+use Rattle.nfs_machine.proofs.RunChainLemmas.{runs_are_chains}
+use Rattle.nfs_machine.proofs.PageLemmas.{PagesOf, fits-shrinks, page-ends, page-stops}
+use Rattle.nfs_machine.proofs.MapSumLemmas.{get-inserted, sum-insert_new, sum-insert_old, sum-none}
+use Rattle.nfs_machine.proofs.ChecksPassedLemmas.{numbered, entries_with}
 
 -- ---- what lives where
 pub root-opened : get opened.objects 1 ≡ Some root

@@ -4,7 +4,7 @@ use Rattle.std.proofs.Common.{length-append, ap, arith, get_or, refl, subst, sym
 use Rattle.std.proofs.lemmas.List.{length-replicate}
 use Rattle.std.proofs.lemmas.List.Elements.{All-from_recursion, All-get_or}
 use Rattle.std.proofs.lemmas.List.Sums.{sum_by_more}
-use Rattle.nfs_xdr.proofs.Written.{appends}
+use Rattle.nfs_xdr.proofs.WrittenBytesLemmas.{appends}
 use Rattle.nfs_xdr.specs.Types.{Enum, Flag, Hyper, Int as IntType, Pair, Value, Word, Xdr, padding}
 use Rattle.nfs_xdr.specs.Writing.{appended, with_arm, with_hyper, with_padded, with_word, write}
 use Rattle.side_wire.specs.Messages.{HasCallbackForm, HasLockForm, HasTestArgumentsForm, call_header, header_value}

@@ -2,7 +2,7 @@
 use Rattle.std.proofs.Common.{ℕ, ℤ, ◌≤◌, nat_le, List, [], length, length-append, arith}
 use Rattle.nfs_xdr.specs.Types.{Flag, Hyper, Int as IntType, Pair, Word}
 use Rattle.nfs_xdr.specs.Writing.{appended, with_arm, with_word, write}
-use Rattle.nfs_wire.proofs.Sizes.{Adds, adds-enum, adds-flag, adds-hyper, adds-opaque, adds-pair, adds-word}
+use Rattle.nfs_wire.proofs.ResultSizes.{Adds, adds-enum, adds-flag, adds-hyper, adds-opaque, adds-pair, adds-word}
 use Rattle.side_wire.specs.Nlm.{HasNlmForm, HasTestStatusForm, IsNetobj, nlm_result_bytes}
 use Rattle.side_wire.specs.NlmTypes.{holder_value, netobj, nlm4_holder, nlm4_res, nlm4_shareres, nlm4_stats}
 use Rattle.side_wire.specs.NlmTypes.{nlm4_testrply, nlm_status_number, result_value, share_result_value}

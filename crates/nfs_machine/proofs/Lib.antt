@@ -1,65 +1,65 @@
-pub mod Asked
-pub mod Bounded
-pub mod Bounds
-pub mod Changes
-pub mod Checked
-pub mod Choosing
-pub mod Continued
-mod Cookies
-mod Distinct
-mod Ended
-pub mod Entered
-pub mod Exported
-pub mod Facts
-mod Faults
-pub mod FileMaps
-pub mod Firm
-pub mod Follows
-mod Handles
-pub mod Kept
-mod Listing
-pub mod Modes
-mod Mounted
-pub mod Moves
-pub mod Opened
-pub mod Ordered
-pub mod Pages
-mod Paging
-mod Pieces
-mod Results
-mod Posted
-mod PostedRefusals
-mod NameStays
-mod Numbered
-mod Readings
-pub mod Resolved
-mod Later
-mod Rising
-pub mod Locking
-pub mod Loose
-pub mod Planned
-mod Refused
-pub mod Renamed
-pub mod Replaced
-pub mod ReplacedState
+pub mod AskedCallLemmas
+pub mod ExportBoundsLemmas
+pub mod StateBoundsLemmas
+pub mod MapChangeLemmas
+pub mod NlmChecksLemmas
+pub mod ChoiceLemmas
+pub mod ContinuesLemmas
+mod CookieLemmas
+mod DistinctLemmas
+mod EndingGrantsLemmas
+pub mod NewObjectLemmas
+pub mod ExportedLemmas
+pub mod ChecksPassedLemmas
+mod ExportFaultLemmas
+pub mod FileMapLemmas
+pub mod FirmLemmas
+pub mod ProcedureFollowsLemmas
+mod HandleBytesLemmas
+pub mod StepKeepsLemmas
+mod PageBytesLemmas
+pub mod ModesLemmas
+mod MountedLemmas
+pub mod MovedNameLemmas
+pub mod OpeningStateLemmas
+pub mod ExportOrderLemmas
+pub mod PageLemmas
+mod PageByPageLemmas
+mod PathPiecesLemmas
+mod ResultSizes
+mod PostedFormLemmas
+mod PostedRefusalLemmas
+mod NameStaysLemmas
+mod HandleFitsLemmas
+mod ReadingLemmas
+pub mod ResolveLemmas
+mod ChangeTimeLemmas
+mod ChangeTimeRisesLemmas
+pub mod NlmStepLemmas
+pub mod LooseLemmas
+pub mod RenameChecksLemmas
+mod RefusedCallLemmas
+pub mod RenameStateLemmas
+pub mod RenumberedExportsLemmas
+pub mod ReplacedStateLemmas
 mod ReplySizes
-pub mod Roots
-pub mod Runs
-pub mod SideReplies
-pub mod Sums
-pub mod Texts
-mod Unlocked
-mod Visited
-mod Visits
-pub mod Waiting
-mod Weights
-pub mod WellFormed
-pub mod Setting
-mod Settling
-pub mod Within
-pub mod Taken
-pub mod Short
-mod Statuses
-pub mod Counted
-mod Given
+pub mod NamesCountedLemmas
+pub mod RunChainLemmas
+pub mod SideReplyLemmas
+pub mod MapSumLemmas
+pub mod LinkTextLemmas
+mod UnlockedFileLemmas
+mod VisitLemmas
+mod AnsweredVisitLemmas
+pub mod WaitingLemmas
+mod MapWeightLemmas
+pub mod WellFormedLemmas
+pub mod SetattrNamesLemmas
+mod SettlingLemmas
+pub mod WithinLemmas
+pub mod TakenNameLemmas
+pub mod ShortReplyLemmas
+mod StatusLemmas
+pub mod LinksCountedLemmas
+mod AnsweredHandleLemmas
 pub mod MountSizes

@@ -7,7 +7,7 @@ use Rattle.std.proofs.lemmas.List.Sums.{sum_by-cons}
 use Rattle.std.specs.List.{AllByRecursion, fold, list_any, sum_by}
 use Rattle.nfs_xdr.specs.Types.{Xdr, Opaque, Entries, Word, Value, padding}
 use Rattle.nfs_xdr.specs.Writing.{appended, with_arm, with_padded, with_word}
-use Rattle.nfs_wire.proofs.Sizes.{Adds, adds-pair, adds-word}
+use Rattle.nfs_wire.proofs.ResultSizes.{Adds, adds-pair, adds-word}
 use Rattle.side_wire.specs.Mount.{IsDirpath, IsHostName, dirpath, exportnode, exportnode_value, groups, host_name}
 use Rattle.side_wire.specs.Mount.{mount_outcome, mount_result_bytes, mountbody, mountbody_value}
 use Rattle.side_wire.specs.Mount.{mountres3}

@@ -1,7 +1,7 @@
 -- How many bytes the results have that show objects and tell nothing else: those of REMOVE, RMDIR, RENAME and LINK.
 use Rattle.std.proofs.Common.{◌≤◌, [], length, Option, Result, Ok, Err}
 use Rattle.nfs_xdr.specs.Types.{Pair}
-use Rattle.nfs_wire.proofs.Sizes.{adds-after, adds-done, adds-pair, adds-refused, adds-wcc}
+use Rattle.nfs_wire.proofs.ResultSizes.{adds-after, adds-done, adds-pair, adds-refused, adds-wcc}
 use Rattle.nfs_wire.specs.Attributes.{post_op_attr, wcc_data, after_value, wcc_value}
 use Rattle.nfs_wire.specs.Replies.{result_bytes}
 use Rattle.nfs_wire.specs.declared.attributes.Attributes.{Attributes}

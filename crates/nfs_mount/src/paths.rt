@@ -60,7 +60,7 @@ impl<'a> Iterator for Names<'a> {
 
 /// What is wrong with a path that no directory can have, whatever the exports: INVAL without a leading slash, with a
 /// NUL or a name `.` or `..`; else NAMETOOLONG with a name above 255 bytes. It takes no memory.
-#[tactic(auto, using(crate::proofs::Parts::any_dots, crate::proofs::Parts::any_long))]
+#[tactic(auto, using(crate::proofs::PathPartLemmas::any_dots, crate::proofs::PathPartLemmas::any_long))]
 pub fn path_fault(path: &[u8]) -> Option<MountStatus>
     ensures { result ≡ path_fault path.now }
 {

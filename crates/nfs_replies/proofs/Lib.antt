@@ -1,6 +1,6 @@
-mod Apart
-pub mod Alone
-pub mod Caches
-pub mod Hosts
-pub mod Lists
-pub mod Unkept
+mod OtherHostsLemmas
+pub mod OneOriginLemmas
+pub mod CacheLemmas
+pub mod HostMapLemmas
+pub mod KeptListLemmas
+pub mod NotKeptLemmas

@@ -1,4 +1,4 @@
-pub mod Fragments
-pub mod Streams
-pub mod Places
-pub mod Readers
+pub mod FragmentLemmas
+pub mod StreamLemmas
+pub mod FragmentByteLemmas
+pub mod OpaqueRestLemmas

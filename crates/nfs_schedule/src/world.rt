@@ -56,7 +56,7 @@ impl World {
     /// # Errors
     ///
     /// There is no memory for the workers. The engine is handed back.
-    #[tactic(auto, using(crate::proofs::Kept::kept_new))]
+    #[tactic(auto, using(crate::proofs::WorldKeepsLemmas::kept_new))]
     pub fn new(alloc: Global, engine: Engine, workers: usize) -> Result<World, (AllocError, Engine)>
         requires { IsAtRest engine }
         ensures ok { IfOk result (λ w. w ≡ record {
@@ -221,7 +221,7 @@ impl World {
 }
 
 /// So many idle workers.
-#[tactic(auto, using(crate::proofs::Kept::idle_more))]
+#[tactic(auto, using(crate::proofs::WorldKeepsLemmas::idle_more))]
 fn idle_workers(alloc: Global, count: usize) -> Result<Vec<Worker>, AllocError>
     ensures { IfOk result (λ workers. workers.items ≡ replicate count Worker.Idle) }
 {
@@ -233,7 +233,7 @@ fn idle_workers(alloc: Global, count: usize) -> Result<Vec<Worker>, AllocError>
 }
 
 /// Stops each of these workers, who are all that there are.
-#[tactic(auto, using(crate::proofs::Kept::rest_empty))]
+#[tactic(auto, using(crate::proofs::WorldKeepsLemmas::rest_empty))]
 fn stop_all(engine: &mut Engine, workers: Vec<Worker>)
     requires { IsKept engine.old workers.items }
     ensures rest { IsAtRest engine.new }

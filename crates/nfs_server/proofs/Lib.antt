@@ -1,11 +1,11 @@
-mod Answering
-pub mod Called
-mod Crossing
-mod Fragments
-mod Hearing
-mod Lines
-mod Marked
-pub mod Parsed
-pub mod Replied
-pub mod Sizes
-pub mod Starting
+mod AnsweredLinesLemmas
+pub mod CallbackTextLemmas
+mod CrossingLemmas
+mod FragmentPieceLemmas
+mod HeardInputLemmas
+mod LineLemmas
+mod FragmentHeaderLemmas
+pub mod CommandLineLemmas
+pub mod GrantedAnswerLemmas
+pub mod MessageSizes
+pub mod StartLemmas

@@ -1,5 +1,5 @@
-pub mod Adding
-pub mod Looked
-pub mod Marked
-pub mod Noted
-pub mod Prefixes
+pub mod LogAddLemmas
+pub mod MarkLookupLemmas
+pub mod MarksWrittenLemmas
+pub mod NotesLemmas
+pub mod PrefixLemmas

@@ -2,4 +2,4 @@ pub mod ArgumentLaws
 pub mod CallLaws
 pub mod ResultLaws
 pub mod VerifierLaws
-pub mod Sizes
+pub mod ResultSizes

@@ -4,7 +4,7 @@ use Rattle.std.specs.Int.{w64, to_be_bytes}
 use Rattle.nfs_xdr.specs.Laws.{IsBytes}
 use Rattle.nfs_xdr.specs.Reading.{read}
 use Rattle.nfs_xdr.specs.Types.{Hyper, Fixed, Spells}
-use Rattle.nfs_xdr.proofs.Spelling.{reading_finds_spelling, spelling_is_read}
+use Rattle.nfs_xdr.proofs.SpellingLaws.{reading_finds_spelling, spelling_is_read}
 
 pub read_of_hyper : (bytes rest : List ℕ) (n : ℕ) → IsBytes bytes → read Hyper bytes ≡ Ok (n, rest) → read (Fixed 8) bytes ≡ Ok (to_be_bytes w64 n, rest)
 read_of_hyper bytes rest n fits is =

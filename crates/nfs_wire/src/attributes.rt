@@ -156,7 +156,7 @@ fn read_optional_hyper(reader: &mut SharedReader<'_>) -> Result<Option<u64>, Xdr
 }
 
 /// How a time is set (`set_atime` and `set_mtime`).
-#[tactic(auto, using(nfs_xdr::proofs::Unions::unions), unfolding(nfs_xdr::specs::Reading::read))]
+#[tactic(auto, using(nfs_xdr::proofs::UnionArmLemmas::unions), unfolding(nfs_xdr::specs::Reading::read))]
 fn read_set_time(reader: &mut SharedReader<'_>) -> Result<SetTime, XdrError>
     ensures { ReadsFront set_time set_time_value reader.old reader.new result }
 {

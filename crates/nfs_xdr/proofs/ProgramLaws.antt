@@ -12,8 +12,8 @@ use Rattle.nfs_xdr.specs.Laws.{IsBytes}
 use Rattle.nfs_xdr.specs.Programs.{type_at, SpellsCall, IsFrontedBy, IsGarbage, SpellsOneCall, CallHoldsBytes}
 use Rattle.nfs_xdr.specs.Programs.{ReadsCall, arguments_error}
 use Rattle.nfs_xdr.specs.Reading.{read, holds_bytes, HoldsBytes}
-use Rattle.nfs_xdr.proofs.NoMemory.{no_want}
-use Rattle.nfs_xdr.proofs.Spelling.{spelling_is_unique, reading_finds_spelling, refusal_means_unspelled}
+use Rattle.nfs_xdr.proofs.NoMemoryLemmas.{no_want}
+use Rattle.nfs_xdr.proofs.SpellingLaws.{spelling_is_unique, reading_finds_spelling, refusal_means_unspelled}
 
 -- what is read is spelled by a front
 pub IsFrontedBy-read : {C : Type 0} (types : List Xdr) (procedure_of : C → ℕ)

@@ -12,7 +12,7 @@ use Rattle.side_wire.specs.declared.nlm.ShareMode.{ShareMode}
 use Rattle.side_wire.specs.declared.nlm.ShareMode.TheVariants as mode
 use Rattle.nfs_machine.specs.Bytes.{same_bytes}
 use Rattle.nfs_machine.specs.State.{Lock, Request, Share}
-use Rattle.nfs_machine.proofs.Modes.{one-owner, owner-itself}
+use Rattle.nfs_machine.proofs.ModesLemmas.{one-owner, owner-itself}
 use Rattle.nlm_ranges.specs.Buckets.{BucketValue, LockedValue}
 use Rattle.nlm_ranges.specs.Files.{FileValue}
 use Rattle.nlm_ranges.specs.Same.{equal_locks, equal_requests, same_access, same_bucket}

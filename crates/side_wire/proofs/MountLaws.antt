@@ -7,7 +7,7 @@ use Rattle.side_wire.specs.Mount.{SpellsMountArguments, mountres3, mount_arm, mo
 use Rattle.side_wire.specs.Mount.{mount_outcome}
 use Rattle.nfs_xdr.specs.Programs.{SpellsOneCall}
 use Rattle.nfs_xdr.proofs.ProgramLaws.{Makers, made, spells_one_call}
-use Rattle.nfs_xdr.proofs.Unions.{with_arm_is}
+use Rattle.nfs_xdr.proofs.UnionArmLemmas.{with_arm_is}
 use Rattle.side_wire.specs.declared.mount.MountCall.{MountCall}
 use Rattle.side_wire.specs.declared.mount.MountCall.TheVariants.{Null, Mnt, Dump, Unmount, UnmountAll, Export}
 use Rattle.side_wire.specs.declared.mount.MountStatus.{MountStatus}

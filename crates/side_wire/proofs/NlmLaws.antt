@@ -4,7 +4,7 @@ use Rattle.std.proofs.Common.{subst, ap}
 use Rattle.nfs_xdr.specs.declared.XdrError.{XdrError}
 use Rattle.nfs_xdr.specs.Types.{Xdr, Value, ◌&◌}
 use Rattle.nfs_xdr.specs.Reading.{arm_of}
-use Rattle.nfs_xdr.proofs.Unions.{read_at, ReadAt, unions}
+use Rattle.nfs_xdr.proofs.UnionArmLemmas.{read_at, ReadAt, unions}
 use Rattle.side_wire.specs.NlmTypes.{nlm4_lock, nlm4_holder, nlm4_testrply, test_arm, nlm4_testres, nlm4_res}
 use Rattle.side_wire.specs.NlmTypes.{nlm4_testargs, nlm4_lockargs, nlm4_cancargs, nlm4_unlockargs, nlm4_share}
 use Rattle.side_wire.specs.NlmTypes.{nlm4_shareargs, nlm4_notify, nlm_status_number, test_status_value}

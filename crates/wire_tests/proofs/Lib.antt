@@ -1,1 +1,1 @@
-mod Arrays
+mod ArrayLoopLemmas

@@ -1,4 +1,4 @@
-use Rattle.nfs_data.proofs.Answered.{null-promised}
+use Rattle.nfs_data.proofs.NullGetattrLemmas.{null-promised}
 use Rattle.nfs_data.proofs.null.Goals as goal
 
 pub returns-clause-ends : goal.returns-clause-ends

@@ -1,4 +1,4 @@
-use Rattle.nfs_mount.proofs.Listed.{null-promised}
+use Rattle.nfs_mount.proofs.MountListLemmas.{null-promised}
 use Rattle.nfs_mount.proofs.null.Goals as goal
 
 pub returns-clause-ends : goal.returns-clause-ends

@@ -114,7 +114,7 @@ pub(super) fn read_link(arguments: &mut SharedReader<'_>) -> Result<NfsCall, Xdr
 }
 
 /// How CREATE makes a file (`createhow3`, RFC 1813, 3.3.8).
-#[tactic(auto, using(nfs_xdr::proofs::Unions::unions), unfolding(nfs_xdr::specs::Reading::read))]
+#[tactic(auto, using(nfs_xdr::proofs::UnionArmLemmas::unions), unfolding(nfs_xdr::specs::Reading::read))]
 fn read_create_how(reader: &mut SharedReader<'_>) -> Result<CreateHow, XdrError>
     ensures { ReadsFront createhow3 create_how_value reader.old reader.new result }
 {
@@ -127,7 +127,7 @@ fn read_create_how(reader: &mut SharedReader<'_>) -> Result<CreateHow, XdrError>
 }
 
 /// What MKNOD makes (`mknoddata3`, RFC 1813, 3.3.11).
-#[tactic(auto, using(nfs_xdr::proofs::Unions::unions), unfolding(nfs_xdr::specs::Reading::read))]
+#[tactic(auto, using(nfs_xdr::proofs::UnionArmLemmas::unions), unfolding(nfs_xdr::specs::Reading::read))]
 fn read_special(reader: &mut SharedReader<'_>) -> Result<Special, XdrError>
     ensures { ReadsFront mknoddata3 special_value reader.old reader.new result }
 {

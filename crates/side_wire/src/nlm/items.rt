@@ -328,7 +328,7 @@ fn write_status(writer: &mut Writer, status: NlmStatus) -> Result<(), XdrError>
 }
 
 /// Writes what became of a TEST (`nlm4_testrply`).
-#[tactic(auto, using(nfs_xdr::proofs::Unions::unions), unfolding(nfs_xdr::specs::Writing::appended))]
+#[tactic(auto, using(nfs_xdr::proofs::UnionArmLemmas::unions), unfolding(nfs_xdr::specs::Writing::appended))]
 fn write_test_status(writer: &mut Writer, status: &TestStatus) -> Result<(), XdrError>
     requires { HasTestStatusForm status.now }
     ensures { WritesResult (nlm4_testrply, test_status_value status.now) writer.old writer.new result }

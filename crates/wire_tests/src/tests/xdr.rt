@@ -33,7 +33,7 @@ struct File<'a> {
     content: &'a [u8],
 }
 
-#[tactic(auto, using(nfs_xdr::proofs::Unions::unions), unfolding(nfs_xdr::specs::Reading::read))]
+#[tactic(auto, using(nfs_xdr::proofs::UnionArmLemmas::unions), unfolding(nfs_xdr::specs::Reading::read))]
 fn read_kind<'a>(reader: &mut Reader<'a>) -> Result<Kind<'a>, XdrError>
     ensures { ReadsFront kind
         (λ k. elim k as (λ _. Value kind) [ Text ↦ (0, tt) | Data s ↦ (1, s.now) | Exec s ↦ (2, s.now) ])
@@ -86,7 +86,7 @@ fn read_gids(alloc: Global, reader: &mut Reader<'_>) -> Result<Vec<u32>, XdrErro
     Ok(gids)
 }
 
-#[tactic(auto, using(nfs_xdr::proofs::Unions::unions), unfolding(nfs_xdr::specs::Writing::appended))]
+#[tactic(auto, using(nfs_xdr::proofs::UnionArmLemmas::unions), unfolding(nfs_xdr::specs::Writing::appended))]
 fn write_program(
     writer: &mut Writer,
     name: &[u8],

@@ -1,4 +1,4 @@
-use Rattle.machine_examples.proofs.Replies as file
+use Rattle.machine_examples.proofs.RepliesWorked as file
 use Rattle.machine_examples.proofs.worked.worked_file_replies.Goals as goal
 
 pub returns : goal.returns

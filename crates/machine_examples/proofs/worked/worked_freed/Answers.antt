@@ -1,4 +1,4 @@
-use Rattle.machine_examples.proofs.Settled.{worked-freed}
+use Rattle.machine_examples.proofs.SettlingWorked.{worked-freed}
 use Rattle.machine_examples.proofs.worked.worked_freed.Goals as goal
 
 pub returns : goal.returns

@@ -1,5 +1,5 @@
 use Rattle.std.proofs.Common.{refl, [], ◌∷◌}
-use Rattle.nfs_machine.proofs.Pages.{full-shrinks, page-ends, page-first, page-stops}
+use Rattle.nfs_machine.proofs.PageLemmas.{full-shrinks, page-ends, page-first, page-stops}
 use Rattle.nfs_machine.specs.Pages.{fits_full}
 use Rattle.machine_examples.specs.WorkedPages.{dot, dots}
 use Rattle.machine_examples.proofs.worked.worked_full_pages.Goals as goal

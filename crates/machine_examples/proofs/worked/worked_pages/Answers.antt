@@ -1,5 +1,5 @@
 use Rattle.std.proofs.Common.{refl, [], ◌∷◌}
-use Rattle.nfs_machine.proofs.Pages.{fits-shrinks, page-ends, page-first, page-none, page-stops}
+use Rattle.nfs_machine.proofs.PageLemmas.{fits-shrinks, page-ends, page-first, page-none, page-stops}
 use Rattle.nfs_machine.specs.Pages.{behind, fits}
 use Rattle.machine_examples.specs.WorkedPages.{a, b, c, d, e, f, dot, dots, full, later}
 use Rattle.machine_examples.proofs.worked.worked_pages.Goals as goal

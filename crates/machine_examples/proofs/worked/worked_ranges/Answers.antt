@@ -1,8 +1,8 @@
-use Rattle.machine_examples.proofs.Ranges.{locked}
+use Rattle.machine_examples.proofs.RangesWorked.{locked}
 use Rattle.std.proofs.Common.{refl}
 use Rattle.machine_examples.specs.WorkedLocks.{whole}
-use Rattle.nfs_machine.proofs.Changes.{differs-remove}
-use Rattle.nfs_machine.proofs.FileMaps.{of-other, of-there}
+use Rattle.nfs_machine.proofs.MapChangeLemmas.{differs-remove}
+use Rattle.nfs_machine.proofs.FileMapLemmas.{of-other, of-there}
 use Rattle.machine_examples.proofs.worked.worked_ranges.Goals as goal
 
 pub returns : goal.returns

@@ -2,7 +2,7 @@ use Rattle.std.proofs.Common.{◌==◌, [], ◌∷◌, refl}
 use Rattle.std.specs.FinMap.{empty, get-empty}
 use Rattle.std.specs.Ordering.{nat_cmp}
 use Rattle.machine_examples.specs.WorkedNames.{a_share, grant_of, lock_of, request_of}
-use Rattle.machine_examples.proofs.OneFile.{grants-gone, removed-first}
+use Rattle.machine_examples.proofs.OneFileLemmas.{grants-gone, removed-first}
 use Rattle.machine_examples.proofs.worked.worked_removals.Goals as goal
 
 pub returns : goal.returns

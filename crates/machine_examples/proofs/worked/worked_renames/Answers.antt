@@ -12,8 +12,8 @@ use Rattle.machine_examples.specs.Worked.{object}
 use Rattle.machine_examples.specs.WorkedCreate.{called_as, with_writable}
 use Rattle.machine_examples.specs.WorkedFiles.{time}
 use Rattle.machine_examples.specs.WorkedNames.{Moves, a_to_b, beside, fourth_entry, moved_among}
-use Rattle.nfs_machine.proofs.Facts.{entries_with, numbered, resolved-lives}
-use Rattle.nfs_machine.proofs.Moves.{move_end}
+use Rattle.nfs_machine.proofs.ChecksPassedLemmas.{entries_with, numbered, resolved-lives}
+use Rattle.nfs_machine.proofs.MovedNameLemmas.{move_end}
 use Rattle.machine_examples.proofs.RunWorked.{move_by, move_found}
 use Rattle.machine_examples.proofs.worked.worked_renames.Goals as goal
 

@@ -1,4 +1,4 @@
-use Rattle.machine_examples.proofs.Replies.{space, system, no_file, first_cookie, other_cookie, good_cookie}
+use Rattle.machine_examples.proofs.RepliesWorked.{space, system, no_file, first_cookie, other_cookie, good_cookie}
 use Rattle.machine_examples.proofs.worked.worked_root_replies.Goals as goal
 
 pub returns : goal.returns

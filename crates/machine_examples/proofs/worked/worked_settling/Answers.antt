@@ -1,4 +1,4 @@
-use Rattle.machine_examples.proofs.Settled.{worked-settling}
+use Rattle.machine_examples.proofs.SettlingWorked.{worked-settling}
 use Rattle.machine_examples.proofs.worked.worked_settling.Goals as goal
 
 pub returns : goal.returns

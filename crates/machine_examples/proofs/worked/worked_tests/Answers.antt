@@ -1,6 +1,6 @@
 use Rattle.std.proofs.Common.{refl}
-use Rattle.nfs_machine.proofs.Modes.{listed_locks_tell}
-use Rattle.machine_examples.proofs.Ranges.{at-30, part-of-it, at-99, at-the-end}
+use Rattle.nfs_machine.proofs.ModesLemmas.{listed_locks_tell}
+use Rattle.machine_examples.proofs.RangesWorked.{at-30, part-of-it, at-99, at-the-end}
 use Rattle.machine_examples.specs.WorkedLocks.{a, b, range_at, split, Exclusive}
 use Rattle.machine_examples.proofs.worked.worked_tests.Goals as goal
 

@@ -1,5 +1,5 @@
 use Rattle.std.proofs.Common.{refl, arith}
-use Rattle.machine_examples.proofs.LongestMatch.{one_left}
+use Rattle.machine_examples.proofs.LongestMatchLemmas.{one_left}
 use Rattle.nfs_machine.specs.MountSteps.{walk}
 use Rattle.machine_examples.specs.Worked.{open_export, lower_export}
 use Rattle.machine_examples.proofs.worked.worked_walks.Goals as goal

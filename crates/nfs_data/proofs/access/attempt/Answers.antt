@@ -3,9 +3,9 @@ use Rattle.std.proofs.lemmas.Result.{err_from_is_err_and}
 use Rattle.nfs_wire.specs.declared.calls.NfsCall.TheVariants as nfs
 use Rattle.nfs_machine.specs.declared.calls.Call.TheVariants as calls
 use Rattle.nfs_objects.specs.declared.address.Addr.TheVariants as addresses
-use Rattle.nfs_inodes.proofs.Halting.{known-ends, known-never_lacking}
-use Rattle.nfs_inodes.proofs.Ending.{means-as, naming, reading-exports}
-use Rattle.nfs_data.proofs.Telling.{access-tells, refused-promised, told-promised}
+use Rattle.nfs_inodes.proofs.ReaderHaltLemmas.{known-ends, known-never_lacking}
+use Rattle.nfs_inodes.proofs.NamedHaltLemmas.{means-as, naming, reading-exports}
+use Rattle.nfs_data.proofs.AttributeStepLemmas.{access-tells, refused-promised, told-promised}
 use Rattle.nfs_data.proofs.access.attempt.Goals as goal
 use Rattle.nfs_data.proofs.access.attempt.Goals.{in-Ok+in_ok-rights-in-Ok, in-Err}
 

@@ -1,5 +1,5 @@
 use Rattle.std.proofs.Common.{sym, ◌∙◌}
-use Rattle.nfs_data.proofs.Granting.{elsewhere, in-directory}
+use Rattle.nfs_data.proofs.AccessLemmas.{elsewhere, in-directory}
 use Rattle.nfs_data.proofs.access.granted.Goals as goal
 
 pub returns-in-Directory : goal.returns-in-Directory

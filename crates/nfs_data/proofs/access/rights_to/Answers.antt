@@ -1,8 +1,8 @@
 use Rattle.std.proofs.Common.{◌∙◌, ap, subst}
 use Rattle.nfs_machine.specs.AttributeSteps.{granted}
-use Rattle.nfs_inodes.proofs.Standing.{kind-is}
+use Rattle.nfs_inodes.proofs.StandsLemmas.{kind-is}
 use Rattle.nfs_inodes.specs.Known.{content_at, object_at}
-use Rattle.nfs_data.proofs.Granting.{Grants}
+use Rattle.nfs_data.proofs.AccessLemmas.{Grants}
 use Rattle.nfs_data.proofs.access.rights_to.Goals as goal
 
 pub returns-clause-rights : goal.returns-clause-rights

@@ -2,8 +2,8 @@ use Rattle.std.proofs.Common.{Ok, Err, refl, subst}
 use Rattle.std.proofs.lemmas.Result.{err_from_is_err_and}
 use Rattle.nfs_wire.specs.declared.calls.NfsCall.TheVariants as nfs
 use Rattle.nfs_machine.specs.declared.calls.Call.TheVariants as calls
-use Rattle.nfs_inodes.proofs.Ending.{means-as, naming}
-use Rattle.nfs_data.proofs.Committing.{Commits, commit-promised, refused-promised}
+use Rattle.nfs_inodes.proofs.NamedHaltLemmas.{means-as, naming}
+use Rattle.nfs_data.proofs.CommitLemmas.{Commits, commit-promised, refused-promised}
 use Rattle.nfs_data.proofs.commit.attempt.Goals as goal
 use Rattle.nfs_data.proofs.commit.attempt.Goals.{in-Ok, in-Err}
 

@@ -2,8 +2,8 @@ use Rattle.std.proofs.Common.{Ok, Err, refl}
 use Rattle.std.proofs.lemmas.Result.{err_from_is_err_and}
 use Rattle.nfs_wire.specs.declared.calls.NfsCall.TheVariants as nfs
 use Rattle.nfs_machine.specs.declared.calls.Call.TheVariants as calls
-use Rattle.nfs_inodes.proofs.Ending.{means-as, naming}
-use Rattle.nfs_data.proofs.Telling.{fsinfo-tells, refused-promised, told-promised}
+use Rattle.nfs_inodes.proofs.NamedHaltLemmas.{means-as, naming}
+use Rattle.nfs_data.proofs.AttributeStepLemmas.{fsinfo-tells, refused-promised, told-promised}
 use Rattle.nfs_data.proofs.file_systems.fsinfo.Goals as goal
 use Rattle.nfs_data.proofs.file_systems.fsinfo.Goals.{in-Ok, in-Err}
 

@@ -2,9 +2,9 @@ use Rattle.std.proofs.Common.{Ok, Err, refl}
 use Rattle.std.proofs.lemmas.Result.{err_from_is_err_and}
 use Rattle.nfs_wire.specs.declared.calls.NfsCall.TheVariants as nfs
 use Rattle.nfs_machine.specs.declared.calls.Call.TheVariants as calls
-use Rattle.nfs_inodes.proofs.Counting.{brings-as, usage-brings}
-use Rattle.nfs_inodes.proofs.Ending.{exported-as, means-as, naming}
-use Rattle.nfs_data.proofs.Spaces.{no-space-promised, space-promised}
+use Rattle.nfs_inodes.proofs.UsageChangeLemmas.{brings-as, usage-brings}
+use Rattle.nfs_inodes.proofs.NamedHaltLemmas.{exported-as, means-as, naming}
+use Rattle.nfs_data.proofs.FsstatLemmas.{no-space-promised, space-promised}
 use Rattle.nfs_data.proofs.fsstat.attempt.Goals as goal
 
 pub returns-in_err-known-clause-ends : goal.returns-in_err-known-clause-ends

@@ -1,4 +1,4 @@
-use Rattle.nfs_data.proofs.Spaces.{space-is}
+use Rattle.nfs_data.proofs.FsstatLemmas.{space-is}
 use Rattle.nfs_data.proofs.fsstat.space_left.Goals as goal
 
 pub returns : goal.returns

@@ -2,8 +2,8 @@ use Rattle.std.proofs.Common.{refl, sym}
 use Rattle.std.proofs.lemmas.Result.{err_from_is_err_and}
 use Rattle.nfs_wire.specs.declared.calls.NfsCall.TheVariants as nfs
 use Rattle.nfs_machine.specs.declared.calls.Call.TheVariants as calls
-use Rattle.nfs_data.proofs.Answered.{getattr-promised}
-use Rattle.nfs_inodes.proofs.Ending.{means-as, naming}
+use Rattle.nfs_data.proofs.NullGetattrLemmas.{getattr-promised}
+use Rattle.nfs_inodes.proofs.NamedHaltLemmas.{means-as, naming}
 use Rattle.nfs_data.proofs.getattr.attempt.Goals as goal
 
 pub returns-in_err-found-clause-ends : goal.returns-in_err-found-clause-ends

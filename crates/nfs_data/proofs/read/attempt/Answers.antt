@@ -2,10 +2,10 @@ use Rattle.std.proofs.Common.{Ok, Err, refl}
 use Rattle.std.proofs.lemmas.Result.{err_from_is_err_and}
 use Rattle.nfs_wire.specs.declared.calls.NfsCall.TheVariants as nfs
 use Rattle.nfs_machine.specs.declared.calls.Call.TheVariants as calls
-use Rattle.nfs_inodes.proofs.Ending.{asking, lives-as, means-as, naming, number-as}
+use Rattle.nfs_inodes.proofs.NamedHaltLemmas.{asking, lives-as, means-as, naming, number-as}
 use Rattle.nfs_inodes.specs.Blocks.{read_from}
-use Rattle.nfs_data.proofs.Placing.{read-covers}
-use Rattle.nfs_data.proofs.Telling.{read-tells, refused-promised, told-promised}
+use Rattle.nfs_data.proofs.DataRangeLemmas.{read-covers}
+use Rattle.nfs_data.proofs.AttributeStepLemmas.{read-tells, refused-promised, told-promised}
 use Rattle.nfs_data.proofs.read.attempt.Goals as goal
 use Rattle.nfs_data.proofs.read.attempt.Goals.{in-Ok+in_ok-read_of-in-Ok, in-Err}
 

@@ -1,5 +1,5 @@
 use Rattle.std.proofs.Common.{subst}
-use Rattle.nfs_data.proofs.Reading.{Checks, reads, refuses}
+use Rattle.nfs_data.proofs.ReadLemmas.{Checks, reads, refuses}
 use Rattle.nfs_data.proofs.read.read_of.Goals as goal
 
 pub returns-in_ok-read-in-Ok : goal.returns-in_ok-read-in-Ok

@@ -2,8 +2,8 @@ use Rattle.std.proofs.Common.{Ok, Err, refl}
 use Rattle.std.proofs.lemmas.Result.{err_from_is_err_and}
 use Rattle.nfs_wire.specs.declared.calls.NfsCall.TheVariants as nfs
 use Rattle.nfs_machine.specs.declared.calls.Call.TheVariants as calls
-use Rattle.nfs_inodes.proofs.Ending.{lives-as, means-as, naming, reading}
-use Rattle.nfs_data.proofs.Telling.{readlink-tells, refused-promised, told-promised}
+use Rattle.nfs_inodes.proofs.NamedHaltLemmas.{lives-as, means-as, naming, reading}
+use Rattle.nfs_data.proofs.AttributeStepLemmas.{readlink-tells, refused-promised, told-promised}
 use Rattle.nfs_data.proofs.readlink.attempt.Goals as goal
 use Rattle.nfs_data.proofs.readlink.attempt.Goals.{in-Ok+in_ok-text-in-Ok, in-Err}
 

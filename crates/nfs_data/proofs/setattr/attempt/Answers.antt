@@ -4,13 +4,13 @@ use Rattle.nfs_wire.specs.declared.calls.NfsCall.TheVariants as nfs
 use Rattle.nfs_machine.specs.declared.calls.Call.TheVariants as calls
 use Rattle.nfs_objects.specs.Promise.{Given, Held}
 use Rattle.nfs_objects.specs.Values.{DraftValue}
-use Rattle.nfs_inodes.proofs.Halting.{known-never_asked, stops-before}
-use Rattle.nfs_inodes.proofs.Ending.{halting, lives-as, means-as, naming, reading}
+use Rattle.nfs_inodes.proofs.ReaderHaltLemmas.{known-never_asked, stops-before}
+use Rattle.nfs_inodes.proofs.NamedHaltLemmas.{halting, lives-as, means-as, naming, reading}
 use Rattle.nfs_inodes.specs.Known.{weak_of}
-use Rattle.nfs_inodes.proofs.Showing.{shown-so}
-use Rattle.nfs_data.proofs.Asking.{knows-object}
-use Rattle.nfs_data.proofs.Changing.{changed-promised, refused-promised, setattr-changes}
-use Rattle.nfs_data.proofs.Setting.{shown-as}
+use Rattle.nfs_inodes.proofs.ShownKindLemmas.{shown-so}
+use Rattle.nfs_data.proofs.NamedObjectLemmas.{knows-object}
+use Rattle.nfs_data.proofs.ChangeStepLemmas.{changed-promised, refused-promised, setattr-changes}
+use Rattle.nfs_data.proofs.SetattrLemmas.{shown-as}
 use Rattle.nfs_objects.specs.Calls.{addresses_of}
 use Rattle.nfs_data.proofs.setattr.attempt.Goals as goal
 use Rattle.nfs_data.proofs.setattr.attempt.Goals.{in-Ok+in_ok-done-in-Ok+in_ok-after-in-Ok, in-Err}

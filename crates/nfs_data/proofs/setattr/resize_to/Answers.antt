@@ -1,7 +1,7 @@
 use Rattle.std.proofs.Common.{◌≡◌, Option, false, true, IfSome, MatchResult, is_none, option_map, subst, sym}
 use Rattle.nfs_machine.specs.Data.{resized}
 use Rattle.nfs_machine.specs.Times.{time_of}
-use Rattle.nfs_objects.proofs.Promised.{turns-none}
+use Rattle.nfs_objects.proofs.PromiseLemmas.{turns-none}
 use Rattle.nfs_objects.specs.Knows.{Turns}
 use Rattle.nfs_inodes.specs.Kinds.{IsShown}
 use Rattle.nfs_inodes.specs.Makes.{bytes_changed, size_set}

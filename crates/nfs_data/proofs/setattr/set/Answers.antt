@@ -6,14 +6,14 @@ use Rattle.nfs_machine.specs.declared.calls.Call.TheVariants as calls
 use Rattle.nfs_objects.specs.Calls.{addresses_of, named_by}
 use Rattle.nfs_objects.specs.Values.{DraftValue}
 use Rattle.nfs_objects.specs.declared.address.Addr.TheVariants as addresses
-use Rattle.nfs_inodes.proofs.Counting.{usage-lives-first}
-use Rattle.nfs_inodes.proofs.Halting.{any-stops, exports-stop-at, known-never_lacking, lives-stops, stops-before}
-use Rattle.nfs_inodes.proofs.Standing.{known-lives}
+use Rattle.nfs_inodes.proofs.UsageChangeLemmas.{usage-lives-first}
+use Rattle.nfs_inodes.proofs.ReaderHaltLemmas.{any-stops, exports-stop-at, known-never_lacking, lives-stops, stops-before}
+use Rattle.nfs_inodes.proofs.StandsLemmas.{known-lives}
 use Rattle.nfs_inodes.specs.Makes.{size_set}
 use Rattle.nfs_inodes.specs.Stops.{KnowsAt}
-use Rattle.nfs_data.proofs.Setting.{Checks, file-as, file-shown, none-as, refused-does, set-does}
+use Rattle.nfs_data.proofs.SetattrLemmas.{Checks, file-as, file-shown, none-as, refused-does, set-does}
 use Rattle.nfs_data.specs.declared.setattr.NewSize.{NewSize}
-use Rattle.nfs_inodes.proofs.Composing.{counted-stops}
+use Rattle.nfs_inodes.proofs.MakerChainLemmas.{counted-stops}
 use Rattle.nfs_data.proofs.setattr.set.Goals as goal
 
 pub returns-in_err-exports-clause-does : goal.returns-in_err-exports-clause-does

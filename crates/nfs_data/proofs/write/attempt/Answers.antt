@@ -4,10 +4,10 @@ use Rattle.nfs_wire.specs.declared.calls.NfsCall.TheVariants as nfs
 use Rattle.nfs_machine.specs.declared.calls.Call.TheVariants as calls
 use Rattle.nfs_objects.specs.Promise.{Given, Held}
 use Rattle.nfs_objects.specs.Values.{DraftValue}
-use Rattle.nfs_inodes.proofs.Halting.{stops-before}
-use Rattle.nfs_inodes.proofs.Ending.{lives-as, means-as, naming, number-as, reading}
-use Rattle.nfs_inodes.proofs.Showing.{shown-so}
-use Rattle.nfs_data.proofs.Changing.{changed-promised, refused-promised, write-changes}
+use Rattle.nfs_inodes.proofs.ReaderHaltLemmas.{stops-before}
+use Rattle.nfs_inodes.proofs.NamedHaltLemmas.{lives-as, means-as, naming, number-as, reading}
+use Rattle.nfs_inodes.proofs.ShownKindLemmas.{shown-so}
+use Rattle.nfs_data.proofs.ChangeStepLemmas.{changed-promised, refused-promised, write-changes}
 use Rattle.nfs_objects.specs.Calls.{addresses_of}
 use Rattle.nfs_data.proofs.write.attempt.Goals as goal
 use Rattle.nfs_data.proofs.write.attempt.Goals.{in-Ok+in_ok-result-in-Ok+in_ok-wcc-in-Ok, in-Err}

@@ -9,23 +9,23 @@ use Rattle.nfs_machine.specs.Data.{written}
 use Rattle.nfs_machine.specs.DataSteps.{write_count}
 use Rattle.nfs_machine.specs.Times.{time_of}
 use Rattle.nfs_machine.specs.declared.calls.Call.TheVariants as calls
-use Rattle.nfs_objects.proofs.Knows.{stops-wider}
+use Rattle.nfs_objects.proofs.KnowsLemmas.{stops-wider}
 use Rattle.nfs_objects.specs.Asks.{IsThere}
 use Rattle.nfs_objects.specs.Calls.{named_by}
 use Rattle.nfs_objects.specs.Knows.{Turns}
 use Rattle.nfs_objects.specs.Values.{DraftValue}
 use Rattle.nfs_objects.specs.declared.address.Addr.TheVariants as addresses
-use Rattle.nfs_inodes.proofs.Counting.{usage-lives-first}
-use Rattle.nfs_inodes.proofs.Standing.{known-lives}
+use Rattle.nfs_inodes.proofs.UsageChangeLemmas.{usage-lives-first}
+use Rattle.nfs_inodes.proofs.StandsLemmas.{known-lives}
 use Rattle.nfs_inodes.specs.Blocks.{written_from}
 use Rattle.nfs_inodes.specs.Kinds.{IsShown}
 use Rattle.nfs_inodes.specs.Known.{HasNumber}
 use Rattle.nfs_inodes.specs.Makes.{bytes_changed}
 use Rattle.nfs_inodes.specs.declared.found.Known.{Known}
-use Rattle.nfs_data.proofs.Placing.{write-covers}
-use Rattle.nfs_data.proofs.Writing.{Checks, nothing-does, refused-does, written-does}
+use Rattle.nfs_data.proofs.DataRangeLemmas.{write-covers}
+use Rattle.nfs_data.proofs.WriteLemmas.{Checks, nothing-does, refused-does, written-does}
 use Rattle.nfs_data.specs.Writes.{bytes_after}
-use Rattle.nfs_inodes.proofs.Halting.{exports-stop-at}
+use Rattle.nfs_inodes.proofs.ReaderHaltLemmas.{exports-stop-at}
 use Rattle.nfs_data.proofs.write.store.Goals as goal
 use Rattle.nfs_data.proofs.write.store.Goals.{then-answer-gt0+in_ok-write, else-answer-gt0}
 

@@ -1,4 +1,4 @@
-use Rattle.nfs_engine.proofs.Sizes.{answer_size}
+use Rattle.nfs_engine.proofs.AnswerSizes.{answer_size}
 use Rattle.nfs_engine.proofs.answers.write_success.Goals as goal
 
 pub finish_record-requires-clause-size : goal.finish_record-requires-clause-size

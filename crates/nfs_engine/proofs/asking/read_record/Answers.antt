@@ -1,4 +1,4 @@
-use Rattle.nfs_engine.proofs.Garbage.{garbage_early}
+use Rattle.nfs_engine.proofs.GarbageArgumentsLemmas.{garbage_early}
 use Rattle.nfs_engine.proofs.asking.read_record.Goals as goal
 
 pub returns-in-Err-Garbage : goal.returns-in-Err-Garbage

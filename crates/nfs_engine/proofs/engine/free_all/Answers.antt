@@ -1,7 +1,7 @@
 use Rattle.std.proofs.Common.{◌∙◌, List, ap, arith, set, subst, sym, take}
 use Rattle.nfs_objects.specs.Values.{Seen, seen_of}
-use Rattle.nfs_engine.proofs.Freed.{freeing_one, freeing_other, is_of}
-use Rattle.nfs_engine.proofs.Going.{further}
+use Rattle.nfs_engine.proofs.ShardLetGoLemmas.{freeing_one, freeing_other, is_of}
+use Rattle.nfs_engine.proofs.LetGoEntryLemmas.{further}
 use Rattle.nfs_engine.specs.Engine.{Frees}
 use Rattle.nfs_engine.proofs.engine.free_all.Goals as goal
 

@@ -1,5 +1,5 @@
 use Rattle.std.proofs.Common.{arith}
-use Rattle.nfs_engine.proofs.Sixteen.{held_by_own, settled_next, settled_other}
+use Rattle.nfs_engine.proofs.ShardsSettledLemmas.{held_by_own, settled_next, settled_other}
 use Rattle.nfs_engine.proofs.engine.settle_all.Goals as goal
 use Rattle.nfs_engine.proofs.engine.settle_all.Goals.{then-written-index, else-written-index}
 

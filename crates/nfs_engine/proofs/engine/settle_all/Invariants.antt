@@ -1,6 +1,6 @@
 use Rattle.std.proofs.Common.{map}
 use Rattle.nfs_objects.specs.Values.{write_value}
-use Rattle.nfs_engine.proofs.Sixteen.{SettledTo}
+use Rattle.nfs_engine.proofs.ShardsSettledLemmas.{SettledTo}
 use Rattle.nfs_engine.proofs.engine.settle_all.Given as goal
 
 abbrev pub invariant-loop-index : goal.invariant-loop-index

@@ -4,7 +4,7 @@ use Rattle.nfs_objects.specs.Values.{write_value}
 use Rattle.nfs_objects.specs.declared.address.Addr.{Addr}
 use Rattle.nfs_objects.specs.declared.change.Write.{Write}
 use Rattle.nfs_objects.specs.declared.object.Object.{Object}
-use Rattle.nfs_engine.proofs.Placed.{one_further, places_more}
+use Rattle.nfs_engine.proofs.WrittenShardsLemmas.{one_further, places_more}
 use Rattle.nfs_engine.specs.Engine.{ArePlaces}
 use Rattle.nfs_engine.proofs.engine.written_shards.Goals as goal
 

@@ -1,4 +1,4 @@
-use Rattle.nfs_engine.proofs.Frames.{leaving_on}
+use Rattle.nfs_engine.proofs.OtherCallsLemmas.{leaving_on}
 use Rattle.nfs_engine.proofs.laws.others_leave_on.Goals as goal
 
 pub returns : goal.returns

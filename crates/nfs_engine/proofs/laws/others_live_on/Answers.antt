@@ -1,4 +1,4 @@
-use Rattle.nfs_engine.proofs.Frames.{lives_on}
+use Rattle.nfs_engine.proofs.OtherCallsLemmas.{lives_on}
 use Rattle.nfs_engine.proofs.laws.others_live_on.Goals as goal
 
 pub returns : goal.returns

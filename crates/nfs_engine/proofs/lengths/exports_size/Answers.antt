@@ -2,7 +2,7 @@ use Rattle.std.proofs.Common.{ℕ, ◌-◌, ◌^◌, ◌∙◌, List, ap, arith,
 use Rattle.std.proofs.lemmas.List.{take_all}
 use Rattle.nfs_machine.specs.Exports.{export_value}
 use Rattle.nfs_machine.specs.declared.exports.Export.{Export}
-use Rattle.nfs_engine.proofs.Counted.{mapped-sum, sum-more}
+use Rattle.nfs_engine.proofs.SaturatingSumLemmas.{mapped-sum, sum-more}
 use Rattle.nfs_engine.specs.Commits.{export_bytes}
 use Rattle.nfs_engine.proofs.lengths.exports_size.Goals as goal
 

@@ -1,6 +1,6 @@
 use Rattle.std.proofs.Common.{ℕ, ◌-◌, ◌^◌, ◌∙◌, List, ap, arith, length, min, sum_by}
 use Rattle.std.proofs.lemmas.List.{take_all}
-use Rattle.nfs_engine.proofs.Counted.{sum-more}
+use Rattle.nfs_engine.proofs.SaturatingSumLemmas.{sum-more}
 use Rattle.nfs_engine.proofs.lengths.texts_size.Goals as goal
 
 pub loop-text-preserved : goal.loop-text-preserved

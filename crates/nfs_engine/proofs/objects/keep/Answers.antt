@@ -1,10 +1,10 @@
 use Rattle.std.proofs.Common.{◌∙◌, ◌+◌, ◌<◌, ◌≤◌, Bool, Some, cond, ap, option_map, subst, sym}
 use Rattle.std.specs.Arc.{arc_value}
 use Rattle.indexmap.specs.IndexMap.{UpdatesBy, spare}
-use Rattle.nfs_objects.proofs.Looked.{same_address, so-ok}
-use Rattle.nfs_engine.proofs.Standing.{given-some}
-use Rattle.nfs_engine.proofs.Written.{absent-needs, absent-store, put-keeps-slots, put_store, there-keeps}
-use Rattle.nfs_engine.proofs.Written.{there-store}
+use Rattle.nfs_objects.proofs.ViewLookupLemmas.{same_address, so-ok}
+use Rattle.nfs_engine.proofs.StandingCountLemmas.{given-some}
+use Rattle.nfs_engine.proofs.StoreWriteLemmas.{absent-needs, absent-store, put-keeps-slots, put_store, there-keeps}
+use Rattle.nfs_engine.proofs.StoreWriteLemmas.{there-store}
 use Rattle.nfs_engine.specs.Tables.{KeptValue, kept_slots, store_of}
 use Rattle.nfs_engine.proofs.objects.keep.Goals as goal
 

@@ -1,4 +1,4 @@
-use Rattle.nfs_engine.proofs.Written.{idle-store}
+use Rattle.nfs_engine.proofs.StoreWriteLemmas.{idle-store}
 use Rattle.nfs_engine.proofs.objects.take_out.Goals as goal
 
 pub returns : goal.returns

@@ -1,6 +1,6 @@
 use Rattle.std.proofs.Common.{arith}
 use Rattle.nfs_machine.specs.Exports.{export_value}
-use Rattle.nfs_engine.proofs.Openings.{few_exports, first_write, more_writes}
+use Rattle.nfs_engine.proofs.OpeningWritesLemmas.{few_exports, first_write, more_writes}
 use Rattle.nfs_engine.proofs.opening.opening_writes.Goals as goal
 
 pub loop-index-init : goal.loop-index-init

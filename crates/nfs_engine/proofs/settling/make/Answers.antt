@@ -1,5 +1,5 @@
 use Rattle.std.proofs.Common.{rules, sym, ◌∙◌, arith}
-use Rattle.nfs_engine.proofs.Making.{value_held, value_one, value_other}
+use Rattle.nfs_engine.proofs.WritesInShardLemmas.{value_held, value_one, value_other}
 use Rattle.nfs_engine.proofs.settling.make.Goals as goal
 
 pub loop-place-preserved-then-shard_index-index : goal.loop-place-preserved-then-shard_index-index

@@ -1,6 +1,6 @@
 use Rattle.std.proofs.Common.{◌≡◌, length, map}
 use Rattle.nfs_objects.specs.Values.{write_value}
-use Rattle.nfs_engine.proofs.Making.{MakingIn}
+use Rattle.nfs_engine.proofs.WritesInShardLemmas.{MakingIn}
 use Rattle.nfs_engine.proofs.settling.make.Given as goal
 
 abbrev pub invariant-loop-place : goal.invariant-loop-place

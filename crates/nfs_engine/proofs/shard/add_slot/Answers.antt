@@ -1,5 +1,5 @@
 use Rattle.nfs_engine.specs.Shards.{slot_value}
-use Rattle.nfs_engine.proofs.Found.{found-changed}
+use Rattle.nfs_engine.proofs.AddressMapLemmas.{found-changed}
 use Rattle.nfs_engine.proofs.shard.add_slot.Goals as goal
 use Rattle.std.proofs.Common.{Some}
 

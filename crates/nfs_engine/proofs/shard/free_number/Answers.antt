@@ -2,7 +2,7 @@ use Rattle.std.proofs.Common.{◌∙◌, ap, sym}
 use Rattle.slab.specs.Slab.{Slab}
 use Rattle.nfs_engine.specs.declared.slot.Slot.{Slot as OneSlot}
 use Rattle.nfs_engine.specs.Shards.{number_at}
-use Rattle.nfs_engine.proofs.Reserving.{moved, moved_from, moved_twice, not_found}
+use Rattle.nfs_engine.proofs.ReserveLemmas.{moved, moved_from, moved_twice, not_found}
 use Rattle.nfs_engine.proofs.shard.free_number.Goals as goal
 
 pub returns-in_default-swap_remove-clause-free : goal.returns-in_default-swap_remove-clause-free

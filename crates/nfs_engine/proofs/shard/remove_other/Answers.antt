@@ -1,6 +1,6 @@
 use Rattle.std.proofs.Common.{None}
 use Rattle.nfs_engine.specs.Shards.{slot_value}
-use Rattle.nfs_engine.proofs.Found.{found-changed}
+use Rattle.nfs_engine.proofs.AddressMapLemmas.{found-changed}
 use Rattle.nfs_engine.proofs.shard.remove_other.Goals as goal
 
 pub returns : goal.returns

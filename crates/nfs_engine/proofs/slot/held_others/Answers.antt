@@ -1,7 +1,7 @@
 use Rattle.std.proofs.Common.{Bool, subst}
 use Rattle.std.specs.List.{IsDistinct}
 use Rattle.indexmap.specs.IndexMap.{keys}
-use Rattle.nfs_objects.proofs.Looked.{tested}
+use Rattle.nfs_objects.proofs.ViewLookupLemmas.{tested}
 use Rattle.nfs_objects.specs.declared.address.Addr.{Addr}
 use Rattle.nfs_engine.proofs.slot.held_others.Goals as goal
 

@@ -1,4 +1,4 @@
-use Rattle.nfs_engine.proofs.Opener.{filled-once, taken-held}
+use Rattle.nfs_engine.proofs.OpeningAddressLemmas.{filled-once, taken-held}
 use Rattle.nfs_engine.proofs.starting.open.Goals as goal
 
 pub fill-requires : goal.fill-requires

@@ -1,7 +1,7 @@
 use Rattle.std.proofs.Common.{map, ap, arith}
 use Rattle.nfs_objects.specs.Values.{write_value}
-use Rattle.nfs_engine.proofs.Filled.{making_more}
-use Rattle.nfs_engine.proofs.Opened.{nobody_there}
+use Rattle.nfs_engine.proofs.ShardsFilledLemmas.{making_more}
+use Rattle.nfs_engine.proofs.OpenedShardsLemmas.{nobody_there}
 use Rattle.nfs_engine.proofs.starting.open_all.Goals as goal
 
 pub open-requires : goal.open-requires

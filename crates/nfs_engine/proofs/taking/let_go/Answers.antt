@@ -1,6 +1,6 @@
 use Rattle.std.proofs.Common.{List, take, sym, ◌∙◌, subst}
 use Rattle.nfs_objects.specs.Values.{Seen, seen_of}
-use Rattle.nfs_engine.proofs.Going.{further, one_goes, other_stays}
+use Rattle.nfs_engine.proofs.LetGoEntryLemmas.{further, one_goes, other_stays}
 use Rattle.nfs_engine.specs.Taking.{LetsGo}
 use Rattle.nfs_engine.proofs.taking.let_go.Goals as goal
 

@@ -1,7 +1,7 @@
 use Rattle.std.proofs.lemmas.Result.{err_from_is_err_and}
 use Rattle.nfs_objects.specs.declared.address.Addr.TheVariants as addresses
-use Rattle.nfs_inodes.proofs.Halting.{known-first, lacking-first-at, lacking-stops}
-use Rattle.nfs_inodes.proofs.Standing.{exports-there}
+use Rattle.nfs_inodes.proofs.ReaderHaltLemmas.{known-first, lacking-first-at, lacking-stops}
+use Rattle.nfs_inodes.proofs.StandsLemmas.{exports-there}
 use Rattle.nfs_inodes.proofs.found.exports.Goals as goal
 
 pub returns-clause-exports : goal.returns-clause-exports

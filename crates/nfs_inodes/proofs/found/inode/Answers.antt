@@ -2,7 +2,7 @@ use Rattle.std.proofs.Common.{inl}
 use Rattle.std.proofs.lemmas.Result.{err_from_is_err_and}
 use Rattle.nfs_objects.specs.Calls.{addresses_of}
 use Rattle.nfs_objects.specs.declared.address.Addr.TheVariants as addresses
-use Rattle.nfs_inodes.proofs.Halting.{exports-stop-at, lacking-stops}
+use Rattle.nfs_inodes.proofs.ReaderHaltLemmas.{exports-stop-at, lacking-stops}
 use Rattle.nfs_inodes.proofs.found.inode.Goals as goal
 
 pub returns-in_err-exports-clause-inode : goal.returns-in_err-exports-clause-inode

@@ -1,11 +1,11 @@
 use Rattle.std.proofs.Common.{◌≡◌, Err, IfSome, IsSome, Some, ap, option_map, sym, subst, ◌∙◌}
 use Rattle.nfs_machine.specs.declared.handle.Handle.{Handle}
 use Rattle.std.proofs.lemmas.Result.{err_from_is_err_and}
-use Rattle.nfs_inodes.proofs.Halting.{bad-first, exports-first, exports-once, exports-stop, lacking-first}
-use Rattle.nfs_inodes.proofs.Halting.{lacking-once, object-first, object-stops, reads-at}
-use Rattle.nfs_inodes.proofs.Counting.{brings-usage}
-use Rattle.nfs_inodes.proofs.Naming.{bad-handle, named-there, nothing-there}
-use Rattle.nfs_inodes.proofs.Standing.{known-lives}
+use Rattle.nfs_inodes.proofs.ReaderHaltLemmas.{bad-first, exports-first, exports-once, exports-stop, lacking-first}
+use Rattle.nfs_inodes.proofs.ReaderHaltLemmas.{lacking-once, object-first, object-stops, reads-at}
+use Rattle.nfs_inodes.proofs.UsageChangeLemmas.{brings-usage}
+use Rattle.nfs_inodes.proofs.HandleNamesLemmas.{bad-handle, named-there, nothing-there}
+use Rattle.nfs_inodes.proofs.StandsLemmas.{known-lives}
 use Rattle.nfs_objects.specs.Knows.{ShowsExport}
 use Rattle.nfs_objects.specs.Values.{known_at}
 use Rattle.nfs_objects.specs.declared.address.Addr.TheVariants as addresses

@@ -1,7 +1,7 @@
 use Rattle.std.proofs.Common.{subst}
 use Rattle.std.specs.Prelude.{option_copied}
-use Rattle.nfs_inodes.proofs.Showing.{known-shown}
-use Rattle.nfs_inodes.proofs.Standing.{none-lives, shows-known, some-lives}
+use Rattle.nfs_inodes.proofs.ShownKindLemmas.{known-shown}
+use Rattle.nfs_inodes.proofs.StandsLemmas.{none-lives, shows-known, some-lives}
 use Rattle.nfs_inodes.specs.Known.{HasInode}
 use Rattle.nfs_inodes.proofs.found.object.Goals as goal
 

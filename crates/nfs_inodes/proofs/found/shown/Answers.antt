@@ -1,5 +1,5 @@
 use Rattle.std.proofs.Common.{subst}
-use Rattle.nfs_inodes.proofs.Standing.{shown-none, shown-some}
+use Rattle.nfs_inodes.proofs.StandsLemmas.{shown-none, shown-some}
 use Rattle.nfs_inodes.specs.Known.{IsObject}
 use Rattle.nfs_inodes.proofs.found.shown.Goals as goal
 

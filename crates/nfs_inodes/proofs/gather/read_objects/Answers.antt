@@ -2,7 +2,7 @@ use Rattle.std.proofs.Common.{map, take, refl, sym, subst}
 use Rattle.nfs_machine.specs.State.{Entry}
 use Rattle.nfs_objects.specs.Asks.{IsThere}
 use Rattle.nfs_objects.specs.declared.address.Addr.TheVariants as addresses
-use Rattle.nfs_inodes.proofs.Taking.{each-mapped, map-more}
+use Rattle.nfs_inodes.proofs.ListFrontLemmas.{each-mapped, map-more}
 use Rattle.nfs_inodes.specs.Gathers.{Gathers}
 use Rattle.nfs_inodes.specs.Listing.{listed_entry}
 use Rattle.nfs_inodes.proofs.gather.read_objects.Goals as goal

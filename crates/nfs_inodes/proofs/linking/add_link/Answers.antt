@@ -1,11 +1,11 @@
 use Rattle.std.proofs.Common.{refl, ◌∙◌, ◌++◌}
 use Rattle.std.proofs.lemmas.Result.{err_from_is_err_and}
 use Rattle.nfs_machine.specs.Times.{time_of}
-use Rattle.nfs_objects.proofs.Knows.{among-behind, covers-among}
+use Rattle.nfs_objects.proofs.KnowsLemmas.{among-behind, covers-among}
 use Rattle.nfs_objects.specs.Calls.{addresses_of}
-use Rattle.nfs_inodes.proofs.Composing.{turned-within}
-use Rattle.nfs_inodes.proofs.Counting.{stands-first}
-use Rattle.nfs_inodes.proofs.WriteAsks.{front-stops}
+use Rattle.nfs_inodes.proofs.MakerChainLemmas.{turned-within}
+use Rattle.nfs_inodes.proofs.UsageChangeLemmas.{stands-first}
+use Rattle.nfs_inodes.proofs.WriteAsksLemmas.{front-stops}
 use Rattle.nfs_inodes.specs.Entered.{grown_at}
 use Rattle.nfs_inodes.specs.Links.{link_gained, linked_so}
 use Rattle.nfs_inodes.specs.Makes.{name_added}

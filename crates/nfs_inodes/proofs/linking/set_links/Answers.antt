@@ -2,7 +2,7 @@ use Rattle.std.proofs.Common.{subst}
 use Rattle.std.specs.Prelude.{option_copied}
 use Rattle.nfs_machine.specs.Shown.{touched}
 use Rattle.nfs_machine.specs.Times.{time_of}
-use Rattle.nfs_inodes.proofs.Editing.{edited-none, linked-turns}
+use Rattle.nfs_inodes.proofs.EditInodeLemmas.{edited-none, linked-turns}
 use Rattle.nfs_inodes.specs.Known.{HasInode}
 use Rattle.nfs_inodes.proofs.linking.set_links.Goals as goal
 

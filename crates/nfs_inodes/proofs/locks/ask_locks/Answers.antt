@@ -1,7 +1,7 @@
 use Rattle.std.proofs.Common.{◌≡◌, subst}
 use Rattle.nfs_objects.specs.declared.address.Addr.TheVariants as addresses
-use Rattle.nfs_inodes.proofs.Counting.{on-ok}
-use Rattle.nfs_inodes.proofs.Gone.{locks-asked}
+use Rattle.nfs_inodes.proofs.UsageChangeLemmas.{on-ok}
+use Rattle.nfs_inodes.proofs.LastNameAsksLemmas.{locks-asked}
 use Rattle.nfs_inodes.specs.Asking.{with_wish}
 use Rattle.nfs_inodes.proofs.locks.ask_locks.Goals as goal
 

@@ -4,7 +4,7 @@ use Rattle.std.proofs.lemmas.Result.{err_from_is_err_and}
 use Rattle.nlm_ranges.specs.Buckets.{IsInserted}
 use Rattle.nfs_objects.specs.Stands.{bucket_in}
 use Rattle.nfs_objects.specs.declared.address.Addr.TheVariants as addresses
-use Rattle.nfs_inodes.proofs.Halting.{lacking-stops}
+use Rattle.nfs_inodes.proofs.ReaderHaltLemmas.{lacking-stops}
 use Rattle.nfs_inodes.proofs.locks.bucket_with.Goals as goal
 use Rattle.nfs_inodes.proofs.locks.bucket_with.Goals.{After-files-files}
 use Rattle.nfs_inodes.proofs.locks.bucket_with.Goals.{in-Some+in_ok-bucket-in-Some, in-None+in_ok-bucket-in-None}

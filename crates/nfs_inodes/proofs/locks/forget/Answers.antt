@@ -3,8 +3,8 @@ use Rattle.std.specs.Prelude.{option_copied}
 use Rattle.std.proofs.lemmas.Result.{err_from_is_err_and}
 use Rattle.nlm_ranges.specs.Buckets.{no_bucket}
 use Rattle.nfs_objects.specs.Stands.{bucket_in, stored_bucket}
-use Rattle.nfs_inodes.proofs.Bucketing.{forgotten}
-use Rattle.nfs_inodes.proofs.Placing.{forgets, locks-keep, locks-stop, none-then, none-there, nothing-changed}
+use Rattle.nfs_inodes.proofs.BucketPutLemmas.{forgotten}
+use Rattle.nfs_inodes.proofs.LocksPlaceLemmas.{forgets, locks-keep, locks-stop, none-then, none-there, nothing-changed}
 use Rattle.nfs_inodes.specs.Counts.{KeepsInodes}
 use Rattle.nfs_inodes.specs.Locks.{HasNone}
 use Rattle.nfs_inodes.proofs.locks.forget.Goals as goal

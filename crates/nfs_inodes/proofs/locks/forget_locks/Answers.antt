@@ -3,9 +3,9 @@ use Rattle.std.proofs.lemmas.Result.{err_from_is_err_and}
 use Rattle.nfs_objects.specs.Knows.{Turns}
 use Rattle.nfs_objects.specs.Stands.{map_in}
 use Rattle.nfs_objects.specs.declared.object.Inode.{Inode}
-use Rattle.nfs_inodes.proofs.Bucketing.{forgotten, no-file-none}
-use Rattle.nfs_inodes.proofs.Forgetting.{forget-result, inode-lacked, none-where}
-use Rattle.nfs_inodes.proofs.Placing.{nothing-changed}
+use Rattle.nfs_inodes.proofs.BucketPutLemmas.{forgotten, no-file-none}
+use Rattle.nfs_inodes.proofs.FileWithLocksLemmas.{forget-result, inode-lacked, none-where}
+use Rattle.nfs_inodes.proofs.LocksPlaceLemmas.{nothing-changed}
 use Rattle.nfs_inodes.specs.Locks.{HasNone, locks_freed}
 use Rattle.nfs_inodes.proofs.locks.forget_locks.Goals as goal
 use Rattle.nfs_inodes.proofs.locks.forget_locks.Goals.{Else-is_file}

@@ -6,8 +6,8 @@ use Rattle.nlm_ranges.specs.Files.{no_file}
 use Rattle.nfs_objects.specs.Calls.{locks_at}
 use Rattle.nfs_objects.specs.Stands.{bucket_in, lives_in}
 use Rattle.nfs_objects.specs.declared.address.Addr.TheVariants as addresses
-use Rattle.nfs_inodes.proofs.Halting.{exports-stop-at}
-use Rattle.nfs_inodes.proofs.Placing.{file-known, locks-stop-behind}
+use Rattle.nfs_inodes.proofs.ReaderHaltLemmas.{exports-stop-at}
+use Rattle.nfs_inodes.proofs.LocksPlaceLemmas.{file-known, locks-stop-behind}
 use Rattle.nfs_inodes.proofs.locks.locks_of.Goals as goal
 
 pub returns-in_err-exports : goal.returns-in_err-exports

@@ -2,7 +2,7 @@ use Rattle.std.proofs.Common.{◌∙◌, Some, ap, sym}
 use Rattle.std.specs.Prelude.{option_copied}
 use Rattle.std.proofs.lemmas.Result.{err_from_is_err_and}
 use Rattle.nfs_objects.specs.Stands.{bucket_in}
-use Rattle.nfs_inodes.proofs.Placing.{locks-stop, number-known}
+use Rattle.nfs_inodes.proofs.LocksPlaceLemmas.{locks-stop, number-known}
 use Rattle.nfs_inodes.proofs.locks.next_number.Goals as goal
 
 pub returns-in_err-bucket : goal.returns-in_err-bucket

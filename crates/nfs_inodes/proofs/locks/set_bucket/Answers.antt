@@ -1,6 +1,6 @@
 use Rattle.std.proofs.lemmas.List.{nil_from_length}
 use Rattle.std.proofs.lemmas.Result.{err_from_is_err_and}
-use Rattle.nfs_inodes.proofs.Placing.{files-put, none-set}
+use Rattle.nfs_inodes.proofs.LocksPlaceLemmas.{files-put, none-set}
 use Rattle.nfs_inodes.proofs.locks.set_bucket.Goals as goal
 
 pub returns-in_default : goal.returns-in_default

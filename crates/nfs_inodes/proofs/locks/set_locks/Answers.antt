@@ -1,7 +1,7 @@
 use Rattle.std.proofs.Common.{◌%◌, ◌∙◌, ap}
 use Rattle.std.proofs.lemmas.Result.{err_from_is_err_and}
 use Rattle.nlm_ranges.specs.Buckets.{bucket_count}
-use Rattle.nfs_inodes.proofs.Placing.{bucket-stops, put-turns}
+use Rattle.nfs_inodes.proofs.LocksPlaceLemmas.{bucket-stops, put-turns}
 use Rattle.nfs_inodes.proofs.locks.set_locks.Goals as goal
 
 pub returns-in_err-bucket : goal.returns-in_err-bucket

@@ -1,7 +1,7 @@
 use Rattle.std.proofs.Common.{◌%◌, ◌<◌, ◌∙◌, ap, subst, sym}
 use Rattle.std.proofs.lemmas.Result.{err_from_is_err_and}
 use Rattle.nlm_ranges.specs.Buckets.{bucket_count, given_most}
-use Rattle.nfs_inodes.proofs.Placing.{bucket-stops, next-left, spending-put}
+use Rattle.nfs_inodes.proofs.LocksPlaceLemmas.{bucket-stops, next-left, spending-put}
 use Rattle.nfs_inodes.proofs.locks.set_locks_spending.Goals as goal
 
 pub returns-in_err-bucket : goal.returns-in_err-bucket

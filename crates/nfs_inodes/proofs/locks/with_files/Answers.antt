@@ -1,6 +1,6 @@
 use Rattle.std.proofs.Common.{arith, refl, subst}
 use Rattle.std.proofs.lemmas.List.{take_all}
-use Rattle.nfs_inodes.proofs.Placing.{inserted-step}
+use Rattle.nfs_inodes.proofs.LocksPlaceLemmas.{inserted-step}
 use Rattle.nfs_inodes.specs.Locks.{AreInserted}
 use Rattle.nfs_inodes.proofs.locks.with_files.Goals as goal
 

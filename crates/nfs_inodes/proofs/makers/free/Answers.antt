@@ -1,8 +1,8 @@
 use Rattle.std.proofs.Common.{◌++◌, ◌∙◌, ℕ, ap, inl, inr}
 use Rattle.std.proofs.lemmas.Result.{err_from_is_err_and}
-use Rattle.nfs_objects.proofs.Knows.{among-behind, covers-among, stops-wider}
-use Rattle.nfs_objects.proofs.Promised.{turned-change, turns-both}
-use Rattle.nfs_objects.proofs.Suiting.{change-counts}
+use Rattle.nfs_objects.proofs.KnowsLemmas.{among-behind, covers-among, stops-wider}
+use Rattle.nfs_objects.proofs.PromiseLemmas.{turned-change, turns-both}
+use Rattle.nfs_objects.proofs.ModesSuitLemmas.{change-counts}
 use Rattle.nfs_objects.specs.Calls.{addresses_of, locks_at}
 use Rattle.nfs_objects.specs.Knows.{Turns}
 use Rattle.nfs_objects.specs.Stands.{Kept}
@@ -11,13 +11,13 @@ use Rattle.nfs_objects.specs.declared.address.Addr.TheVariants as addresses
 use Rattle.nfs_inodes.specs.Counts.{uncounted}
 use Rattle.nfs_inodes.specs.Locks.{locks_freed}
 use Rattle.nfs_inodes.specs.Stops.{counted_at}
-use Rattle.nfs_inodes.proofs.Counting.{stands-on}
-use Rattle.nfs_inodes.proofs.Filing.{gone-turns, laid-change}
-use Rattle.nfs_inodes.proofs.Forgetting.{forgotten-removed}
-use Rattle.nfs_inodes.proofs.Going.{entries-stand, known-left, laid-stops, locked-stops, nothing-left}
-use Rattle.nfs_inodes.proofs.Halting.{stops-before}
-use Rattle.nfs_inodes.proofs.Onward.{may-change-on}
-use Rattle.nfs_inodes.proofs.Putting.{knows-kept, object-stops}
+use Rattle.nfs_inodes.proofs.UsageChangeLemmas.{stands-on}
+use Rattle.nfs_inodes.proofs.FilePutLemmas.{gone-turns, laid-change}
+use Rattle.nfs_inodes.proofs.FileWithLocksLemmas.{forgotten-removed}
+use Rattle.nfs_inodes.proofs.ObjectGoesLemmas.{entries-stand, known-left, laid-stops, locked-stops, nothing-left}
+use Rattle.nfs_inodes.proofs.ReaderHaltLemmas.{stops-before}
+use Rattle.nfs_inodes.proofs.AsksAfterWritesLemmas.{may-change-on}
+use Rattle.nfs_inodes.proofs.PutObjectLemmas.{knows-kept, object-stops}
 use Rattle.nfs_inodes.proofs.makers.free.Goals as goal
 
 -- what the draft came to behind its locks

@@ -8,7 +8,7 @@ use Rattle.nfs_objects.specs.Edits.{edited}
 use Rattle.nfs_objects.specs.Knows.{Turns}
 use Rattle.nfs_inodes.specs.Makes.{removed}
 use Rattle.nfs_inodes.specs.Stops.{StopsAt, counted_at}
-use Rattle.nfs_inodes.proofs.Gone.{locked-result}
+use Rattle.nfs_inodes.proofs.LastNameAsksLemmas.{locked-result}
 use Rattle.nfs_inodes.proofs.makers.lose_link.Goals as goal
 
 pub returns-then-links-le1 : goal.returns-then-links-le1

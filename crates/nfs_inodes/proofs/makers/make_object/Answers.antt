@@ -1,6 +1,6 @@
 use Rattle.std.proofs.Common.{◌++◌}
 use Rattle.std.proofs.lemmas.Result.{err_from_is_err_and}
-use Rattle.nfs_objects.proofs.Knows.{fresh-stops}
+use Rattle.nfs_objects.proofs.KnowsLemmas.{fresh-stops}
 use Rattle.nfs_objects.specs.Calls.{usages_of}
 use Rattle.nfs_inodes.specs.Entered.{grown_at}
 use Rattle.nfs_inodes.proofs.makers.make_object.Goals as goal

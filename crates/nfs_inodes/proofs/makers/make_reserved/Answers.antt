@@ -2,15 +2,15 @@ use Rattle.std.proofs.Common.{◌+◌, ◌*◌, ◌/◌, ◌++◌, ap, refl, ◌
 use Rattle.std.proofs.lemmas.Result.{err_from_is_err_and}
 use Rattle.nfs_machine.specs.Attributes.{block, used_of}
 use Rattle.nfs_machine.specs.State.{Living}
-use Rattle.nfs_objects.proofs.Suiting.{change-each}
+use Rattle.nfs_objects.proofs.ModesSuitLemmas.{change-each}
 use Rattle.nfs_objects.specs.Calls.{usages_of}
 use Rattle.nfs_objects.specs.Sums.{is_same_usage, one_using}
 use Rattle.nfs_objects.specs.declared.address.Addr.TheVariants as addresses
-use Rattle.nfs_inodes.proofs.Counting.{stands-first}
-use Rattle.nfs_inodes.proofs.EntryAsks.{grown-stops, made-asking}
-use Rattle.nfs_inodes.proofs.Halting.{makes-stops}
-use Rattle.nfs_inodes.proofs.Putting.{counting-stops, exports-stay, first-free, knows-kept, knows-on, made-turns}
-use Rattle.nfs_inodes.proofs.Putting.{blank-pages, making-stops, may-give, stays-vacant}
+use Rattle.nfs_inodes.proofs.UsageChangeLemmas.{stands-first}
+use Rattle.nfs_inodes.proofs.EntryAsksLemmas.{grown-stops, made-asking}
+use Rattle.nfs_inodes.proofs.ReaderHaltLemmas.{makes-stops}
+use Rattle.nfs_inodes.proofs.PutObjectLemmas.{counting-stops, exports-stay, first-free, knows-kept, knows-on, made-turns}
+use Rattle.nfs_inodes.proofs.PutObjectLemmas.{blank-pages, making-stops, may-give, stays-vacant}
 use Rattle.nfs_inodes.specs.Entered.{grown_at}
 use Rattle.nfs_inodes.proofs.makers.make_reserved.Goals as goal
 

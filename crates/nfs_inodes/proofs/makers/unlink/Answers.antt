@@ -1,7 +1,7 @@
 use Rattle.std.proofs.Common.{subst}
 use Rattle.std.specs.Prelude.{option_copied}
 use Rattle.nfs_machine.specs.Times.{time_of}
-use Rattle.nfs_inodes.proofs.Putting.{unlinked-none, unlinked-same, unlinked-turns}
+use Rattle.nfs_inodes.proofs.PutObjectLemmas.{unlinked-none, unlinked-same, unlinked-turns}
 use Rattle.nfs_inodes.specs.Known.{HasInode}
 use Rattle.nfs_inodes.proofs.makers.unlink.Goals as goal
 

@@ -1,4 +1,4 @@
-use Rattle.nfs_inodes.proofs.Gone.{uncounted-freed, unlocked-freed}
+use Rattle.nfs_inodes.proofs.LastNameAsksLemmas.{uncounted-freed, unlocked-freed}
 use Rattle.nfs_inodes.proofs.removing.ask_freed.Goals as goal
 
 pub returns-in_ok-ask_locks-in-Regular : goal.returns-in_ok-ask_locks-in-Regular

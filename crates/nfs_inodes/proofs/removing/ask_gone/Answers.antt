@@ -1,4 +1,4 @@
-use Rattle.nfs_inodes.proofs.Gone.{none-freed}
+use Rattle.nfs_inodes.proofs.LastNameAsksLemmas.{none-freed}
 use Rattle.nfs_inodes.proofs.removing.ask_gone.Goals as goal
 
 pub returns-else-is_last : goal.returns-else-is_last

@@ -1,11 +1,11 @@
 use Rattle.std.proofs.Common.{◌++◌}
 use Rattle.std.proofs.lemmas.Result.{err_from_is_err_and}
 use Rattle.nfs_objects.specs.Calls.{addresses_of, locks_at}
-use Rattle.nfs_inodes.proofs.Composing.{first-stops, second-stops}
-use Rattle.nfs_inodes.proofs.Counting.{stands-first}
-use Rattle.nfs_inodes.proofs.Going.{locked-stops}
-use Rattle.nfs_inodes.proofs.Gone.{freed-asking}
-use Rattle.nfs_inodes.proofs.Putting.{object-stops}
+use Rattle.nfs_inodes.proofs.MakerChainLemmas.{first-stops, second-stops}
+use Rattle.nfs_inodes.proofs.UsageChangeLemmas.{stands-first}
+use Rattle.nfs_inodes.proofs.ObjectGoesLemmas.{locked-stops}
+use Rattle.nfs_inodes.proofs.LastNameAsksLemmas.{freed-asking}
+use Rattle.nfs_inodes.proofs.PutObjectLemmas.{object-stops}
 use Rattle.nfs_inodes.specs.Stops.{counted_at}
 use Rattle.nfs_inodes.proofs.removing.ask_lost.Goals as goal
 

@@ -1,10 +1,10 @@
 use Rattle.std.proofs.Common.{ap, refl, ◌∙◌, ◌++◌}
 use Rattle.std.proofs.lemmas.Result.{err_from_is_err_and}
 use Rattle.nfs_machine.specs.Times.{time_of}
-use Rattle.nfs_objects.proofs.Knows.{among-front, covers-among}
+use Rattle.nfs_objects.proofs.KnowsLemmas.{among-front, covers-among}
 use Rattle.nfs_objects.specs.Calls.{addresses_of, locks_at}
-use Rattle.nfs_objects.proofs.Suiting.{change-each}
-use Rattle.nfs_inodes.proofs.Composing.{second-stops, turned-within}
+use Rattle.nfs_objects.proofs.ModesSuitLemmas.{change-each}
+use Rattle.nfs_inodes.proofs.MakerChainLemmas.{second-stops, turned-within}
 use Rattle.nfs_inodes.specs.Makes.{link_lost}
 use Rattle.nfs_inodes.specs.Removes.{directory_lost, subdirectory_lost}
 use Rattle.nfs_inodes.specs.Stops.{counted_at}

@@ -2,7 +2,7 @@ use Rattle.std.proofs.Common.{◌-◌, ap, subst, ◌∙◌}
 use Rattle.std.specs.Prelude.{option_copied}
 use Rattle.nfs_objects.specs.Stands.{entry_map_in, living_of_inode, map_in, parent_in}
 use Rattle.nfs_objects.specs.declared.object.Inode.{Inode}
-use Rattle.nfs_inodes.proofs.Editing.{edited-none, edited-turns}
+use Rattle.nfs_inodes.proofs.EditInodeLemmas.{edited-none, edited-turns}
 use Rattle.nfs_inodes.specs.Known.{HasInode}
 use Rattle.nfs_inodes.proofs.removing.lose_subdirectory.Goals as goal
 

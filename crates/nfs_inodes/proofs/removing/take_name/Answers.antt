@@ -2,13 +2,13 @@ use Rattle.std.proofs.Common.{ap, refl, ◌∙◌, ◌++◌}
 use Rattle.std.proofs.lemmas.Result.{err_from_is_err_and}
 use Rattle.nfs_machine.specs.Times.{time_of}
 use Rattle.nfs_objects.specs.Calls.{addresses_of, locks_at}
-use Rattle.nfs_objects.proofs.Knows.{stops-wider}
-use Rattle.nfs_objects.proofs.Suiting.{change-each}
-use Rattle.nfs_inodes.proofs.Composing.{first-stops, group-lives, lost-directory}
-use Rattle.nfs_inodes.proofs.Composing.{lost-other, turned-within}
-use Rattle.nfs_inodes.proofs.Counting.{stands-first, stands-on, usage-lives-first}
-use Rattle.nfs_inodes.proofs.Gone.{covers-going, covers-gone}
-use Rattle.nfs_inodes.proofs.Lived.{lived-taken, usage-there}
+use Rattle.nfs_objects.proofs.KnowsLemmas.{stops-wider}
+use Rattle.nfs_objects.proofs.ModesSuitLemmas.{change-each}
+use Rattle.nfs_inodes.proofs.MakerChainLemmas.{first-stops, group-lives, lost-directory}
+use Rattle.nfs_inodes.proofs.MakerChainLemmas.{lost-other, turned-within}
+use Rattle.nfs_inodes.proofs.UsageChangeLemmas.{stands-first, stands-on, usage-lives-first}
+use Rattle.nfs_inodes.proofs.LastNameAsksLemmas.{covers-going, covers-gone}
+use Rattle.nfs_inodes.proofs.LivedBeforeLemmas.{lived-taken, usage-there}
 use Rattle.nfs_inodes.specs.Makes.{link_lost, name_taken}
 use Rattle.nfs_inodes.specs.Removes.{directory_lost, name_lost}
 use Rattle.nfs_inodes.specs.Stops.{counted_at, group_at, inode_at}

@@ -1,6 +1,6 @@
 use Rattle.std.proofs.Common.{◌+◌, [], arith}
 use Rattle.nfs_objects.specs.Calls.{root_usages}
-use Rattle.nfs_inodes.proofs.Rooted.{asks-first, usages-asked, usages-next}
+use Rattle.nfs_inodes.proofs.ExportRootsLemmas.{asks-first, usages-asked, usages-next}
 use Rattle.nfs_inodes.proofs.roots.ask_roots.Goals as goal
 
 pub loop-root-init : goal.loop-root-init

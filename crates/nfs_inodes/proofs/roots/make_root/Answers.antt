@@ -1,4 +1,4 @@
-use Rattle.nfs_inodes.proofs.Rooted.{root-others, root-table, root-turns}
+use Rattle.nfs_inodes.proofs.ExportRootsLemmas.{root-others, root-table, root-turns}
 use Rattle.nfs_inodes.proofs.roots.make_root.Goals as goal
 
 pub returns-clause-turns : goal.returns-clause-turns

@@ -1,5 +1,5 @@
-use Rattle.nfs_inodes.proofs.Counting.{on-ok}
-use Rattle.nfs_inodes.proofs.Rooted.{table-turns}
+use Rattle.nfs_inodes.proofs.UsageChangeLemmas.{on-ok}
+use Rattle.nfs_inodes.proofs.ExportRootsLemmas.{table-turns}
 use Rattle.nfs_inodes.proofs.roots.put_table.Goals as goal
 
 pub returns-clause-turns : goal.returns-clause-turns

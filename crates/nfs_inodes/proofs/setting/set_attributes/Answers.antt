@@ -1,6 +1,6 @@
 use Rattle.std.proofs.Common.{Some, subst}
 use Rattle.std.specs.Prelude.{option_copied}
-use Rattle.nfs_inodes.proofs.Putting.{knows-on, none-turns, set-turns}
+use Rattle.nfs_inodes.proofs.PutObjectLemmas.{knows-on, none-turns, set-turns}
 use Rattle.nfs_objects.specs.declared.address.Addr.TheVariants as addresses
 use Rattle.nfs_inodes.specs.Known.{HasInode}
 use Rattle.nfs_inodes.specs.Sets.{with_settings}

@@ -1,6 +1,6 @@
 use Rattle.std.proofs.Common.{subst}
 use Rattle.std.specs.Prelude.{option_copied}
-use Rattle.nfs_inodes.proofs.Climbing.{parent-above, parent-wished}
+use Rattle.nfs_inodes.proofs.ClimbLemmas.{parent-above, parent-wished}
 use Rattle.nfs_inodes.specs.Known.{HasInode}
 use Rattle.nfs_inodes.proofs.tree.above.Goals as goal
 

@@ -1,6 +1,6 @@
 use Rattle.std.proofs.Common.{◌+◌, arith}
-use Rattle.nfs_machine.proofs.Changes.{apart}
-use Rattle.nfs_inodes.proofs.Climbing.{climbs-first, climbs-next, tells-end, tells-root, tells-there}
+use Rattle.nfs_machine.proofs.MapChangeLemmas.{apart}
+use Rattle.nfs_inodes.proofs.ClimbLemmas.{climbs-first, climbs-next, tells-end, tells-root, tells-there}
 use Rattle.nfs_inodes.proofs.tree.is_within.Goals as goal
 use Rattle.nfs_inodes.proofs.tree.is_within.Goals.{else-loop-level-test}
 use Rattle.nfs_inodes.proofs.tree.is_within.Goals.{then-loop-level-test+else-number-upper+in_ok-above+else-above-number+else-level-reads}

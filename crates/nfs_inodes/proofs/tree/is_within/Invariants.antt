@@ -1,5 +1,5 @@
 -- So many directories of the way up were read.
-use Rattle.nfs_inodes.proofs.Climbing.{Climbs}
+use Rattle.nfs_inodes.proofs.ClimbLemmas.{Climbs}
 use Rattle.nfs_inodes.proofs.tree.is_within.Given as goal
 
 abbrev pub invariant-loop-level : goal.invariant-loop-level

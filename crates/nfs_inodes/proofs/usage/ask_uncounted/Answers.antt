@@ -1,7 +1,7 @@
 use Rattle.std.proofs.Common.{subst}
 use Rattle.std.specs.Prelude.{option_copied}
 use Rattle.nfs_objects.specs.Sums.{is_same_usage}
-use Rattle.nfs_inodes.proofs.EntryAsks.{none-counted, one-counted}
+use Rattle.nfs_inodes.proofs.EntryAsksLemmas.{none-counted, one-counted}
 use Rattle.nfs_inodes.specs.Known.{HasInode}
 use Rattle.nfs_inodes.proofs.usage.ask_uncounted.Goals as goal
 

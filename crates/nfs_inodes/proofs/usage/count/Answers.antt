@@ -1,5 +1,5 @@
 use Rattle.std.proofs.Common.{subst}
-use Rattle.nfs_inodes.proofs.Counting.{none-counts, on-ok, put-counts, put-keeps}
+use Rattle.nfs_inodes.proofs.UsageChangeLemmas.{none-counts, on-ok, put-counts, put-keeps}
 use Rattle.nfs_inodes.specs.Counts.{IsCount}
 use Rattle.nfs_inodes.proofs.usage.count.Goals as goal
 

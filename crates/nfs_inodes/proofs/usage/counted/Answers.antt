@@ -1,7 +1,7 @@
 use Rattle.std.proofs.lemmas.Result.{err_from_is_err_and}
 use Rattle.nfs_objects.specs.Sums.{group_of}
 use Rattle.nfs_objects.specs.declared.address.Addr.TheVariants as addresses
-use Rattle.nfs_inodes.proofs.Halting.{lacking-stops}
+use Rattle.nfs_inodes.proofs.ReaderHaltLemmas.{lacking-stops}
 use Rattle.nfs_inodes.proofs.usage.counted.Goals as goal
 
 pub returns-in_err-usage : goal.returns-in_err-usage

@@ -1,4 +1,4 @@
-use Rattle.nfs_inodes.proofs.Totals.{IsTotal}
+use Rattle.nfs_inodes.proofs.UsageTotalsLemmas.{IsTotal}
 use Rattle.nfs_inodes.proofs.usage.export_usage.Given as goal
 
 abbrev pub invariant-loop-group : goal.invariant-loop-group

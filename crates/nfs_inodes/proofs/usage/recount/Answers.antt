@@ -1,4 +1,4 @@
-use Rattle.nfs_inodes.proofs.Counting.{count-known}
+use Rattle.nfs_inodes.proofs.UsageChangeLemmas.{count-known}
 use Rattle.nfs_inodes.proofs.usage.recount.Goals as goal
 
 pub count-requires-clause-known : goal.count-requires-clause-known

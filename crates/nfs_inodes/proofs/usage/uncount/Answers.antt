@@ -1,8 +1,8 @@
 use Rattle.std.proofs.Common.{subst}
 use Rattle.std.proofs.lemmas.Result.{err_from_is_err_and}
 use Rattle.std.specs.Prelude.{option_copied}
-use Rattle.nfs_inodes.proofs.Counting.{on-ok}
-use Rattle.nfs_inodes.proofs.Putting.{keeps-known, object-stops, uncounted-none, uncounted-result}
+use Rattle.nfs_inodes.proofs.UsageChangeLemmas.{on-ok}
+use Rattle.nfs_inodes.proofs.PutObjectLemmas.{keeps-known, object-stops, uncounted-none, uncounted-result}
 use Rattle.nfs_inodes.specs.Known.{HasInode}
 use Rattle.nfs_inodes.proofs.usage.uncount.Goals as goal
 

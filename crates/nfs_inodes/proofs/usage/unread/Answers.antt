@@ -1,7 +1,7 @@
 use Rattle.std.proofs.Common.{ap, ◌++◌, ◌∷◌, [], ◌∙◌}
 use Rattle.nfs_objects.specs.declared.address.Addr.{Addr}
 use Rattle.nfs_objects.specs.declared.modes.Mode.{Mode}
-use Rattle.nfs_inodes.proofs.Totals.{unread-more, unread-next}
+use Rattle.nfs_inodes.proofs.UsageTotalsLemmas.{unread-more, unread-next}
 use Rattle.nfs_inodes.proofs.usage.unread.Goals as goal
 use Rattle.nfs_inodes.proofs.usage.unread.Goals.{in-Some+in_ok-push, in_default}
 

@@ -1,7 +1,7 @@
 use Rattle.std.proofs.Common.{rules, tests, arith}
 use Rattle.std.proofs.lemmas.Iterator.{YieldsList-from_slice}
 use Rattle.std.proofs.lemmas.Iterator.Search.{all_from_yields_List}
-use Rattle.nfs_machine.proofs.Faults.{are_export_hosts-all}
+use Rattle.nfs_machine.proofs.ExportFaultLemmas.{are_export_hosts-all}
 use Rattle.nfs_machine.specs.ExportFaults.{has_length}
 use Rattle.nfs_machine.proofs.export_faults.are_export_hosts.Goals as goal
 

@@ -3,7 +3,7 @@ use Rattle.std.proofs.lemmas.Iterator.{YieldsList-from_slice}
 use Rattle.std.proofs.lemmas.Iterator.Search.{any_from_yields_List}
 use Rattle.nfs_machine.specs.Bytes.{same_bytes}
 use Rattle.nfs_machine.specs.declared.exports.ExportText.{ExportText}
-use Rattle.nfs_machine.proofs.Faults.{fault_of-none}
+use Rattle.nfs_machine.proofs.ExportFaultLemmas.{fault_of-none}
 use Rattle.nfs_machine.proofs.export_faults.check_export.Goals as goal
 
 pub returns-else-any : goal.returns-else-any

@@ -1,4 +1,4 @@
-use Rattle.nfs_machine.proofs.Asked.{asked_once}
+use Rattle.nfs_machine.proofs.AskedCallLemmas.{asked_once}
 use Rattle.nfs_machine.proofs.laws.arrivals_ask_once.Goals as goal
 
 pub returns : goal.returns

@@ -1,4 +1,4 @@
-use Rattle.nfs_machine.proofs.Kept.{steps_keep_cookies}
+use Rattle.nfs_machine.proofs.StepKeepsLemmas.{steps_keep_cookies}
 use Rattle.nfs_machine.proofs.laws.entries_keep_cookies.Goals as goal
 
 pub returns : goal.returns

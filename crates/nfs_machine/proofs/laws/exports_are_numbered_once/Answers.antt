@@ -1,4 +1,4 @@
-use Rattle.nfs_machine.proofs.Kept.{chains_number_once, gone_is_stale, steps_keep_within, steps_number_once}
+use Rattle.nfs_machine.proofs.StepKeepsLemmas.{chains_number_once, gone_is_stale, steps_keep_within, steps_number_once}
 use Rattle.nfs_machine.proofs.laws.exports_are_numbered_once.Goals as goal
 
 pub returns-clause-steps : goal.returns-clause-steps

@@ -1,4 +1,4 @@
-use Rattle.nfs_machine.proofs.Kept.{never_given_again, steps_give_once}
+use Rattle.nfs_machine.proofs.StepKeepsLemmas.{never_given_again, steps_give_once}
 use Rattle.nfs_machine.proofs.laws.handles_are_given_once.Goals as goal
 
 pub returns-clause-steps : goal.returns-clause-steps

@@ -1,4 +1,4 @@
-use Rattle.nfs_machine.proofs.Given.{mnt_handles_resolve, nfs_handles_resolve}
+use Rattle.nfs_machine.proofs.AnsweredHandleLemmas.{mnt_handles_resolve, nfs_handles_resolve}
 use Rattle.nfs_machine.proofs.laws.handles_resolve.Goals as goal
 
 pub returns-clause-nfs : goal.returns-clause-nfs

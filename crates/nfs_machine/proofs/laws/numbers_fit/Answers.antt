@@ -1,4 +1,4 @@
-use Rattle.nfs_machine.proofs.Numbered.{opening_numbers_fit, chains_keep_numbers, steps_keep_numbers}
+use Rattle.nfs_machine.proofs.HandleFitsLemmas.{opening_numbers_fit, chains_keep_numbers, steps_keep_numbers}
 use Rattle.nfs_machine.proofs.laws.numbers_fit.Goals as goal
 
 pub returns-clause-opening : goal.returns-clause-opening

@@ -1,5 +1,5 @@
-use Rattle.nfs_machine.proofs.Kept.{chains_keep_apart, steps_keep_apart}
-use Rattle.nfs_machine.proofs.Opened.{nothing_conflicts}
+use Rattle.nfs_machine.proofs.StepKeepsLemmas.{chains_keep_apart, steps_keep_apart}
+use Rattle.nfs_machine.proofs.OpeningStateLemmas.{nothing_conflicts}
 use Rattle.nfs_machine.proofs.laws.owners_never_conflict.Goals as goal
 
 pub returns-clause-steps : goal.returns-clause-steps

@@ -1,4 +1,4 @@
-use Rattle.nfs_machine.proofs.Pages.{one-page, some-page}
+use Rattle.nfs_machine.proofs.PageLemmas.{one-page, some-page}
 use Rattle.nfs_machine.proofs.laws.pages_are_one.Goals as goal
 
 pub returns-clause-one : goal.returns-clause-one

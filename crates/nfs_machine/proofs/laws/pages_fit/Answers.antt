@@ -1,4 +1,4 @@
-use Rattle.nfs_machine.proofs.Listing.{readdir-fits, readdirplus-fits}
+use Rattle.nfs_machine.proofs.PageBytesLemmas.{readdir-fits, readdirplus-fits}
 use Rattle.nfs_machine.specs.NfsSteps.{NfsStep}
 use Rattle.nfs_machine.proofs.laws.pages_fit.Goals as goal
 

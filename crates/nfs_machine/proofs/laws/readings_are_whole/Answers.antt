@@ -1,4 +1,4 @@
-use Rattle.nfs_machine.proofs.Readings.{readings-whole}
+use Rattle.nfs_machine.proofs.ReadingLemmas.{readings-whole}
 use Rattle.nfs_machine.proofs.laws.readings_are_whole.Goals as goal
 
 pub returns : goal.returns

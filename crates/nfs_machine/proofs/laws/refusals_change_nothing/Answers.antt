@@ -1,4 +1,4 @@
-use Rattle.nfs_machine.proofs.Refused.{refusals_unchanged}
+use Rattle.nfs_machine.proofs.RefusedCallLemmas.{refusals_unchanged}
 use Rattle.nfs_machine.proofs.laws.refusals_change_nothing.Goals as goal
 
 pub returns : goal.returns

@@ -1,4 +1,4 @@
-use Rattle.nfs_machine.proofs.Short.{replies_short, refusals_short}
+use Rattle.nfs_machine.proofs.ShortReplyLemmas.{replies_short, refusals_short}
 use Rattle.nfs_machine.proofs.laws.replies_are_short.Goals as goal
 
 pub returns-clause-replies : goal.returns-clause-replies

@@ -1,5 +1,5 @@
 use Rattle.std.proofs.Common.{[], ◌∷◌, refl}
-use Rattle.nfs_machine.proofs.Runs.{run-append}
+use Rattle.nfs_machine.proofs.RunChainLemmas.{run-append}
 use Rattle.nfs_machine.proofs.laws.runs_go_on.Goals as goal
 
 pub returns : goal.returns

@@ -1,4 +1,4 @@
-use Rattle.nfs_machine.proofs.Runs.{run-append}
+use Rattle.nfs_machine.proofs.RunChainLemmas.{run-append}
 use Rattle.nfs_machine.proofs.laws.runs_join.Goals as goal
 
 pub returns : goal.returns

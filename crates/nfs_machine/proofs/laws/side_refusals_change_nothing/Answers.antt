@@ -1,5 +1,5 @@
-use Rattle.nfs_machine.proofs.PostedRefusals.{posted_refusals_unchanged}
-use Rattle.nfs_machine.proofs.SideReplies.{mount_refusals_unchanged, nlm_refusals_unchanged}
+use Rattle.nfs_machine.proofs.PostedRefusalLemmas.{posted_refusals_unchanged}
+use Rattle.nfs_machine.proofs.SideReplyLemmas.{mount_refusals_unchanged, nlm_refusals_unchanged}
 use Rattle.nfs_machine.proofs.laws.side_refusals_change_nothing.Goals as goal
 
 pub returns-clause-mount : goal.returns-clause-mount

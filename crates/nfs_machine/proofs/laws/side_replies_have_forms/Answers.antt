@@ -1,5 +1,5 @@
-use Rattle.nfs_machine.proofs.Posted.{nlm_messages_form}
-use Rattle.nfs_machine.proofs.SideReplies.{mount_replies_form, nlm_replies_form}
+use Rattle.nfs_machine.proofs.PostedFormLemmas.{nlm_messages_form}
+use Rattle.nfs_machine.proofs.SideReplyLemmas.{mount_replies_form, nlm_replies_form}
 use Rattle.nfs_machine.proofs.laws.side_replies_have_forms.Goals as goal
 
 pub returns-clause-mount : goal.returns-clause-mount

@@ -1,5 +1,5 @@
-use Rattle.nfs_machine.proofs.Kept.{chains_keep_form, steps_keep_form}
-use Rattle.nfs_machine.proofs.Opened.{opening_formed}
+use Rattle.nfs_machine.proofs.StepKeepsLemmas.{chains_keep_form, steps_keep_form}
+use Rattle.nfs_machine.proofs.OpeningStateLemmas.{opening_formed}
 use Rattle.nfs_machine.proofs.laws.states_stay_well_formed.Goals as goal
 
 pub returns-clause-steps : goal.returns-clause-steps

@@ -1,4 +1,4 @@
-use Rattle.nfs_machine.proofs.Statuses.{mount_never_answered, nfs_never_answers}
+use Rattle.nfs_machine.proofs.StatusLemmas.{mount_never_answered, nfs_never_answers}
 use Rattle.nfs_machine.proofs.laws.statuses_never_answered.Goals as goal
 
 pub returns-clause-nfs : goal.returns-clause-nfs

@@ -1,4 +1,4 @@
-use Rattle.nfs_machine.proofs.Kept.{steps_keep_exports}
+use Rattle.nfs_machine.proofs.StepKeepsLemmas.{steps_keep_exports}
 use Rattle.nfs_machine.proofs.laws.steps_keep_exports.Goals as goal
 
 pub returns : goal.returns

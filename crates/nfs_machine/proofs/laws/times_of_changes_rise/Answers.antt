@@ -1,6 +1,6 @@
-use Rattle.nfs_machine.proofs.Kept.{steps_show_changes, steps_touch_once}
-use Rattle.nfs_machine.proofs.Rising.{never_fall, rise}
-use Rattle.nfs_machine.proofs.Later.{chains_never_fall}
+use Rattle.nfs_machine.proofs.StepKeepsLemmas.{steps_show_changes, steps_touch_once}
+use Rattle.nfs_machine.proofs.ChangeTimeRisesLemmas.{never_fall, rise}
+use Rattle.nfs_machine.proofs.ChangeTimeLemmas.{chains_never_fall}
 use Rattle.nfs_machine.proofs.laws.times_of_changes_rise.Goals as goal
 
 pub returns-clause-never_fall : goal.returns-clause-never_fall

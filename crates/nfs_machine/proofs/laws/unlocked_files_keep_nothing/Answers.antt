@@ -1,4 +1,4 @@
-use Rattle.nfs_machine.proofs.Unlocked.{unlocked_files_keep_nothing}
+use Rattle.nfs_machine.proofs.UnlockedFileLemmas.{unlocked_files_keep_nothing}
 use Rattle.nfs_machine.proofs.laws.unlocked_files_keep_nothing.Goals as goal
 
 pub returns : goal.returns

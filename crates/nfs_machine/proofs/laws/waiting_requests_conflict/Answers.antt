@@ -1,5 +1,5 @@
-use Rattle.nfs_machine.proofs.Kept.{chains_keep_waiting, steps_keep_waiting}
-use Rattle.nfs_machine.proofs.Opened.{nothing_waits}
+use Rattle.nfs_machine.proofs.StepKeepsLemmas.{chains_keep_waiting, steps_keep_waiting}
+use Rattle.nfs_machine.proofs.OpeningStateLemmas.{nothing_waits}
 use Rattle.nfs_machine.proofs.laws.waiting_requests_conflict.Goals as goal
 
 pub returns-clause-steps : goal.returns-clause-steps

@@ -1,4 +1,4 @@
-use Rattle.nfs_machine.proofs.Within.{within-told}
+use Rattle.nfs_machine.proofs.WithinLemmas.{within-told}
 use Rattle.nfs_machine.proofs.laws.within_is_told.Goals as goal
 
 pub returns : goal.returns

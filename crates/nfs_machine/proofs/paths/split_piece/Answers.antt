@@ -1,7 +1,7 @@
 use Rattle.std.proofs.Common.{ℕ, nat_eq, rules, tests, sym, ◌∙◌}
 use Rattle.std.proofs.lemmas.Iterator.{YieldsList-from_slice}
 use Rattle.std.proofs.lemmas.Iterator.Search.{position_from_yields_List}
-use Rattle.nfs_machine.proofs.Pieces.{pieces-none, pieces-some}
+use Rattle.nfs_machine.proofs.PathPiecesLemmas.{pieces-none, pieces-some}
 use Rattle.nfs_machine.proofs.paths.split_piece.Goals as goal
 
 pub returns-in-Some-clause-pieces : goal.returns-in-Some-clause-pieces

@@ -1,7 +1,7 @@
 use Rattle.std.proofs.Common.{refl}
 use Rattle.std.proofs.lemmas.Option.{slice_get_read}
 use Rattle.nfs_machine.specs.Paths.{parts}
-use Rattle.nfs_mount.proofs.Best.{best_of_all, best_step}
+use Rattle.nfs_mount.proofs.BestMatchLemmas.{best_of_all, best_step}
 use Rattle.nfs_mount.proofs.choice.choose.Goals as goal
 
 pub loop-export-preserved : goal.loop-export-preserved

@@ -1,7 +1,7 @@
 use Rattle.std.proofs.Common.{sym, ◌∙◌}
 use Rattle.std.proofs.lemmas.Result.{err_from_is_err_and}
 use Rattle.side_wire.specs.declared.mount.MountCall.TheVariants as mount
-use Rattle.nfs_mount.proofs.Listed.{dump-promised, exports-stop, mounts-stop, stopped}
+use Rattle.nfs_mount.proofs.MountListLemmas.{dump-promised, exports-stop, mounts-stop, stopped}
 use Rattle.nfs_mount.proofs.lists.attempt_dump.Goals as goal
 
 pub returns-in_err-exports-clause-ends : goal.returns-in_err-exports-clause-ends

@@ -1,6 +1,6 @@
 use Rattle.std.proofs.lemmas.Result.{err_from_is_err_and}
 use Rattle.side_wire.specs.declared.mount.MountCall.TheVariants as mount
-use Rattle.nfs_mount.proofs.Listed.{export-promised, exports-stop, stopped}
+use Rattle.nfs_mount.proofs.MountListLemmas.{export-promised, exports-stop, stopped}
 use Rattle.nfs_mount.proofs.lists.attempt_export.Goals as goal
 
 pub returns-in_err-exports-clause-ends : goal.returns-in_err-exports-clause-ends

@@ -1,4 +1,4 @@
-use Rattle.nfs_mount.proofs.Listed.{listed-next}
+use Rattle.nfs_mount.proofs.MountListLemmas.{listed-next}
 use Rattle.nfs_mount.proofs.lists.export_list.Goals as goal
 
 pub loop-export-preserved : goal.loop-export-preserved

@@ -1,7 +1,7 @@
 use Rattle.std.proofs.Common.{[], refl, sym}
 use Rattle.std.proofs.lemmas.Result.{err_from_is_err_and}
-use Rattle.nfs_mount.proofs.Listed.{mounts-stop}
-use Rattle.nfs_mount.proofs.Mounted.{listed-adds, table-adds}
+use Rattle.nfs_mount.proofs.MountListLemmas.{mounts-stop}
+use Rattle.nfs_mount.proofs.MntLemmas.{listed-adds, table-adds}
 use Rattle.nfs_mount.proofs.mount.add_mount.Goals as goal
 use Rattle.nfs_mount.proofs.mount.add_mount.Goals.{in-Some-2+in_ok-table-in-Some-2, in-None+in_ok-table-in-None}
 

@@ -2,7 +2,7 @@ use Rattle.std.proofs.Common.{ap, ◌∙◌}
 use Rattle.nfs_machine.specs.Shown.{handle_at}
 use Rattle.nfs_machine.specs.State.{Socket}
 use Rattle.nfs_inodes.specs.Known.{shell}
-use Rattle.nfs_mount.proofs.Mounted.{mounted-promised, refused-promised}
+use Rattle.nfs_mount.proofs.MntLemmas.{mounted-promised, refused-promised}
 use Rattle.nfs_mount.proofs.mount.attempt.Goals as goal
 
 pub returns-in-Err-clause-ends : goal.returns-in-Err-clause-ends

@@ -1,8 +1,8 @@
 use Rattle.std.proofs.Common.{sym, ap, ◌∙◌}
 use Rattle.std.proofs.lemmas.Result.{err_from_is_err_and}
 use Rattle.nfs_machine.specs.MountSteps.{path_fault}
-use Rattle.nfs_mount.proofs.Listed.{exports-stop}
-use Rattle.nfs_mount.proofs.Mounted.{not-exported, root-lives, walked}
+use Rattle.nfs_mount.proofs.MountListLemmas.{exports-stop}
+use Rattle.nfs_mount.proofs.MntLemmas.{not-exported, root-lives, walked}
 use Rattle.nfs_mount.proofs.mount.target.Goals as goal
 
 pub returns-in_err-exports-clause-found : goal.returns-in_err-exports-clause-found

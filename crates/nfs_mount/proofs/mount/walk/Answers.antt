@@ -6,8 +6,8 @@ use Rattle.nfs_machine.specs.State.{Entry}
 use Rattle.nfs_objects.specs.Knows.{Knows}
 use Rattle.nfs_inodes.specs.Known.{IsObject, content_at}
 use Rattle.nfs_inodes.specs.declared.found.Known.{Known}
-use Rattle.nfs_mount.proofs.Listed.{object-stops}
-use Rattle.nfs_mount.proofs.Walked.{end-there, name-absent, name-there, nothing-there, lives-known, other-told}
+use Rattle.nfs_mount.proofs.MountListLemmas.{object-stops}
+use Rattle.nfs_mount.proofs.WalkLemmas.{end-there, name-absent, name-there, nothing-there, lives-known, other-told}
 use Rattle.nfs_mount.proofs.mount.walk.Goals as goal
 
 pub returns-in_err-object : goal.returns-in_err-object

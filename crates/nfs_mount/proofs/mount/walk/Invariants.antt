@@ -1,7 +1,7 @@
 use Rattle.std.proofs.Common.{length}
 use Rattle.nfs_objects.specs.Asks.{IsThere}
 use Rattle.nfs_objects.specs.declared.address.Addr.TheVariants as addresses
-use Rattle.nfs_mount.proofs.Walked.{GoesOn}
+use Rattle.nfs_mount.proofs.WalkLemmas.{GoesOn}
 use Rattle.nfs_mount.proofs.mount.walk.Given as goal
 
 abbrev pub invariant-names : goal.invariant-names

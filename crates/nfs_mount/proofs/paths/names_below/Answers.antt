@@ -1,6 +1,6 @@
 use Rattle.std.proofs.Common.{sym, ◌∙◌}
 use Rattle.nfs_machine.specs.Paths.{parts}
-use Rattle.nfs_mount.proofs.Fronts.{behind_all, behind_differs, behind_none, behind_short, behind_some}
+use Rattle.nfs_mount.proofs.NameFrontLemmas.{behind_all, behind_differs, behind_none, behind_short, behind_some}
 use Rattle.nfs_mount.proofs.paths.names_below.Goals as goal
 
 pub returns-in_err-next : goal.returns-in_err-next

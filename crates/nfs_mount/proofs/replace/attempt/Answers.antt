@@ -1,5 +1,5 @@
 use Rattle.std.proofs.lemmas.Result.{err_from_is_err_and}
-use Rattle.nfs_mount.proofs.Replacing.{replaces-promised, stopped}
+use Rattle.nfs_mount.proofs.ReplaceLemmas.{replaces-promised, stopped}
 use Rattle.nfs_mount.proofs.replace.attempt.Goals as goal
 
 pub returns-in_err-replace-clause-ends : goal.returns-in_err-replace-clause-ends

@@ -6,8 +6,8 @@ use Rattle.nfs_machine.specs.Times.{time_of}
 use Rattle.nfs_objects.specs.Promise.{IsReserved}
 use Rattle.nfs_objects.specs.Roots.{root_choice}
 use Rattle.nfs_inodes.specs.Roots.{ReservedFits, roots_made}
-use Rattle.nfs_mount.proofs.Rooting.{all-at, all-made, first-left, fit-more, one-more, root-got, root_at}
-use Rattle.nfs_mount.proofs.Rooting.{shows-export, usage-stops, vacant-left}
+use Rattle.nfs_mount.proofs.NewRootsLemmas.{all-at, all-made, first-left, fit-more, one-more, root-got, root_at}
+use Rattle.nfs_mount.proofs.NewRootsLemmas.{shows-export, usage-stops, vacant-left}
 use Rattle.nfs_mount.proofs.replace.make_roots.Goals as goal
 
 pub make_root-requires-clause-alone : goal.make_root-requires-clause-alone

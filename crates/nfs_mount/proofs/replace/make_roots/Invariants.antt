@@ -6,7 +6,7 @@ use Rattle.nfs_objects.specs.Roots.{root_choice}
 use Rattle.nfs_objects.specs.Values.{known_at}
 use Rattle.nfs_objects.specs.declared.address.Addr.TheVariants as addresses
 use Rattle.nfs_inodes.specs.Roots.{ReservedFits, roots_made}
-use Rattle.nfs_mount.proofs.Rooting.{AreVacant}
+use Rattle.nfs_mount.proofs.NewRootsLemmas.{AreVacant}
 use Rattle.nfs_mount.proofs.replace.make_roots.Given as goal
 
 abbrev pub invariant-loop-root : goal.invariant-loop-root

@@ -7,8 +7,8 @@ use Rattle.nfs_objects.specs.Knows.{Turns}
 use Rattle.nfs_objects.specs.Roots.{root_choice}
 use Rattle.nfs_inodes.specs.Roots.{roots_made}
 use Rattle.nfs_inodes.specs.Stops.{StopsAt}
-use Rattle.nfs_mount.proofs.Replacing.{awaits-roots, exhausted-replaces, has-numbers, made-follows, made-replaces}
-use Rattle.nfs_mount.proofs.Replacing.{roots-stop, usages-stop}
+use Rattle.nfs_mount.proofs.ReplaceLemmas.{awaits-roots, exhausted-replaces, has-numbers, made-follows, made-replaces}
+use Rattle.nfs_mount.proofs.ReplaceLemmas.{roots-stop, usages-stop}
 use Rattle.nfs_mount.specs.Replaces.{AwaitsRoots}
 use Rattle.nfs_mount.proofs.replace.replace.Goals as goal
 

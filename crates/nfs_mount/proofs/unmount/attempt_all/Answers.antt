@@ -2,7 +2,7 @@ use Rattle.std.proofs.Common.{ap, ◌∙◌}
 use Rattle.std.proofs.lemmas.Result.{err_from_is_err_and}
 use Rattle.side_wire.specs.declared.mount.MountCall.TheVariants as mount
 use Rattle.nfs_machine.specs.declared.context.Ctx.{Ctx}
-use Rattle.nfs_mount.proofs.Listed.{all-unmounted-promised, stopped}
+use Rattle.nfs_mount.proofs.MountListLemmas.{all-unmounted-promised, stopped}
 use Rattle.nfs_mount.proofs.unmount.attempt_all.Goals as goal
 
 pub returns-in_err-take_mounts-clause-ends : goal.returns-in_err-take_mounts-clause-ends

@@ -2,7 +2,7 @@ use Rattle.std.proofs.Common.{ap, ◌∙◌}
 use Rattle.std.proofs.lemmas.Result.{err_from_is_err_and}
 use Rattle.side_wire.specs.declared.mount.MountCall.TheVariants as mount
 use Rattle.nfs_machine.specs.declared.context.Ctx.{Ctx}
-use Rattle.nfs_mount.proofs.Listed.{stopped, unmounted-promised}
+use Rattle.nfs_mount.proofs.MountListLemmas.{stopped, unmounted-promised}
 use Rattle.nfs_mount.proofs.unmount.attempt_path.Goals as goal
 
 pub returns-in_err-take_mounts-clause-ends : goal.returns-in_err-take_mounts-clause-ends

@@ -1,6 +1,6 @@
 use Rattle.std.proofs.Common.{◌≡◌, [], false, rules, refl, sym, ◌∙◌}
 use Rattle.std.proofs.lemmas.Result.{err_from_is_err_and}
-use Rattle.nfs_mount.proofs.Listed.{exports-stop, mounts-stop, none-taken, some-taken}
+use Rattle.nfs_mount.proofs.MountListLemmas.{exports-stop, mounts-stop, none-taken, some-taken}
 use Rattle.nfs_mount.proofs.unmount.take_mounts.Goals as goal
 
 pub returns-in_err-exports-clause-takes : goal.returns-in_err-exports-clause-takes

@@ -5,7 +5,7 @@ use Rattle.nfs_objects.specs.Calls.{named_by}
 use Rattle.nfs_objects.specs.Modes.{modes_of}
 use Rattle.nfs_objects.specs.Values.{DraftValue, new_draft}
 use Rattle.nfs_inodes.specs.Gathers.{wish_above}
-use Rattle.nfs_names.proofs.Growing.{wish-asks}
+use Rattle.nfs_names.proofs.NameGrowsLemmas.{wish-asks}
 use Rattle.nfs_names.specs.Renames.{wish_next}
 use Rattle.nfs_names.proofs.climbing.next_above.Goals as goal
 

@@ -2,8 +2,8 @@ use Rattle.std.proofs.Common.{Err, Ok, refl}
 use Rattle.std.proofs.lemmas.Result.{err_from_is_err_and}
 use Rattle.nfs_wire.specs.declared.calls.NfsCall.TheVariants as nfs
 use Rattle.nfs_machine.specs.declared.calls.Call.TheVariants as calls
-use Rattle.nfs_inodes.proofs.Ending.{means-as, naming-first}
-use Rattle.nfs_names.proofs.Linked.{file-refused}
+use Rattle.nfs_inodes.proofs.NamedHaltLemmas.{means-as, naming-first}
+use Rattle.nfs_names.proofs.LinkLemmas.{file-refused}
 use Rattle.nfs_names.proofs.link.attempt.Goals as goal
 
 pub returns-in_err-file-clause-ends : goal.returns-in_err-file-clause-ends

@@ -2,14 +2,14 @@ use Rattle.std.proofs.Common.{◌∷◌, Err, Ok, inl, refl}
 use Rattle.std.proofs.lemmas.Result.{err_from_is_err_and}
 use Rattle.nfs_wire.specs.declared.calls.NfsCall.TheVariants as nfs
 use Rattle.nfs_machine.specs.declared.calls.Call.TheVariants as calls
-use Rattle.nfs_objects.proofs.Knows.{covers-among, names-added, names-exports}
+use Rattle.nfs_objects.proofs.KnowsLemmas.{covers-among, names-added, names-exports}
 use Rattle.nfs_objects.specs.Calls.{added_at, addresses_of, named_by}
 use Rattle.nfs_objects.specs.declared.address.Addr.TheVariants as addresses
-use Rattle.nfs_inodes.proofs.Ending.{asking, lives-as, means-as, naming-second, number-as, reading}
-use Rattle.nfs_inodes.proofs.Halting.{stops-before}
-use Rattle.nfs_inodes.proofs.Showing.{shown-so}
-use Rattle.nfs_inodes.proofs.Standing.{known-lives}
-use Rattle.nfs_names.proofs.Linked.{directory-refused, linked-promised}
+use Rattle.nfs_inodes.proofs.NamedHaltLemmas.{asking, lives-as, means-as, naming-second, number-as, reading}
+use Rattle.nfs_inodes.proofs.ReaderHaltLemmas.{stops-before}
+use Rattle.nfs_inodes.proofs.ShownKindLemmas.{shown-so}
+use Rattle.nfs_inodes.proofs.StandsLemmas.{known-lives}
+use Rattle.nfs_names.proofs.LinkLemmas.{directory-refused, linked-promised}
 use Rattle.nfs_names.proofs.link.attempt_of.Goals as goal
 
 pub returns-in_err-directory : goal.returns-in_err-directory

@@ -3,15 +3,15 @@ use Rattle.std.proofs.lemmas.Result.{err_from_is_err_and}
 use Rattle.std.proofs.lemmas.Bool.{le-ltb, lt-ltb}
 use Rattle.nfs_wire.specs.declared.status.NfsStatus.TheVariants as status
 use Rattle.nfs_machine.specs.Checks.{link_limit}
-use Rattle.nfs_objects.proofs.Promised.{does-nothing}
-use Rattle.nfs_inodes.proofs.Standing.{known-lives}
-use Rattle.nfs_names.proofs.Linked.{full-end, linked-does, many-end, refused-end, there-end}
+use Rattle.nfs_objects.proofs.PromiseLemmas.{does-nothing}
+use Rattle.nfs_inodes.proofs.StandsLemmas.{known-lives}
+use Rattle.nfs_names.proofs.LinkLemmas.{full-end, linked-does, many-end, refused-end, there-end}
 use Rattle.nfs_names.specs.Links.{IsLinkEnd}
 use Rattle.nfs_objects.specs.declared.address.Addr.TheVariants as addresses
 use Rattle.nfs_objects.specs.Calls.{added_at}
-use Rattle.nfs_inodes.proofs.Halting.{any-stops, lives-stops}
-use Rattle.nfs_inodes.proofs.WriteAsks.{front-stops}
-use Rattle.nfs_names.proofs.Growing.{linking-as}
+use Rattle.nfs_inodes.proofs.ReaderHaltLemmas.{any-stops, lives-stops}
+use Rattle.nfs_inodes.proofs.WriteAsksLemmas.{front-stops}
+use Rattle.nfs_names.proofs.NameGrowsLemmas.{linking-as}
 use Rattle.nfs_inodes.specs.declared.found.Known.{Known}
 use Rattle.nfs_inodes.specs.Kinds.{IsShown}
 use Rattle.nfs_names.proofs.link.link.Goals as goal

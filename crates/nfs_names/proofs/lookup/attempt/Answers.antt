@@ -3,8 +3,8 @@ use Rattle.std.proofs.lemmas.Result.{err_from_is_err_and}
 use Rattle.nfs_wire.specs.declared.calls.NfsCall.TheVariants as nfs
 use Rattle.nfs_machine.specs.declared.calls.Call.TheVariants as calls
 use Rattle.nfs_objects.specs.Knows.{Knows}
-use Rattle.nfs_inodes.proofs.Ending.{asking, means-as, naming}
-use Rattle.nfs_names.proofs.Looked.{named-promised, refused-promised}
+use Rattle.nfs_inodes.proofs.NamedHaltLemmas.{asking, means-as, naming}
+use Rattle.nfs_names.proofs.LookupLemmas.{named-promised, refused-promised}
 use Rattle.nfs_names.specs.Lookup.{found_in}
 use Rattle.nfs_names.proofs.lookup.attempt.Goals as goal
 

@@ -1,7 +1,7 @@
 use Rattle.std.proofs.lemmas.Result.{err_from_is_err_and}
-use Rattle.nfs_inodes.proofs.Standing.{known-lives}
-use Rattle.nfs_names.proofs.Looked.{check-refused, no-entry, no-object, object-found}
-use Rattle.nfs_inodes.proofs.Halting.{lives-stops}
+use Rattle.nfs_inodes.proofs.StandsLemmas.{known-lives}
+use Rattle.nfs_names.proofs.LookupLemmas.{check-refused, no-entry, no-object, object-found}
+use Rattle.nfs_inodes.proofs.ReaderHaltLemmas.{lives-stops}
 use Rattle.nfs_names.proofs.lookup.found.Goals as goal
 
 pub returns-in-Err : goal.returns-in-Err

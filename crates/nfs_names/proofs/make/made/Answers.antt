@@ -1,6 +1,6 @@
 use Rattle.std.proofs.lemmas.Result.{err_from_is_err_and}
-use Rattle.nfs_names.proofs.Making.{nothing-told, object-told}
-use Rattle.nfs_inodes.proofs.Halting.{known-stops}
+use Rattle.nfs_names.proofs.MakeObjectLemmas.{nothing-told, object-told}
+use Rattle.nfs_inodes.proofs.ReaderHaltLemmas.{known-stops}
 use Rattle.nfs_names.proofs.make.made.Goals as goal
 
 pub returns-in_err-known-clause-known : goal.returns-in_err-known-clause-known

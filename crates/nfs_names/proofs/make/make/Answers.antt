@@ -1,10 +1,10 @@
 use Rattle.std.proofs.Common.{◌++◌, Ok, Err}
 use Rattle.std.proofs.lemmas.Result.{err_from_is_err_and}
-use Rattle.nfs_inodes.proofs.Counting.{brings-as}
-use Rattle.nfs_inodes.proofs.Ending.{exported-as, lives-as, means-as, number-as}
-use Rattle.nfs_inodes.proofs.Showing.{shown-so}
+use Rattle.nfs_inodes.proofs.UsageChangeLemmas.{brings-as}
+use Rattle.nfs_inodes.proofs.NamedHaltLemmas.{exported-as, lives-as, means-as, number-as}
+use Rattle.nfs_inodes.proofs.ShownKindLemmas.{shown-so}
 use Rattle.nfs_inodes.specs.Asked.{asked_as}
-use Rattle.nfs_names.proofs.Making.{bringing-stops, front-making, made-replies, refused-replies}
+use Rattle.nfs_names.proofs.MakeObjectLemmas.{bringing-stops, front-making, made-replies, refused-replies}
 use Rattle.nfs_names.specs.Making.{there_as}
 use Rattle.nfs_objects.specs.Calls.{added_at}
 use Rattle.nfs_inodes.specs.Stops.{brought_by}

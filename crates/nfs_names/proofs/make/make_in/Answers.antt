@@ -1,11 +1,11 @@
 use Rattle.std.proofs.Common.{◌++◌, subst, sym}
 use Rattle.std.proofs.lemmas.Result.{err_from_is_err_and}
-use Rattle.nfs_objects.proofs.Promised.{does-nothing}
+use Rattle.nfs_objects.proofs.PromiseLemmas.{does-nothing}
 use Rattle.nfs_objects.specs.Calls.{added_at}
-use Rattle.nfs_inodes.proofs.Halting.{exports-stop}
-use Rattle.nfs_inodes.proofs.Standing.{known-lives}
+use Rattle.nfs_inodes.proofs.ReaderHaltLemmas.{exports-stop}
+use Rattle.nfs_inodes.proofs.StandsLemmas.{known-lives}
 use Rattle.nfs_inodes.specs.Asked.{asked_as, wanted_as}
-use Rattle.nfs_names.proofs.Making.{front-making, lives-making, new-as, new-ends, refused-end, there-ends}
+use Rattle.nfs_names.proofs.MakeObjectLemmas.{front-making, lives-making, new-as, new-ends, refused-end, there-ends}
 use Rattle.nfs_names.specs.Making.{IsMakeEnd, there_as}
 use Rattle.nfs_inodes.specs.Stops.{brought_by}
 use Rattle.nfs_inodes.specs.declared.found.Known.{Known}

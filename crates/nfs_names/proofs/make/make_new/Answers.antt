@@ -1,11 +1,11 @@
 use Rattle.std.proofs.Common.{◌++◌}
 use Rattle.std.proofs.lemmas.Result.{err_from_is_err_and}
 use Rattle.nfs_wire.specs.declared.status.NfsStatus.TheVariants as status
-use Rattle.nfs_objects.proofs.Promised.{does-nothing}
+use Rattle.nfs_objects.proofs.PromiseLemmas.{does-nothing}
 use Rattle.nfs_inodes.specs.Asked.{wanted_as}
-use Rattle.nfs_names.proofs.Making.{knows-making, lives-making, new-does}
-use Rattle.nfs_names.proofs.Growing.{grown-making}
-use Rattle.nfs_names.proofs.Making.{no-space, not-given, not-refused}
+use Rattle.nfs_names.proofs.MakeObjectLemmas.{knows-making, lives-making, new-does}
+use Rattle.nfs_names.proofs.NameGrowsLemmas.{grown-making}
+use Rattle.nfs_names.proofs.MakeObjectLemmas.{no-space, not-given, not-refused}
 use Rattle.nfs_names.specs.Making.{IsNewEnd}
 use Rattle.nfs_objects.specs.Calls.{next_places, usages_of}
 use Rattle.nfs_names.proofs.make.make_new.Goals as goal

@@ -1,6 +1,6 @@
 use Rattle.std.proofs.Common.{refl}
 use Rattle.nfs_wire.specs.declared.status.NfsStatus.TheVariants as status
-use Rattle.nfs_objects.proofs.Promised.{does-nothing}
+use Rattle.nfs_objects.proofs.PromiseLemmas.{does-nothing}
 use Rattle.nfs_names.specs.Making.{IsThereEnd, there_as}
 use Rattle.nfs_names.specs.declared.make.There.TheVariants as there
 use Rattle.nfs_names.proofs.make.make_there.Goals as goal

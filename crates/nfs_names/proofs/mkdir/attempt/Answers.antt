@@ -2,10 +2,10 @@ use Rattle.std.proofs.Common.{refl}
 use Rattle.std.proofs.lemmas.Result.{err_from_is_err_and}
 use Rattle.nfs_wire.specs.declared.calls.NfsCall.TheVariants as nfs
 use Rattle.nfs_machine.specs.declared.calls.Call.TheVariants as calls
-use Rattle.nfs_objects.proofs.Knows.{names-added}
+use Rattle.nfs_objects.proofs.KnowsLemmas.{names-added}
 use Rattle.nfs_objects.specs.Calls.{added_at}
-use Rattle.nfs_inodes.proofs.Ending.{making}
-use Rattle.nfs_names.proofs.Made.{mkdir-promised}
+use Rattle.nfs_inodes.proofs.NamedHaltLemmas.{making}
+use Rattle.nfs_names.proofs.CreationPromiseLemmas.{mkdir-promised}
 use Rattle.nfs_names.proofs.mkdir.attempt.Goals as goal
 
 pub returns-in_err-reply-clause-ends : goal.returns-in_err-reply-clause-ends

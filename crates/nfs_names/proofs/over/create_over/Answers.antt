@@ -1,13 +1,13 @@
 use Rattle.std.proofs.lemmas.Result.{err_from_is_err_and}
 use Rattle.nfs_wire.specs.declared.status.NfsStatus.TheVariants as status
-use Rattle.nfs_objects.proofs.Promised.{does-nothing}
+use Rattle.nfs_objects.proofs.PromiseLemmas.{does-nothing}
 use Rattle.nfs_objects.specs.declared.address.Addr.TheVariants as addresses
-use Rattle.nfs_inodes.proofs.Counting.{usage-lives-first}
-use Rattle.nfs_inodes.proofs.Standing.{known-lives}
-use Rattle.nfs_names.proofs.Creating.{no-answer-over, none-regular, nothing-over, over-does}
-use Rattle.nfs_names.proofs.Making.{later-stops}
+use Rattle.nfs_inodes.proofs.UsageChangeLemmas.{usage-lives-first}
+use Rattle.nfs_inodes.proofs.StandsLemmas.{known-lives}
+use Rattle.nfs_names.proofs.CreateExistingLemmas.{no-answer-over, none-regular, nothing-over, over-does}
+use Rattle.nfs_names.proofs.MakeObjectLemmas.{later-stops}
 use Rattle.nfs_names.specs.Creates.{IsOverEnd}
-use Rattle.nfs_inodes.proofs.Composing.{counted-stops}
+use Rattle.nfs_inodes.proofs.MakerChainLemmas.{counted-stops}
 use Rattle.std.proofs.Common.{subst, sym}
 use Rattle.nfs_objects.specs.Asks.{IsThere}
 use Rattle.nfs_inodes.specs.declared.found.Known.{Known}

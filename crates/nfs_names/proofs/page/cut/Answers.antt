@@ -3,7 +3,7 @@ use Rattle.std.proofs.lemmas.List.{nil_from_length}
 use Rattle.std.specs.Cmp.{unsigned_Decides}
 use Rattle.std.specs.Vec.{vec_len}
 use Rattle.nfs_inodes.specs.Listing.{listed_entry}
-use Rattle.nfs_names.proofs.Paged.{cut-listed}
+use Rattle.nfs_names.proofs.FittingPageLemmas.{cut-listed}
 use Rattle.nfs_names.specs.Pages.{page_cut}
 use Rattle.nfs_names.proofs.page.cut.Goals as goal
 

@@ -1,9 +1,9 @@
 use Rattle.std.proofs.Common.{◌≤◌, ◌++◌, ◌∷◌, [], Ok, true, length, map, arith, sym, ◌∙◌, ap, subst}
 use Rattle.std.proofs.lemmas.List.{append_assoc, append-nil, map-append}
-use Rattle.nfs_machine.proofs.Pages.{page-ends}
+use Rattle.nfs_machine.proofs.PageLemmas.{page-ends}
 use Rattle.nfs_machine.specs.Pages.{Pages}
 use Rattle.nfs_inodes.specs.Listing.{listed_entry}
-use Rattle.nfs_names.proofs.Paged.{budget-shrinks, fits-by-sizes, names-below, sizes-more, stops-here}
+use Rattle.nfs_names.proofs.FittingPageLemmas.{budget-shrinks, fits-by-sizes, names-below, sizes-more, stops-here}
 use Rattle.nfs_names.specs.Pages.{fit_of, page_cut, sizes_fit, sizes_of}
 use Rattle.nfs_names.specs.declared.page.Sizes.{Sizes}
 use Rattle.nfs_names.proofs.page.longest_page.Goals as goal

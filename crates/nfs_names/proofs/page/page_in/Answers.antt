@@ -1,8 +1,8 @@
 use Rattle.std.proofs.lemmas.Result.{err_from_is_err_and}
-use Rattle.nfs_inodes.proofs.Standing.{known-lives}
-use Rattle.nfs_names.proofs.Paged.{front-lives, page-listed, page-refused}
+use Rattle.nfs_inodes.proofs.StandsLemmas.{known-lives}
+use Rattle.nfs_names.proofs.FittingPageLemmas.{front-lives, page-listed, page-refused}
 use Rattle.nfs_names.specs.Pages.{fit_of}
-use Rattle.nfs_inodes.proofs.Halting.{lives-stops}
+use Rattle.nfs_inodes.proofs.ReaderHaltLemmas.{lives-stops}
 use Rattle.nfs_names.proofs.page.page_in.Goals as goal
 
 pub returns-in-Err-clause-page : goal.returns-in-Err-clause-page

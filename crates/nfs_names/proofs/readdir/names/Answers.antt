@@ -1,7 +1,7 @@
 use Rattle.std.proofs.Common.{◌++◌, ◌∷◌, [], map, take, sym, ◌∙◌, ap}
 use Rattle.std.proofs.lemmas.List.{map-append}
 use Rattle.nfs_machine.specs.PageSteps.{page_entry}
-use Rattle.nfs_inodes.proofs.Taking.{map-more}
+use Rattle.nfs_inodes.proofs.ListFrontLemmas.{map-more}
 use Rattle.nfs_inodes.specs.Listing.{listed_entry}
 use Rattle.nfs_names.proofs.readdir.names.Goals as goal
 

@@ -2,8 +2,8 @@ use Rattle.std.proofs.Common.{[], Err, Ok, refl, subst}
 use Rattle.std.proofs.lemmas.Result.{err_from_is_err_and}
 use Rattle.nfs_wire.specs.declared.calls.NfsCall.TheVariants as nfs
 use Rattle.nfs_machine.specs.declared.calls.Call.TheVariants as calls
-use Rattle.nfs_inodes.proofs.Ending.{asking, means-as, naming}
-use Rattle.nfs_names.proofs.Listed.{full-promised, full-refused}
+use Rattle.nfs_inodes.proofs.NamedHaltLemmas.{asking, means-as, naming}
+use Rattle.nfs_names.proofs.ReaddirLemmas.{full-promised, full-refused}
 use Rattle.nfs_names.specs.Pages.{Lists, full_page}
 use Rattle.nfs_names.proofs.readdirplus.attempt.Goals as goal
 

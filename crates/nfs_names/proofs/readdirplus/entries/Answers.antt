@@ -4,7 +4,7 @@ use Rattle.nfs_machine.specs.PageSteps.{full_entry}
 use Rattle.nfs_machine.specs.State.{Entry}
 use Rattle.nfs_objects.specs.Asks.{IsThere}
 use Rattle.nfs_objects.specs.declared.address.Addr.TheVariants as addresses
-use Rattle.nfs_inodes.proofs.Taking.{each-mapped, map-more}
+use Rattle.nfs_inodes.proofs.ListFrontLemmas.{each-mapped, map-more}
 use Rattle.nfs_inodes.specs.Listing.{listed_entry}
 use Rattle.nfs_names.proofs.readdirplus.entries.Goals as goal
 

@@ -1,14 +1,14 @@
 use Rattle.std.proofs.Common.{Ok, Err, ◌∷◌}
 use Rattle.std.proofs.lemmas.Result.{err_from_is_err_and}
-use Rattle.nfs_objects.proofs.Knows.{covers-among}
+use Rattle.nfs_objects.proofs.KnowsLemmas.{covers-among}
 use Rattle.nfs_objects.specs.Calls.{addresses_of, locks_under, named_by}
 use Rattle.nfs_objects.specs.declared.address.Addr.TheVariants as addresses
-use Rattle.nfs_inodes.proofs.Ending.{asking, lives-as, means-as, naming, number-as, reading}
-use Rattle.nfs_inodes.proofs.Halting.{stops-before}
-use Rattle.nfs_inodes.proofs.Showing.{shown-so}
-use Rattle.nfs_names.proofs.Removed.{alone, first-halted, first-read, names-directory, refused-promised}
-use Rattle.nfs_names.proofs.Removed.{taken-promised}
-use Rattle.nfs_names.proofs.Unlocked.{taking-names}
+use Rattle.nfs_inodes.proofs.NamedHaltLemmas.{asking, lives-as, means-as, naming, number-as, reading}
+use Rattle.nfs_inodes.proofs.ReaderHaltLemmas.{stops-before}
+use Rattle.nfs_inodes.proofs.ShownKindLemmas.{shown-so}
+use Rattle.nfs_names.proofs.RemoveLemmas.{alone, first-halted, first-read, names-directory, refused-promised}
+use Rattle.nfs_names.proofs.RemoveLemmas.{taken-promised}
+use Rattle.nfs_names.proofs.NamedLocksLemmas.{taking-names}
 use Rattle.nfs_names.specs.Removes.{call_of}
 use Rattle.nfs_names.proofs.remove.attempt.Goals as goal
 

@@ -1,4 +1,4 @@
-use Rattle.nfs_names.proofs.Removed.{directory-judged, no-directory-judged}
+use Rattle.nfs_names.proofs.RemoveLemmas.{directory-judged, no-directory-judged}
 use Rattle.nfs_names.proofs.remove.empty_directory.Goals as goal
 
 pub returns-in-Err : goal.returns-in-Err

@@ -1,4 +1,4 @@
-use Rattle.nfs_inodes.proofs.Standing.{kind-is}
+use Rattle.nfs_inodes.proofs.StandsLemmas.{kind-is}
 use Rattle.nfs_inodes.specs.Known.{content_at}
 use Rattle.nfs_names.proofs.remove.judged.Goals as goal
 

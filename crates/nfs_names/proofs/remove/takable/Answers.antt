@@ -1,8 +1,8 @@
 use Rattle.std.proofs.Common.{Some, ap, sym, ◌∙◌}
 use Rattle.std.proofs.lemmas.Result.{err_from_is_err_and}
-use Rattle.nfs_inodes.proofs.Standing.{known-lives}
-use Rattle.nfs_names.proofs.Removed.{judged-bad, judged-good, nothing-lives, nothing-named}
-use Rattle.nfs_inodes.proofs.Halting.{lives-stops}
+use Rattle.nfs_inodes.proofs.StandsLemmas.{known-lives}
+use Rattle.nfs_names.proofs.RemoveLemmas.{judged-bad, judged-good, nothing-lives, nothing-named}
+use Rattle.nfs_inodes.proofs.ReaderHaltLemmas.{lives-stops}
 use Rattle.nfs_names.proofs.remove.takable.Goals as goal
 
 pub returns-in_err-number-clause-found : goal.returns-in_err-number-clause-found

@@ -1,13 +1,13 @@
 use Rattle.std.proofs.Common.{◌∷◌, inr, subst, sym}
 use Rattle.std.proofs.lemmas.Result.{err_from_is_err_and}
-use Rattle.nfs_objects.proofs.Promised.{does-nothing}
+use Rattle.nfs_objects.proofs.PromiseLemmas.{does-nothing}
 use Rattle.nfs_objects.specs.Calls.{locks_at, locks_under}
-use Rattle.nfs_inodes.proofs.Standing.{known-lives}
-use Rattle.nfs_names.proofs.Removed.{refused-end, taken-does, untaken-end}
-use Rattle.nfs_names.proofs.Unlocked.{both-stop-locked, led-so, under-named}
+use Rattle.nfs_inodes.proofs.StandsLemmas.{known-lives}
+use Rattle.nfs_names.proofs.RemoveLemmas.{refused-end, taken-does, untaken-end}
+use Rattle.nfs_names.proofs.NamedLocksLemmas.{both-stop-locked, led-so, under-named}
 use Rattle.nfs_names.specs.Removes.{IsTakenEnd}
 use Rattle.nfs_objects.specs.declared.address.Addr.TheVariants as addresses
-use Rattle.nfs_inodes.proofs.Halting.{any-stops, exports-stop-at}
+use Rattle.nfs_inodes.proofs.ReaderHaltLemmas.{any-stops, exports-stop-at}
 use Rattle.nfs_inodes.specs.declared.found.Known.{Known}
 use Rattle.nfs_inodes.specs.Kinds.{IsShown}
 use Rattle.nfs_names.proofs.remove.take.Goals as goal

@@ -4,9 +4,9 @@ use Rattle.nfs_wire.specs.declared.calls.NfsCall.TheVariants as nfs
 use Rattle.nfs_machine.specs.declared.calls.Call.TheVariants as calls
 use Rattle.nfs_objects.specs.Attempt.{HaltsFirst, first_wanted_with}
 use Rattle.nfs_objects.specs.Modes.{modes_of}
-use Rattle.nfs_inodes.proofs.Ending.{means-as, naming-first, number-as}
-use Rattle.nfs_inodes.proofs.Showing.{shown-so}
-use Rattle.nfs_names.proofs.Renaming.{first-known, first-refused}
+use Rattle.nfs_inodes.proofs.NamedHaltLemmas.{means-as, naming-first, number-as}
+use Rattle.nfs_inodes.proofs.ShownKindLemmas.{shown-so}
+use Rattle.nfs_names.proofs.RenameLemmas.{first-known, first-refused}
 use Rattle.nfs_names.proofs.rename.attempt.Goals as goal
 
 pub returns-in_err-from-clause-ends : goal.returns-in_err-from-clause-ends

@@ -2,11 +2,11 @@ use Rattle.std.proofs.Common.{Err, Ok, refl}
 use Rattle.std.proofs.lemmas.Result.{err_from_is_err_and}
 use Rattle.nfs_wire.specs.declared.calls.NfsCall.TheVariants as nfs
 use Rattle.nfs_machine.specs.declared.calls.Call.TheVariants as calls
-use Rattle.nfs_inodes.proofs.Ending.{halting, lives-as, means-as, naming-second, number-as, reading}
-use Rattle.nfs_inodes.proofs.Halting.{stops-before}
-use Rattle.nfs_inodes.proofs.Showing.{shown-so}
-use Rattle.nfs_inodes.proofs.Standing.{known-lives}
-use Rattle.nfs_names.proofs.Renaming.{rename-promised, second-refused}
+use Rattle.nfs_inodes.proofs.NamedHaltLemmas.{halting, lives-as, means-as, naming-second, number-as, reading}
+use Rattle.nfs_inodes.proofs.ReaderHaltLemmas.{stops-before}
+use Rattle.nfs_inodes.proofs.ShownKindLemmas.{shown-so}
+use Rattle.nfs_inodes.proofs.StandsLemmas.{known-lives}
+use Rattle.nfs_names.proofs.RenameLemmas.{rename-promised, second-refused}
 use Rattle.nfs_objects.specs.Calls.{addresses_of}
 use Rattle.nfs_names.proofs.rename.attempt_from.Goals as goal
 

@@ -1,5 +1,5 @@
 use Rattle.std.proofs.Common.{sym}
-use Rattle.nfs_names.proofs.Renaming.{plain-outside}
+use Rattle.nfs_names.proofs.RenameLemmas.{plain-outside}
 use Rattle.nfs_names.proofs.rename.goes_into_itself.Goals as goal
 
 pub returns-else-is_directory : goal.returns-else-is_directory

@@ -1,5 +1,5 @@
 use Rattle.std.proofs.Common.{sym}
-use Rattle.nfs_names.proofs.Renaming.{over-directory, over-empty, over-plain}
+use Rattle.nfs_names.proofs.RenameLemmas.{over-directory, over-empty, over-plain}
 use Rattle.nfs_names.proofs.rename.is_replaceable.Goals as goal
 
 pub returns-then-not-is_directory : goal.returns-then-not-is_directory

@@ -1,5 +1,5 @@
-use Rattle.nfs_objects.proofs.Promised.{turns-none}
-use Rattle.nfs_names.proofs.Unlocked.{always-counting}
+use Rattle.nfs_objects.proofs.PromiseLemmas.{turns-none}
+use Rattle.nfs_names.proofs.NamedLocksLemmas.{always-counting}
 use Rattle.nfs_names.proofs.rename.lose_replaced.Goals as goal
 
 pub lose_link-requires-clause-alone : goal.lose_link-requires-clause-alone

@@ -1,13 +1,13 @@
 use Rattle.std.proofs.Common.{refl, sym, ◌∙◌}
 use Rattle.std.proofs.lemmas.Result.{err_from_is_err_and}
-use Rattle.nfs_machine.proofs.Changes.{flipped}
-use Rattle.nfs_objects.proofs.Promised.{turned-change, turns-none}
+use Rattle.nfs_machine.proofs.MapChangeLemmas.{flipped}
+use Rattle.nfs_objects.proofs.PromiseLemmas.{turned-change, turns-none}
 use Rattle.nfs_objects.specs.Calls.{added_at}
 use Rattle.nfs_objects.specs.declared.address.Addr.TheVariants as addresses
-use Rattle.nfs_inodes.proofs.Counting.{stands-first, stands-on}
-use Rattle.nfs_inodes.proofs.Halting.{any-stops, lives-stops}
-use Rattle.nfs_names.proofs.Growing.{giving-stops}
-use Rattle.nfs_names.proofs.Renaming.{moves-one, moves-two}
+use Rattle.nfs_inodes.proofs.UsageChangeLemmas.{stands-first, stands-on}
+use Rattle.nfs_inodes.proofs.ReaderHaltLemmas.{any-stops, lives-stops}
+use Rattle.nfs_names.proofs.NameGrowsLemmas.{giving-stops}
+use Rattle.nfs_names.proofs.RenameLemmas.{moves-one, moves-two}
 use Rattle.nfs_names.proofs.rename.move_entry.Goals as goal
 
 pub returns-then-is_one_directory : goal.returns-then-is_one_directory

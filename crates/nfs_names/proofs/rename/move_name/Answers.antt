@@ -1,18 +1,18 @@
 use Rattle.std.proofs.Common.{◌++◌, ap, ◌∙◌}
 use Rattle.std.proofs.lemmas.Result.{err_from_is_err_and}
 use Rattle.nfs_machine.specs.Times.{time_of}
-use Rattle.nfs_objects.proofs.Promised.{turned-change, turns-both}
+use Rattle.nfs_objects.proofs.PromiseLemmas.{turned-change, turns-both}
 use Rattle.nfs_objects.specs.Calls.{added_at}
 use Rattle.nfs_objects.specs.declared.address.Addr.TheVariants as addresses
-use Rattle.nfs_inodes.proofs.Standing.{known-lives}
+use Rattle.nfs_inodes.proofs.StandsLemmas.{known-lives}
 use Rattle.nfs_inodes.specs.Renames.{rehomed}
 use Rattle.nfs_inodes.specs.Stops.{StopsAt}
-use Rattle.nfs_names.proofs.Renaming.{lives-on, moved-lived, over-counts}
-use Rattle.nfs_names.proofs.Renaming.{later-named, over-lives, turned-after, turned-both}
-use Rattle.nfs_names.proofs.Alone.{replaced-changes}
+use Rattle.nfs_names.proofs.RenameLemmas.{lives-on, moved-lived, over-counts}
+use Rattle.nfs_names.proofs.RenameLemmas.{later-named, over-lives, turned-after, turned-both}
+use Rattle.nfs_names.proofs.HeldAloneLemmas.{replaced-changes}
 use Rattle.nfs_names.specs.Renames.{entry_moved, locks_replaced, replaced_lost}
-use Rattle.nfs_inodes.proofs.Halting.{lives-stops, stops-before}
-use Rattle.nfs_inodes.proofs.WriteAsks.{back-stops, front-stops}
+use Rattle.nfs_inodes.proofs.ReaderHaltLemmas.{lives-stops, stops-before}
+use Rattle.nfs_inodes.proofs.WriteAsksLemmas.{back-stops, front-stops}
 use Rattle.nfs_names.proofs.rename.move_name.Goals as goal
 
 pub move_entry-requires-clause-from : goal.move_entry-requires-clause-from

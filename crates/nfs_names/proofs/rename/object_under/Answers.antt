@@ -1,8 +1,8 @@
 use Rattle.std.proofs.lemmas.Result.{err_from_is_err_and}
-use Rattle.nfs_inodes.proofs.Standing.{known-lives}
-use Rattle.nfs_names.proofs.Alone.{led-number}
-use Rattle.nfs_names.proofs.Renaming.{reads-under, under-none}
-use Rattle.nfs_inodes.proofs.Halting.{lives-stops}
+use Rattle.nfs_inodes.proofs.StandsLemmas.{known-lives}
+use Rattle.nfs_names.proofs.HeldAloneLemmas.{led-number}
+use Rattle.nfs_names.proofs.RenameLemmas.{reads-under, under-none}
+use Rattle.nfs_inodes.proofs.ReaderHaltLemmas.{lives-stops}
 use Rattle.nfs_names.proofs.rename.object_under.Goals as goal
 
 pub returns-in_err-number-clause-finds : goal.returns-in_err-number-clause-finds

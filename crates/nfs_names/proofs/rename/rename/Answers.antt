@@ -4,11 +4,11 @@ use Rattle.nfs_wire.specs.declared.calls.NfsCall.TheVariants as nfs
 use Rattle.nfs_wire.specs.declared.status.NfsStatus.TheVariants as status
 use Rattle.nfs_machine.specs.declared.calls.Call.TheVariants as calls
 use Rattle.nfs_objects.specs.Calls.{added_at, locks_at, named_by}
-use Rattle.nfs_names.proofs.Alone.{led-as, renaming-changes}
-use Rattle.nfs_names.proofs.Renaming.{check-refused, is-renaming, no-source, settled-does, stops-named}
-use Rattle.nfs_names.proofs.Unlocked.{rename-names}
+use Rattle.nfs_names.proofs.HeldAloneLemmas.{led-as, renaming-changes}
+use Rattle.nfs_names.proofs.RenameLemmas.{check-refused, is-renaming, no-source, settled-does, stops-named}
+use Rattle.nfs_names.proofs.NamedLocksLemmas.{rename-names}
 use Rattle.nfs_names.specs.Renames.{IsRenameEnd}
-use Rattle.nfs_inodes.proofs.Halting.{exports-stop-at, any-stops}
+use Rattle.nfs_inodes.proofs.ReaderHaltLemmas.{exports-stop-at, any-stops}
 use Rattle.nfs_inodes.specs.Kinds.{IsShown}
 use Rattle.nfs_inodes.specs.Known.{HasNumber}
 use Rattle.nfs_inodes.specs.declared.found.Known.{Known}

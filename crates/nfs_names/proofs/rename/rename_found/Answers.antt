@@ -1,11 +1,11 @@
 use Rattle.std.proofs.Common.{Ok, Err, sym, ◌++◌}
 use Rattle.std.proofs.lemmas.Result.{err_from_is_err_and}
 use Rattle.nfs_wire.specs.declared.status.NfsStatus.TheVariants as status
-use Rattle.nfs_inodes.proofs.Standing.{known-lives}
-use Rattle.nfs_names.proofs.Renaming.{ends-exists, ends-invalid, ends-links, ends-one, ends-space, moved-does}
-use Rattle.nfs_names.proofs.Renaming.{settled-does}
+use Rattle.nfs_inodes.proofs.StandsLemmas.{known-lives}
+use Rattle.nfs_names.proofs.RenameLemmas.{ends-exists, ends-invalid, ends-links, ends-one, ends-space, moved-does}
+use Rattle.nfs_names.proofs.RenameLemmas.{settled-does}
 use Rattle.nfs_objects.specs.Calls.{added_at}
-use Rattle.nfs_inodes.proofs.Halting.{any-stops, lives-stops}
+use Rattle.nfs_inodes.proofs.ReaderHaltLemmas.{any-stops, lives-stops}
 use Rattle.nfs_names.specs.Renames.{locks_replaced}
 use Rattle.nfs_names.proofs.rename.rename_found.Goals as goal
 

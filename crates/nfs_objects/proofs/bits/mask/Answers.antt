@@ -1,5 +1,5 @@
 use Rattle.std.proofs.Common.{arith}
-use Rattle.nfs_objects.proofs.BitSets.{mask-all, mask-made}
+use Rattle.nfs_objects.proofs.BitSetLemmas.{mask-all, mask-made}
 use Rattle.nfs_objects.proofs.bits.mask.Goals as goal
 
 pub returns-then-count-lt-WORD : goal.returns-then-count-lt-WORD

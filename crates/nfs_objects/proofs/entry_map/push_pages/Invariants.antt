@@ -1,4 +1,4 @@
-use Rattle.nfs_objects.proofs.Addressed.{IsNextListed, is_page_before, left_from}
+use Rattle.nfs_objects.proofs.PagePartAddressLemmas.{IsNextListed, is_page_before, left_from}
 use Rattle.nfs_objects.proofs.entry_map.push_pages.Given as goal
 use Rattle.nfs_objects.specs.Directories.{HasBesides}
 

@@ -1,5 +1,5 @@
 use Rattle.std.proofs.Common.{◌+◌, List, subst, sym}
-use Rattle.nfs_objects.proofs.Addressed.{besides-last, besides-none, no-part, part-more}
+use Rattle.nfs_objects.proofs.PagePartAddressLemmas.{besides-last, besides-none, no-part, part-more}
 use Rattle.nfs_objects.proofs.entry_map.push_parts.Goals as goal
 use Rattle.nfs_objects.specs.Directories.{HasBesides, is_part_of}
 use Rattle.nfs_objects.specs.declared.address.Addr.{Addr}

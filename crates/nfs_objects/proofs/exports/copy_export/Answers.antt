@@ -1,5 +1,5 @@
 use Rattle.std.specs.List.{each_same}
-use Rattle.nfs_objects.proofs.ExportTables.{same-export}
+use Rattle.nfs_objects.proofs.ExportTableLemmas.{same-export}
 use Rattle.nfs_objects.proofs.exports.copy_export.Goals as goal
 
 pub returns : goal.returns

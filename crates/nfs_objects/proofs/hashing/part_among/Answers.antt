@@ -1,5 +1,5 @@
 use Rattle.std.proofs.Common.{sym}
-use Rattle.nfs_objects.proofs.Hashed.{part-first}
+use Rattle.nfs_objects.proofs.HashedPartLemmas.{part-first}
 use Rattle.nfs_objects.proofs.hashing.part_among.Goals as goal
 use Rattle.nfs_objects.specs.Directories.{digest}
 

@@ -1,6 +1,6 @@
 use Rattle.std.proofs.Common.{◌<◌, ◌^◌, arith}
 use Rattle.std.proofs.Math.Nat.{mod-eq_of_lt}
-use Rattle.nfs_objects.proofs.Hashed.{top-within}
+use Rattle.nfs_objects.proofs.HashedPartLemmas.{top-within}
 use Rattle.nfs_objects.proofs.hashing.top_of.Goals as goal
 use Rattle.nfs_objects.specs.Directories.{top_of}
 

@@ -1,4 +1,4 @@
-use Rattle.nfs_objects.proofs.Bounded.{asks-few, names-few, names-stay}
+use Rattle.nfs_objects.proofs.AsksFewLemmas.{asks-few, names-few, names-stay}
 use Rattle.nfs_objects.proofs.laws.calls_ask_few.Goals as goal
 
 pub returns-clause-asked : goal.returns-clause-asked

@@ -1,4 +1,4 @@
-use Rattle.nfs_objects.proofs.Compared.{addresses, contexts, leaves, modes, mounts, numbers}
+use Rattle.nfs_objects.proofs.ComparisonLemmas.{addresses, contexts, leaves, modes, mounts, numbers}
 use Rattle.nfs_objects.proofs.laws.comparisons_decide.Goals as goal
 
 pub returns : goal.returns

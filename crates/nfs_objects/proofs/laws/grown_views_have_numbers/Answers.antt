@@ -1,4 +1,4 @@
-use Rattle.nfs_objects.proofs.Numbers.{grown-have-numbers}
+use Rattle.nfs_objects.proofs.NewNumberLemmas.{grown-have-numbers}
 use Rattle.nfs_objects.proofs.laws.grown_views_have_numbers.Goals as goal
 
 pub returns : goal.returns

@@ -1,4 +1,4 @@
-use Rattle.nfs_objects.proofs.Suiting.{grows-suitably, starts-suitably}
+use Rattle.nfs_objects.proofs.ModesSuitLemmas.{grows-suitably, starts-suitably}
 use Rattle.nfs_objects.proofs.laws.grown_views_suit.Goals as goal
 
 pub returns-clause-first : goal.returns-clause-first

@@ -1,6 +1,6 @@
 use Rattle.std.proofs.Common.{◌∙◌, Some, option_map, sym}
 use Rattle.std.specs.Arc.{arc_value}
-use Rattle.nfs_objects.proofs.NamePlaces.{address-tells, place-tells}
+use Rattle.nfs_objects.proofs.NamePlaceLemmas.{address-tells, place-tells}
 use Rattle.nfs_objects.proofs.modes.part_address.Goals as goal
 
 pub returns : goal.returns

@@ -1,6 +1,6 @@
 use Rattle.std.proofs.Common.{◌<◌, ◌++◌, ap, arith, length, map, subst, sym}
 use Rattle.std.specs.Arc.{arc_value}
-use Rattle.nfs_objects.proofs.MountTables.{next-apart}
+use Rattle.nfs_objects.proofs.MountTableLemmas.{next-apart}
 use Rattle.nfs_objects.proofs.mounts.add_pieces.Goals as goal
 use Rattle.nfs_objects.specs.MountTables.{AreDistinct, is_same, joined}
 

@@ -2,7 +2,7 @@ use Rattle.std.proofs.Common.{◌≡◌, false, ap, sym, ◌∙◌, rules}
 use Rattle.std.proofs.lemmas.Result.{IfOk-weaker}
 use Rattle.std.specs.Arc.{arc_value}
 use Rattle.std.specs.List.{list_any}
-use Rattle.nfs_objects.proofs.MountTables.{all-stay}
+use Rattle.nfs_objects.proofs.MountTableLemmas.{all-stay}
 use Rattle.nfs_objects.proofs.mounts.rest_of.Goals as goal
 use Rattle.nfs_objects.specs.Leaving.{leaves}
 

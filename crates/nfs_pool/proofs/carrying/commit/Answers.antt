@@ -1,4 +1,4 @@
-use Rattle.nfs_pool.proofs.Reading.{made_next}
+use Rattle.nfs_pool.proofs.ReadsOnLemmas.{made_next}
 use Rattle.nfs_pool.proofs.carrying.commit.Goals as goal
 
 pub returns-in-None-clause-comes : goal.returns-in-None-clause-comes

@@ -2,9 +2,9 @@ use Rattle.std.proofs.Common.{subst}
 use Rattle.nfs_objects.specs.declared.address.Addr.{Addr}
 use Rattle.nfs_objects.specs.declared.modes.Mode.{Mode}
 use Rattle.nfs_engine.specs.Calls.{TxnValue}
-use Rattle.nfs_schedule.proofs.Stepping.{number_on, taken_on}
+use Rattle.nfs_schedule.proofs.CourseStepLemmas.{number_on, taken_on}
 use Rattle.nfs_schedule.specs.Courses.{NumbersNext, TakesNext}
-use Rattle.nfs_pool.proofs.Reading.{reads_so, reads_twice}
+use Rattle.nfs_pool.proofs.ReadsOnLemmas.{reads_so, reads_twice}
 use Rattle.nfs_pool.proofs.carrying.run.Goals as goal
 
 pub steps-preserved-in-Acquire : goal.steps-preserved-in-Acquire

@@ -2,7 +2,7 @@ use Rattle.std.proofs.Common.{Ok, ◌∙◌, ap, subst, ◌++◌, ◌∷◌, [],
 use Rattle.nfs_engine.specs.declared.journal.Receipt.{Receipt}
 use Rattle.nfs_engine.specs.declared.admission.Admission.{Admission}
 use Rattle.nfs_pool.specs.Steps.{AdmitsFrom}
-use Rattle.nfs_pool.proofs.Seated.{seat_after, seat_gains}
+use Rattle.nfs_pool.proofs.SeatLemmas.{seat_after, seat_gains}
 use Rattle.nfs_pool.proofs.carrying.run_call.Goals as goal
 
 pub invariant_of-seat-in-Executed : goal.invariant_of-seat-in-Executed

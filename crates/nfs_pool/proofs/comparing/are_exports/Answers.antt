@@ -4,7 +4,7 @@ use Rattle.std.specs.Prelude.{Bool, false}
 use Rattle.std.specs.Bool.{Decides}
 use Rattle.nfs_machine.specs.Run.{Arrival, NewExports}
 use Rattle.nfs_engine.specs.Arrivals.{incoming_value}
-use Rattle.nfs_pool.proofs.Numbered.{exports_alike, lists_apart}
+use Rattle.nfs_pool.proofs.ReceiptNumberLemmas.{exports_alike, lists_apart}
 use Rattle.nfs_pool.proofs.comparing.are_exports.Goals as goal
 
 pub returns-then-eq : goal.returns-then-eq

@@ -4,7 +4,7 @@ use Rattle.std.proofs.lemmas.List.{length-map}
 use Rattle.std.proofs.lemmas.Option.{slice_get_within}
 use Rattle.nfs_engine.specs.Arrivals.{shared_value}
 use Rattle.nfs_pool.specs.Eras.{StandsAt, told_value}
-use Rattle.nfs_pool.proofs.Numbered.{one_more}
+use Rattle.nfs_pool.proofs.ReceiptNumberLemmas.{one_more}
 use Rattle.nfs_pool.proofs.comparing.begin_so.Goals as goal
 
 pub returns-then-not-stands_at : goal.returns-then-not-stands_at

@@ -2,7 +2,7 @@ use Rattle.std.proofs.Common.{◌∙◌, sym}
 use Rattle.std.specs.Cmp.Lexicographic.{bytes_decides}
 use Rattle.std.proofs.lemmas.Bool.{true≢false}
 use Rattle.nfs_engine.specs.Arrivals.{received_value}
-use Rattle.nfs_pool.proofs.Numbered.{received_same}
+use Rattle.nfs_pool.proofs.ReceiptNumberLemmas.{received_same}
 use Rattle.nfs_pool.proofs.comparing.records_alike.Goals as goal
 use Rattle.nfs_pool.proofs.comparing.records_alike.Goals.{then-eq, else-eq}
 

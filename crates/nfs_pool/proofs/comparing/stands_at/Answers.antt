@@ -3,7 +3,7 @@ use Rattle.std.specs.Bool.{Decides}
 use Rattle.nfs_engine.specs.Arrivals.{record_value, shared_value}
 use Rattle.nfs_engine.specs.declared.arrival.Executed.{Executed}
 use Rattle.nfs_pool.specs.Eras.{IsToldAt, told_value}
-use Rattle.nfs_pool.proofs.Numbered.{at_map, past_map, stands_if, stands_past}
+use Rattle.nfs_pool.proofs.ReceiptNumberLemmas.{at_map, past_map, stands_if, stands_past}
 use Rattle.nfs_pool.proofs.comparing.stands_at.Goals as goal
 
 pub returns-in-Some : goal.returns-in-Some

@@ -1,7 +1,7 @@
 use Rattle.std.proofs.Common.{◌+◌, map, refl}
 use Rattle.nfs_engine.specs.Arrivals.{record_value}
 use Rattle.nfs_pool.specs.Eras.{told_value}
-use Rattle.nfs_pool.proofs.Numbered.{at_map, past_map, told_nowhere, told_there}
+use Rattle.nfs_pool.proofs.ReceiptNumberLemmas.{at_map, past_map, told_nowhere, told_there}
 use Rattle.nfs_pool.proofs.comparing.tells_at.Goals as goal
 
 pub returns-in-Some : goal.returns-in-Some

@@ -4,7 +4,7 @@ use Rattle.std.proofs.lemmas.List.{take_all}
 use Rattle.std.proofs.lemmas.List.Sorted.{IsNonDecreasingBy-from_sort, IsPermutation-map, answers_always}
 use Rattle.nfs_machine.specs.Run.{Record}
 use Rattle.nfs_pool.specs.Eras.{told, told_each, told_number, told_value}
-use Rattle.nfs_pool.proofs.Numbered.{told_each-next}
+use Rattle.nfs_pool.proofs.ReceiptNumberLemmas.{told_each-next}
 use Rattle.nfs_pool.proofs.comparing.told_in_order.Goals as goal
 
 pub loop-each-preserved : goal.loop-each-preserved

@@ -8,8 +8,8 @@ use Rattle.nfs_engine.specs.declared.records.Era.{Era}
 use Rattle.nfs_pool.specs.Eras.{BeginSo, EndsEra, told_by, told_value}
 use Rattle.nfs_pool.specs.Seats.{SeatValue}
 use Rattle.nfs_pool.specs.declared.comparing.Told.{Told}
-use Rattle.nfs_pool.proofs.Numbered.{count-told, tell-all, told-count}
-use Rattle.nfs_pool.proofs.Ordered.{begin-sorted}
+use Rattle.nfs_pool.proofs.ReceiptNumberLemmas.{count-told, tell-all, told-count}
+use Rattle.nfs_pool.proofs.ReceiptOrderLemmas.{begin-sorted}
 use Rattle.nfs_pool.proofs.ending.close_era.Goals as goal
 
 pub returns-in-Ok-leave_era-clause-era : goal.returns-in-Ok-leave_era-clause-era

@@ -1,6 +1,6 @@
 use Rattle.std.proofs.Common.{◌≡◌, ap, arith, length, subst, ℕ}
 use Rattle.nfs_pool.specs.Eras.{LeavesEra, told_in}
-use Rattle.nfs_pool.proofs.Numbered.{count-told}
+use Rattle.nfs_pool.proofs.ReceiptNumberLemmas.{count-told}
 use Rattle.nfs_pool.proofs.ending.leave_era.Goals as goal
 
 pub new-requires : goal.new-requires

@@ -1,5 +1,5 @@
 use Rattle.std.proofs.Common.{◌≡◌, true, false, option_copied}
-use Rattle.nfs_pool.proofs.Marked.{marked-apart, marked-here}
+use Rattle.nfs_pool.proofs.MarkedWritesLemmas.{marked-apart, marked-here}
 use Rattle.nfs_pool.specs.Marked.{is_among}
 use Rattle.nfs_pool.proofs.marking.mark.Goals as goal
 

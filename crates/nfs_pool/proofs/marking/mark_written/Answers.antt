@@ -2,10 +2,10 @@ use Rattle.std.proofs.Common.{List, ◌++◌, ◌∷◌, [], map, take, option_c
 use Rattle.std.proofs.lemmas.List.{take_all}
 use Rattle.nfs_objects.specs.Values.{write_value}
 use Rattle.nfs_objects.specs.declared.change.Write.{Write}
-use Rattle.nfs_engine.proofs.Placed.{one_further}
-use Rattle.nfs_stamps.proofs.Marked.{IsAfter, after_all, after_none}
+use Rattle.nfs_engine.proofs.WrittenShardsLemmas.{one_further}
+use Rattle.nfs_stamps.proofs.MarksWrittenLemmas.{IsAfter, after_all, after_none}
 use Rattle.nfs_stamps.specs.Marking.{Writes}
-use Rattle.nfs_pool.proofs.Marked.{marked-more}
+use Rattle.nfs_pool.proofs.MarkedWritesLemmas.{marked-more}
 use Rattle.nfs_pool.specs.Marked.{is_among}
 use Rattle.nfs_pool.proofs.marking.mark_written.Goals as goal
 

@@ -1,6 +1,6 @@
 use Rattle.std.proofs.Common.{map, option_copied, take}
 use Rattle.nfs_objects.specs.Values.{write_value}
-use Rattle.nfs_stamps.proofs.Marked.{IsAfter}
+use Rattle.nfs_stamps.proofs.MarksWrittenLemmas.{IsAfter}
 use Rattle.nfs_pool.specs.Marked.{is_among}
 use Rattle.nfs_pool.proofs.marking.mark_written.Given as goal
 

@@ -1,5 +1,5 @@
 use Rattle.std.proofs.Common.{◌<◌, arith, length, rules}
-use Rattle.nfs_pool.proofs.Starting.{first-marked}
+use Rattle.nfs_pool.proofs.OpeningMarksLemmas.{first-marked}
 use Rattle.nfs_pool.proofs.opening.lock_all.Goals as goal
 
 pub new-requires : goal.new-requires

@@ -1,7 +1,7 @@
 use Rattle.nfs_objects.specs.declared.address.Addr.TheVariants.{Exports, Mounts}
 use Rattle.nfs_engine.specs.Book.{store_in}
 use Rattle.nfs_engine.specs.Shards.{slot_at}
-use Rattle.nfs_pool.proofs.Marked.{opening-marks, puts-same}
+use Rattle.nfs_pool.proofs.MarkedWritesLemmas.{opening-marks, puts-same}
 use Rattle.nfs_pool.proofs.opening.mark_opening.Goals as goal
 
 pub returns-clause-book : goal.returns-clause-book

@@ -2,7 +2,7 @@ use Rattle.std.proofs.Common.{◌≡◌, ◌+◌, ◌∷◌, ◌∙◌, [], ap, 
 use Rattle.std.specs.Prelude.{reverse}
 use Rattle.std.proofs.lemmas.List.{reverse-append}
 use Rattle.nfs_pool.specs.Eras.{receipts_count}
-use Rattle.nfs_pool.proofs.Numbered.{told_in-left}
+use Rattle.nfs_pool.proofs.ReceiptNumberLemmas.{told_in-left}
 use Rattle.nfs_pool.proofs.seat.leave_all.Goals as goal
 
 pub seats-preserved : goal.seats-preserved

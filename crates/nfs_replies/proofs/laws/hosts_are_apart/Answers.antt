@@ -1,6 +1,6 @@
 use Rattle.std.proofs.Common.{sym, ap, ◌∙◌}
 use Rattle.nfs_replies.specs.Kept.{after_all}
-use Rattle.nfs_replies.proofs.Apart.{own}
+use Rattle.nfs_replies.proofs.OtherHostsLemmas.{own}
 use Rattle.nfs_replies.proofs.laws.hosts_are_apart.Goals as goal
 
 pub returns-clause-own : goal.returns-clause-own

@@ -3,7 +3,7 @@ use Rattle.std.proofs.lemmas.List.{length-append, length-take}
 use Rattle.std.proofs.lemmas.List.Filters.{length-filter_both}
 use Rattle.nfs_replies.specs.Kept.{ReplyEvent, KeptReply, after, events_of, is_for}
 use Rattle.nfs_replies.specs.Kept.ReplyEvent.{Replied, Repeated}
-use Rattle.nfs_replies.proofs.Apart.{own, step}
+use Rattle.nfs_replies.proofs.OtherHostsLemmas.{own, step}
 use Rattle.nfs_replies.proofs.laws.lists_are_bounded.Goals as goal
 
 bounded : (capacity : ℕ) (event : ReplyEvent) (list : List KeptReply) → length list ≤ capacity →

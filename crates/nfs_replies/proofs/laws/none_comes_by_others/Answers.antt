@@ -1,4 +1,4 @@
-use Rattle.nfs_replies.proofs.Unkept.{executed-unkept, repeated-unkept}
+use Rattle.nfs_replies.proofs.NotKeptLemmas.{executed-unkept, repeated-unkept}
 use Rattle.nfs_replies.proofs.laws.none_comes_by_others.Goals as goal
 
 pub returns-clause-executed : goal.returns-clause-executed

@@ -1,5 +1,5 @@
 -- Each word is one further.
-use Rattle.nfs_rpc.proofs.Readers.{word_further}
+use Rattle.nfs_rpc.proofs.OpaqueRestLemmas.{word_further}
 use Rattle.nfs_rpc.proofs.calls.advance.Goals as goal
 
 pub loop-word-preserved : goal.loop-word-preserved

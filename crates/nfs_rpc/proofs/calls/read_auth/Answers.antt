@@ -1,5 +1,5 @@
 -- The reader goes on to where the body's reader stands.
-use Rattle.nfs_rpc.proofs.Readers.{auth_reads}
+use Rattle.nfs_rpc.proofs.OpaqueRestLemmas.{auth_reads}
 use Rattle.nfs_rpc.proofs.calls.read_auth.Goals as goal
 
 pub returns : goal.returns

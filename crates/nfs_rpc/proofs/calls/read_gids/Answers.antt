@@ -2,7 +2,7 @@
 use Rattle.std.proofs.Common.{◌≡◌, suc, ◌+◌, ◌-◌, ◌∙◌, sym, ap, arith}
 use Rattle.std.proofs.lemmas.List.{length_push}
 use Rattle.std.proofs.lemmas.Result.{err_from_is_err_and}
-use Rattle.nfs_rpc.proofs.Readers.{numbers_further, numbers_refused, numbers_end, array_is}
+use Rattle.nfs_rpc.proofs.OpaqueRestLemmas.{numbers_further, numbers_refused, numbers_end, array_is}
 use Rattle.nfs_rpc.proofs.calls.read_gids.Goals as goal
 
 pub returns-in_err-u32 : goal.returns-in_err-u32

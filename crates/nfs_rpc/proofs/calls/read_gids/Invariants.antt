@@ -2,7 +2,7 @@
 use Rattle.std.proofs.Common.{◌≡◌, ◌-◌, length}
 use Rattle.nfs_xdr.specs.Types.{Word}
 use Rattle.nfs_xdr.specs.Reading.{read, read_all}
-use Rattle.nfs_rpc.proofs.Readers.{with_front}
+use Rattle.nfs_rpc.proofs.OpaqueRestLemmas.{with_front}
 use Rattle.nfs_rpc.proofs.calls.read_gids.Given as goal
 
 abbrev pub invariant-loop-gid : goal.invariant-loop-gid

@@ -1,6 +1,6 @@
 -- Each step leads on from where the one before it led.
 use Rattle.std.proofs.Common.{refl, arith, ap, length-append, length, Some, None}
-use Rattle.nfs_rpc.proofs.Places.{leads_nowhere, leads_further}
+use Rattle.nfs_rpc.proofs.FragmentByteLemmas.{leads_nowhere, leads_further}
 use Rattle.nfs_rpc.proofs.marking.advance.Goals as goal
 
 pub steps-init : goal.steps-init

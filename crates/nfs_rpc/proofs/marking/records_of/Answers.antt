@@ -1,6 +1,6 @@
 -- Each record stands behind the ones before it, and the last part leads into the next.
 use Rattle.std.proofs.Common.{refl}
-use Rattle.nfs_rpc.proofs.Places.{no_records, more_records, last_records}
+use Rattle.nfs_rpc.proofs.FragmentByteLemmas.{no_records, more_records, last_records}
 use Rattle.nfs_rpc.proofs.marking.records_of.Goals as goal
 
 pub records-init : goal.records-init

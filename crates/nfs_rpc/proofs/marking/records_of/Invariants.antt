@@ -1,7 +1,7 @@
 -- What was taken so far is whole records, and the next one has not begun.
 use Rattle.std.proofs.Common.{◌≡◌, length, []}
 use Rattle.nfs_rpc.specs.declared.marking.Place.TheVariants.{Header}
-use Rattle.nfs_rpc.proofs.Places.{AreRecords}
+use Rattle.nfs_rpc.proofs.FragmentByteLemmas.{AreRecords}
 use Rattle.nfs_rpc.proofs.marking.records_of.Given as goal
 
 abbrev pub invariant-records : goal.invariant-records

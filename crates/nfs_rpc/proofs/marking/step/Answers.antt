@@ -1,7 +1,7 @@
 -- What was taken is the front of the piece: one byte, so many bytes of the body, or all of it.
 use Rattle.std.proofs.Common.{◌≡◌, ℕ, ◌<◌, ◌-◌, List, [], ◌∷◌, length, take, drop, arith, sym, ap, get_or}
 use Rattle.std.proofs.lemmas.List.{take_all, take-append-drop}
-use Rattle.nfs_rpc.proofs.Places.{header_leads, body_leads, refused_leads}
+use Rattle.nfs_rpc.proofs.FragmentByteLemmas.{header_leads, body_leads, refused_leads}
 use Rattle.nfs_rpc.proofs.marking.step.Goals as goal
 
 first_and_rest : (piece : List ℕ) → 0 < length piece → piece ≡ get_or piece 0 0 ∷ take (length piece - 1) (drop 1 piece)

@@ -1,5 +1,5 @@
 -- Two readings of a stream agree record by record.
-use Rattle.nfs_rpc.proofs.Streams.{splits_once}
+use Rattle.nfs_rpc.proofs.StreamLemmas.{splits_once}
 use Rattle.nfs_rpc.proofs.marking.streams_split_once.Goals as goal
 
 pub returns : goal.returns

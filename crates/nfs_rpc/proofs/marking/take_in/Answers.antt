@@ -1,6 +1,6 @@
 -- Either the record goes on, or it is whole and the rest of the piece has the records behind it.
 use Rattle.std.proofs.Common.{[], ◌∷◌, sym, append_assoc, append-nil}
-use Rattle.nfs_rpc.proofs.Places.{adds_none, adds_records}
+use Rattle.nfs_rpc.proofs.FragmentByteLemmas.{adds_none, adds_records}
 use Rattle.nfs_rpc.proofs.marking.take_in.Goals as goal
 
 pub returns-in_default-clause-ok : goal.returns-in_default-clause-ok

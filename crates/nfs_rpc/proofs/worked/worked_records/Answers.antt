@@ -1,7 +1,7 @@
 use Rattle.std.proofs.Common.{true, [], ◌∷◌, codes, refl, lit<}
 use Rattle.std.proofs.lemmas.Bool.{leb-true}
 use Rattle.nfs_rpc.specs.declared.marking.TheConstants.{RECORD_LIMIT}
-use Rattle.nfs_rpc.proofs.Streams.{body_begins_none, header_begins_none}
+use Rattle.nfs_rpc.proofs.StreamLemmas.{body_begins_none, header_begins_none}
 use Rattle.nfs_rpc.proofs.worked.worked_records.Goals as goal
 
 pub returns : goal.returns

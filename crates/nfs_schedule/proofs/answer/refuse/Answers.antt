@@ -1,4 +1,4 @@
-use Rattle.nfs_engine.proofs.Formed.{arrival-refusal}
+use Rattle.nfs_engine.proofs.ReplyFormLemmas.{arrival-refusal}
 use Rattle.nfs_schedule.proofs.answer.refuse.Goals as goal
 
 pub refusal-answer-requires : goal.refusal-answer-requires

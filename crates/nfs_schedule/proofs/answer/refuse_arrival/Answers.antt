@@ -1,6 +1,6 @@
 use Rattle.std.proofs.Common.{subst}
 use Rattle.nfs_machine.specs.Run.{Arrival}
-use Rattle.nfs_schedule.proofs.Refusing.{refuses_to}
+use Rattle.nfs_schedule.proofs.RefusedRecordLemmas.{refuses_to}
 use Rattle.nfs_schedule.specs.Answers.{IsRefused}
 use Rattle.nfs_schedule.proofs.answer.refuse_arrival.Goals as goal
 

@@ -1,5 +1,5 @@
 use Rattle.std.proofs.Common.{sym, ◌∙◌}
-use Rattle.nfs_schedule.proofs.Built.{built-data}
+use Rattle.nfs_schedule.proofs.AttemptOfCallLemmas.{built-data}
 use Rattle.nfs_schedule.proofs.attempts.attempt_nfs.Goals as goal
 
 pub attempt-requires-clause-names : goal.attempt-requires-clause-names

@@ -1,7 +1,7 @@
 use Rattle.std.proofs.Common.{sym, subst}
 use Rattle.nfs_engine.specs.Built.{IsBuilt}
-use Rattle.nfs_schedule.proofs.Stepping.{lent_numbers, lent_suits}
-use Rattle.nfs_schedule.proofs.Steps.{called_built}
+use Rattle.nfs_schedule.proofs.CourseStepLemmas.{lent_numbers, lent_suits}
+use Rattle.nfs_schedule.proofs.WorkerStepLemmas.{called_built}
 use Rattle.nfs_schedule.proofs.course.attempt_on.Goals as goal
 
 pub attempt-requires-clause-built : goal.attempt-requires-clause-built

@@ -1,5 +1,5 @@
 use Rattle.std.proofs.Common.{◌∙◌, ap}
-use Rattle.nfs_schedule.proofs.Stepping.{foreseen_next}
+use Rattle.nfs_schedule.proofs.CourseStepLemmas.{foreseen_next}
 use Rattle.nfs_schedule.specs.Foreseen.{foreseen}
 use Rattle.nfs_schedule.proofs.course.begin.Goals as goal
 

@@ -1,4 +1,4 @@
-use Rattle.nfs_schedule.proofs.Stepping.{climb_next, climb_suited}
+use Rattle.nfs_schedule.proofs.CourseStepLemmas.{climb_next, climb_suited}
 use Rattle.nfs_schedule.proofs.course.climb.Goals as goal
 
 pub next_above-requires : goal.next_above-requires

@@ -1,4 +1,4 @@
-use Rattle.nfs_schedule.proofs.Stepping.{fresh_next, need_next}
+use Rattle.nfs_schedule.proofs.CourseStepLemmas.{fresh_next, need_next}
 use Rattle.nfs_schedule.proofs.course.consider.Goals as goal
 
 pub returns-in-Some : goal.returns-in-Some

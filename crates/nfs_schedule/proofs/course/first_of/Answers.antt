@@ -1,4 +1,4 @@
-use Rattle.nfs_schedule.proofs.Stepping.{first_is}
+use Rattle.nfs_schedule.proofs.CourseStepLemmas.{first_is}
 use Rattle.nfs_schedule.proofs.course.first_of.Goals as goal
 
 pub returns : goal.returns

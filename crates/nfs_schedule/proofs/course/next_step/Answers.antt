@@ -1,4 +1,4 @@
-use Rattle.nfs_schedule.proofs.Stepping.{above_grown, asked_grown, asked_next, foreseen_last, numbers_next}
+use Rattle.nfs_schedule.proofs.CourseStepLemmas.{above_grown, asked_grown, asked_next, foreseen_last, numbers_next}
 use Rattle.nfs_schedule.proofs.course.next_step.Goals as goal
 
 pub consider-requires-in-None : goal.consider-requires-in-None

@@ -1,6 +1,6 @@
 use Rattle.std.proofs.Common.{List, length, take, take_all, sym, ◌∙◌, ap, subst, arith}
-use Rattle.nfs_schedule.proofs.Accounted.{drives_accounts}
-use Rattle.nfs_schedule.proofs.Driven.{drives_further, drives_runs, drives_workers, has_worker}
+use Rattle.nfs_schedule.proofs.AccountsLemmas.{drives_accounts}
+use Rattle.nfs_schedule.proofs.DriveLemmas.{drives_further, drives_runs, drives_workers, has_worker}
 use Rattle.nfs_schedule.specs.Accounts.{IsAccounted}
 use Rattle.nfs_schedule.specs.Worlds.{RunsOn, WorldValue}
 use Rattle.nfs_schedule.specs.declared.answer.Answer.{Answer}

@@ -1,4 +1,4 @@
-use Rattle.nfs_schedule.proofs.Alone.{ends_after}
+use Rattle.nfs_schedule.proofs.CallAloneLemmas.{ends_after}
 use Rattle.nfs_schedule.proofs.executing.carry_out.Goals as goal
 
 pub returns-in-Ok-clause-ends : goal.returns-in-Ok-clause-ends

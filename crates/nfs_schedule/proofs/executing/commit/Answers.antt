@@ -1,4 +1,4 @@
-use Rattle.nfs_schedule.proofs.Alone.{ends_executed, rests_committed}
+use Rattle.nfs_schedule.proofs.CallAloneLemmas.{ends_executed, rests_committed}
 use Rattle.nfs_schedule.proofs.executing.commit.Goals as goal
 
 pub returns-in-None-clause-rest : goal.returns-in-None-clause-rest

@@ -1,4 +1,4 @@
-use Rattle.nfs_schedule.proofs.Alone.{ends_declined, rests_declined}
+use Rattle.nfs_schedule.proofs.CallAloneLemmas.{ends_declined, rests_declined}
 use Rattle.nfs_schedule.proofs.executing.decline.Goals as goal
 
 pub returns-clause-rest : goal.returns-clause-rest

@@ -1,4 +1,4 @@
-use Rattle.nfs_schedule.proofs.Alone.{answers_begun, none_still_runs, repeat_rests}
+use Rattle.nfs_schedule.proofs.CallAloneLemmas.{answers_begun, none_still_runs, repeat_rests}
 use Rattle.nfs_schedule.proofs.executing.execute.Goals as goal
 
 pub returns-in-Ok-Begin-clause-answers : goal.returns-in-Ok-Begin-clause-answers

@@ -1,4 +1,4 @@
-use Rattle.nfs_schedule.proofs.Alone.{frees_all}
+use Rattle.nfs_schedule.proofs.CallAloneLemmas.{frees_all}
 use Rattle.nfs_schedule.proofs.executing.release_all.Goals as goal
 
 pub returns : goal.returns

@@ -1,6 +1,6 @@
 use Rattle.nfs_engine.specs.Book.{store_in}
-use Rattle.nfs_schedule.proofs.Alone.{goes_join}
-use Rattle.nfs_schedule.proofs.Stepping.{number_on, number_once, read_few, taken_on, taken_once}
+use Rattle.nfs_schedule.proofs.CallAloneLemmas.{goes_join}
+use Rattle.nfs_schedule.proofs.CourseStepLemmas.{number_on, number_once, read_few, taken_on, taken_once}
 use Rattle.nfs_schedule.proofs.executing.run.Goals as goal
 
 pub steps-preserved-in-Acquire : goal.steps-preserved-in-Acquire

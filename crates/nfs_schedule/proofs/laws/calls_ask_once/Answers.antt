@@ -1,4 +1,4 @@
-use Rattle.nfs_schedule.proofs.Acquired.{asks_once}
+use Rattle.nfs_schedule.proofs.AcquiredCountLemmas.{asks_once}
 use Rattle.nfs_schedule.proofs.laws.calls_ask_once.Goals as goal
 
 pub returns : goal.returns

@@ -1,4 +1,4 @@
-use Rattle.nfs_schedule.proofs.Few.{courses-few}
+use Rattle.nfs_schedule.proofs.AsksFewLemmas.{courses-few}
 use Rattle.nfs_schedule.proofs.laws.courses_are_few.Goals as goal
 
 pub returns : goal.returns

@@ -1,7 +1,7 @@
 use Rattle.std.proofs.Common.{sym, ◌∙◌, subst}
 use Rattle.std.specs.Cmp.{unsigned_Decides}
 use Rattle.nfs_engine.specs.Engine.{CountsLocked}
-use Rattle.nfs_schedule.proofs.AtRest.{rest_by_counts}
+use Rattle.nfs_schedule.proofs.AtRestLemmas.{rest_by_counts}
 use Rattle.nfs_schedule.proofs.resting.is_at_rest.Goals as goal
 
 pub returns-then-living-eq0-clause-rest : goal.returns-then-living-eq0-clause-rest

@@ -1,5 +1,5 @@
 use Rattle.std.proofs.Common.{refl}
-use Rattle.nfs_schedule.proofs.Stopping.{stop_ended, stop_gone, stop_left, stop_ready}
+use Rattle.nfs_schedule.proofs.StopLemmas.{stop_ended, stop_gone, stop_left, stop_ready}
 use Rattle.nfs_schedule.specs.declared.worker.Worker.TheVariants.{Trying, Wanting, Wishing, Blocked, Failing, PutOff, Refusing}
 use Rattle.nfs_schedule.proofs.stop.stop.Goals as goal
 

@@ -1,4 +1,4 @@
-use Rattle.nfs_schedule.proofs.Stopping.{call_gone}
+use Rattle.nfs_schedule.proofs.StopLemmas.{call_gone}
 use Rattle.nfs_schedule.proofs.stop.stop_call.Goals as goal
 
 pub returns-clause-gone : goal.returns-clause-gone

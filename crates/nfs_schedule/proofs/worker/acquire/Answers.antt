@@ -1,5 +1,5 @@
 use Rattle.std.proofs.Common.{◌≡◌, ℕ, List, [], ◌∷◌, length, refl, sym, ◌∙◌, arith}
-use Rattle.nfs_schedule.proofs.Steps.{acquire_fails, acquired_last, acquired_more, taken_by}
+use Rattle.nfs_schedule.proofs.WorkerStepLemmas.{acquire_fails, acquired_last, acquired_more, taken_by}
 use Rattle.nfs_schedule.proofs.worker.acquire.Goals as goal
 
 nil_of_len : {X : Type 0} (xs : List X) (n : ℕ) → n ≡ length xs → n ≡ 0 → xs ≡ []

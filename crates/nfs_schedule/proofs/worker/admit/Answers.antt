@@ -1,5 +1,5 @@
-use Rattle.nfs_schedule.proofs.Refusing.{refused_so}
-use Rattle.nfs_schedule.proofs.Steps.{begun, left_alone, left_unanswered, repeated}
+use Rattle.nfs_schedule.proofs.RefusedRecordLemmas.{refused_so}
+use Rattle.nfs_schedule.proofs.WorkerStepLemmas.{begun, left_alone, left_unanswered, repeated}
 use Rattle.nfs_schedule.proofs.worker.admit.Goals as goal
 
 pub returns-in-Ok-Begin-clause-step : goal.returns-in-Ok-Begin-clause-step

@@ -1,6 +1,6 @@
 use Rattle.std.proofs.Common.{◌∙◌, ap}
 use Rattle.nfs_engine.specs.Calls.{txn_of}
-use Rattle.nfs_schedule.proofs.Steps.{commit_fails, committed}
+use Rattle.nfs_schedule.proofs.WorkerStepLemmas.{commit_fails, committed}
 use Rattle.nfs_schedule.proofs.worker.commit.Goals as goal
 
 pub returns-in-Ok : goal.returns-in-Ok

@@ -1,6 +1,6 @@
 use Rattle.std.proofs.Common.{refl}
-use Rattle.nfs_schedule.proofs.Asked.{wants_done, wants_number, wishes_so}
-use Rattle.nfs_schedule.proofs.Grown.{asks_need}
+use Rattle.nfs_schedule.proofs.ReadOrderLemmas.{wants_done, wants_number, wishes_so}
+use Rattle.nfs_schedule.proofs.ViewRoundsLemmas.{asks_need}
 use Rattle.nfs_schedule.proofs.worker.consider.Goals as goal
 
 pub returns-in-Ok-Need : goal.returns-in-Ok-Need

@@ -1,4 +1,4 @@
-use Rattle.nfs_schedule.proofs.Steps.{given_up}
+use Rattle.nfs_schedule.proofs.WorkerStepLemmas.{given_up}
 use Rattle.nfs_schedule.proofs.worker.give_up.Goals as goal
 
 pub returns : goal.returns

@@ -1,5 +1,5 @@
 use Rattle.std.proofs.Common.{sym, subst, None}
-use Rattle.nfs_schedule.proofs.Steps.{released_all, released_more, released_to}
+use Rattle.nfs_schedule.proofs.WorkerStepLemmas.{released_all, released_more, released_to}
 use Rattle.nfs_schedule.specs.Turns.{IsTurnOf}
 use Rattle.nfs_schedule.specs.declared.worker.Worker.{Worker}
 use Rattle.nfs_schedule.specs.declared.worker.Worker.TheVariants.{Leaving}

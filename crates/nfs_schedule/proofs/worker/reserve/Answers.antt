@@ -1,5 +1,5 @@
 use Rattle.std.proofs.Common.{arith}
-use Rattle.nfs_schedule.proofs.Steps.{reserve_fails, reserved, reserved_one}
+use Rattle.nfs_schedule.proofs.WorkerStepLemmas.{reserve_fails, reserved, reserved_one}
 use Rattle.nfs_schedule.proofs.worker.reserve.Goals as goal
 
 pub returns-in-Ok : goal.returns-in-Ok

@@ -1,4 +1,4 @@
-use Rattle.nfs_schedule.proofs.Steps.{blocked_leaves, failing_leaves}
+use Rattle.nfs_schedule.proofs.WorkerStepLemmas.{blocked_leaves, failing_leaves}
 use Rattle.nfs_schedule.proofs.worker.step.Goals as goal
 
 pub returns-in-Blocked-clause-step : goal.returns-in-Blocked-clause-step

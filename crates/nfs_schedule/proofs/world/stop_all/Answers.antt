@@ -1,5 +1,5 @@
-use Rattle.nfs_schedule.proofs.Kept.{kept_less}
-use Rattle.nfs_schedule.proofs.Runs.{store_both}
+use Rattle.nfs_schedule.proofs.WorldKeepsLemmas.{kept_less}
+use Rattle.nfs_schedule.proofs.EraRunLemmas.{store_both}
 use Rattle.nfs_schedule.proofs.world.stop_all.Goals as goal
 
 pub workers-preserved : goal.workers-preserved

@@ -1,4 +1,4 @@
-use Rattle.nfs_schedule.proofs.Steps.{may_think, thinks_on}
+use Rattle.nfs_schedule.proofs.WorkerStepLemmas.{may_think, thinks_on}
 use Rattle.nfs_schedule.proofs.world.turn_at.Goals as goal
 
 pub think-requires : goal.think-requires

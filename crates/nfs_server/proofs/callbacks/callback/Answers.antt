@@ -1,7 +1,7 @@
 -- The text is cut at its first "=". Where a host and an address stand on both sides it is a callback, and else none.
 use Rattle.std.proofs.Common.{◌∙◌, sym, subst}
 use Rattle.nfs_engine.specs.Hosts.{IsHost}
-use Rattle.nfs_server.proofs.Called.{cut, joined, uncut}
+use Rattle.nfs_server.proofs.CallbackTextLemmas.{cut, joined, uncut}
 use Rattle.nfs_server.proofs.callbacks.callback.Goals as goal
 
 pub returns-in_default : goal.returns-in_default

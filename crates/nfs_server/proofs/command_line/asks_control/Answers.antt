@@ -1,7 +1,7 @@
 -- The flag is that of the rows.
 use Rattle.std.specs.Prelude.{codes}
 use Rattle.clap.specs.Words.{found_of}
-use Rattle.nfs_server.proofs.Parsed.{flag_read}
+use Rattle.nfs_server.proofs.CommandLineLemmas.{flag_read}
 use Rattle.nfs_server.proofs.command_line.asks_control.Goals as goal
 
 pub returns : goal.returns

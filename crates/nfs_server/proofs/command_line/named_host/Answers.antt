@@ -3,7 +3,7 @@ use Rattle.std.proofs.Common.{refl, ap, subst, sym, ◌∙◌, ◌≡◌}
 use Rattle.clap.specs.Words.{found_of, rows_of}
 use Rattle.nfs_server.specs.CommandLine.{host_of}
 use Rattle.nfs_engine.specs.Hosts.{IsHost}
-use Rattle.nfs_server.proofs.Parsed.{host_read, refuses_host}
+use Rattle.nfs_server.proofs.CommandLineLemmas.{host_read, refuses_host}
 use Rattle.nfs_server.proofs.command_line.named_host.Goals as goal
 
 pub returns-in-Some : goal.returns-in-Some

@@ -5,7 +5,7 @@ use Rattle.std.specs.Str.Parse.{ExplainsUnsignedError, HasUnsignedDigitsIfOk, Pa
 use Rattle.std.specs.declared.num.ParseIntError.{ParseIntError}
 use Rattle.clap.specs.Words.{Text, found_of, one_of, rows_of}
 use Rattle.nfs_server.specs.CommandLine.{ReadsNumber}
-use Rattle.nfs_server.proofs.Parsed.{number_read, refuses_limit}
+use Rattle.nfs_server.proofs.CommandLineLemmas.{number_read, refuses_limit}
 use Rattle.nfs_server.proofs.command_line.named_limit.Goals as goal
 use Rattle.nfs_server.proofs.command_line.named_limit.Goals.{then-value-lt1-via-then-value-lt1, then-value-lt1-via-else-value-lt1+then-value-most}
 

@@ -4,7 +4,7 @@ use Rattle.std.specs.Prelude.{Result, codes}
 use Rattle.std.specs.Str.Parse.{ExplainsUnsignedError, HasUnsignedDigitsIfOk, ParsesUnsigned}
 use Rattle.std.specs.declared.num.ParseIntError.{ParseIntError}
 use Rattle.clap.specs.Words.{found_of}
-use Rattle.nfs_server.proofs.Parsed.{number_read, text_read}
+use Rattle.nfs_server.proofs.CommandLineLemmas.{number_read, text_read}
 use Rattle.nfs_server.proofs.command_line.named_network.Goals as goal
 
 -- what `from_str` says of an unsigned number

@@ -2,7 +2,7 @@
 use Rattle.std.proofs.Common.{inl, inr, sym, ◌∙◌}
 use Rattle.std.specs.Prelude.{codes}
 use Rattle.clap.specs.Words.{found_of}
-use Rattle.nfs_server.proofs.Parsed.{is_named, is_not_named}
+use Rattle.nfs_server.proofs.CommandLineLemmas.{is_named, is_not_named}
 use Rattle.nfs_server.proofs.command_line.names_address.Goals as goal
 
 pub returns-then-is_some-clause-some : goal.returns-then-is_some-clause-some

@@ -1,6 +1,6 @@
 -- The command is the program's, so clap's exact clauses hold of it.
 use Rattle.std.proofs.lemmas.Result.{err_from_is_err_and}
-use Rattle.nfs_server.proofs.Parsed.{parsed_from, refuses_command}
+use Rattle.nfs_server.proofs.CommandLineLemmas.{parsed_from, refuses_command}
 use Rattle.nfs_server.proofs.command_line.parse.Goals as goal
 
 pub returns-in_err-try_get_matches_from_mut : goal.returns-in_err-try_get_matches_from_mut

@@ -9,8 +9,8 @@ use Rattle.clap.specs.Words.{Text, found_of, rows_of}
 use Rattle.nfs_server.specs.Callbacks.{AreCallbacks, RefusesCallbacks}
 use Rattle.nfs_server.specs.CommandLine.{callbacks_of, exports_of}
 use Rattle.nfs_server.specs.ExportTexts.{export_parts, parts_of}
-use Rattle.nfs_server.proofs.Parsed.{callbacks_read, exports_made, exports_read, number_read, refuses_callbacks}
-use Rattle.nfs_server.proofs.Parsed.{refuses_exports}
+use Rattle.nfs_server.proofs.CommandLineLemmas.{callbacks_read, exports_made, exports_read, number_read, refuses_callbacks}
+use Rattle.nfs_server.proofs.CommandLineLemmas.{refuses_exports}
 use Rattle.nfs_server.proofs.command_line.read_options.Goals as goal
 
 -- what `from_str` says of an unsigned number

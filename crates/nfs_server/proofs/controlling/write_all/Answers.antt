@@ -1,4 +1,4 @@
-use Rattle.nfs_streams.proofs.Loops.{writing_more}
+use Rattle.nfs_streams.proofs.ServingLoopLemmas.{writing_more}
 use Rattle.nfs_server.proofs.controlling.write_all.Goals as goal
 
 pub writes-preserved : goal.writes-preserved

@@ -1,5 +1,5 @@
 use Rattle.std.proofs.Common.{length}
-use Rattle.nfs_streams.proofs.Loops.{Writing}
+use Rattle.nfs_streams.proofs.ServingLoopLemmas.{Writing}
 use Rattle.nfs_server.proofs.controlling.write_all.Given as goal
 
 abbrev pub invariant-writes : goal.invariant-writes

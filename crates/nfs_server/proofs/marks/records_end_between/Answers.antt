@@ -1,4 +1,4 @@
-use Rattle.nfs_server.proofs.Marked.{records_end_between}
+use Rattle.nfs_server.proofs.FragmentHeaderLemmas.{records_end_between}
 use Rattle.nfs_server.proofs.marks.records_end_between.Goals as goal
 
 pub returns : goal.returns

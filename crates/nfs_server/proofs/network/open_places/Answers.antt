@@ -4,7 +4,7 @@ use denote.Param.Send.{sendable}
 use Rattle.std.proofs.Crossing.{crosses}
 use Rattle.nfs_pool.proofs.room.EraRoom.TheSendSync as room
 use Rattle.nfs_pool.proofs.seat.Seat.TheSendSync as seat
-use Rattle.nfs_server.proofs.Crossing.{keeper_send}
+use Rattle.nfs_server.proofs.CrossingLemmas.{keeper_send}
 use Rattle.nfs_server.proofs.network.open_places.Goals as goal
 
 pub spawn-requires-send-F : goal.spawn-requires-send-F

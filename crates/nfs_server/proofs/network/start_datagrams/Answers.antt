@@ -3,7 +3,7 @@ use denote.Param.{param}
 use denote.Param.Send.{sendable}
 use Rattle.std.proofs.Crossing.{crosses}
 use Rattle.std.proofs.net.UdpSocket.TheSendSync as socket
-use Rattle.nfs_server.proofs.Crossing.{service_send}
+use Rattle.nfs_server.proofs.CrossingLemmas.{service_send}
 use Rattle.nfs_server.proofs.network.start_datagrams.Goals as goal
 
 pub spawn-requires-send-F : goal.spawn-requires-send-F

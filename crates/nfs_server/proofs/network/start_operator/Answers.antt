@@ -2,7 +2,7 @@
 use denote.Param.{copied, param}
 use denote.Param.Send.{sendable}
 use Rattle.std.proofs.Crossing.{crosses}
-use Rattle.nfs_server.proofs.Crossing.{clerk_send}
+use Rattle.nfs_server.proofs.CrossingLemmas.{clerk_send}
 use Rattle.nfs_server.proofs.network.start_operator.Goals as goal
 
 pub spawn-requires-send-F : goal.spawn-requires-send-F

@@ -2,7 +2,7 @@
 use denote.Param.{copied, param}
 use denote.Param.Send.{sendable}
 use Rattle.std.proofs.Crossing.{crosses}
-use Rattle.nfs_server.proofs.Crossing.{sorter_send}
+use Rattle.nfs_server.proofs.CrossingLemmas.{sorter_send}
 use Rattle.nfs_server.proofs.network.start_senders.Goals as goal
 
 pub spawn-requires-send-F : goal.spawn-requires-send-F

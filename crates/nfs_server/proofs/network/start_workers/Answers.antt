@@ -3,7 +3,7 @@ use denote.Param.{copied, param}
 use denote.Param.Send.{sendable}
 use Rattle.std.proofs.Crossing.{crosses}
 use Rattle.crossbeam_channel.proofs.channel.Receiver.TheSendSync as receiver
-use Rattle.nfs_server.proofs.Crossing.{clerk_send}
+use Rattle.nfs_server.proofs.CrossingLemmas.{clerk_send}
 use Rattle.nfs_server.proofs.network.jobs.Job.TheSendSync as job
 use Rattle.nfs_server.proofs.network.start_workers.Goals as goal
 

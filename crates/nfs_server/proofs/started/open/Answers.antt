@@ -1,4 +1,4 @@
-use Rattle.nfs_server.proofs.Starting.{opens_rests}
+use Rattle.nfs_server.proofs.StartLemmas.{opens_rests}
 use Rattle.nfs_server.proofs.started.open.Goals as goal
 
 pub returns-in-Ok-clause-rest : goal.returns-in-Ok-clause-rest

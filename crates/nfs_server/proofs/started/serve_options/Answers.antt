@@ -1,7 +1,7 @@
 use Rattle.std.proofs.Common.{inr, ap, Err}
 use Rattle.nfs_engine.specs.Book.{BookValue}
 use Rattle.nfs_streams.specs.declared.serving.StreamFault.{StreamFault}
-use Rattle.nfs_server.proofs.Starting.{opens_standing, opens_within}
+use Rattle.nfs_server.proofs.StartLemmas.{opens_standing, opens_within}
 use Rattle.nfs_server.proofs.started.serve_options.Goals as goal
 
 pub returns-in-Ok-clause-ok : goal.returns-in-Ok-clause-ok

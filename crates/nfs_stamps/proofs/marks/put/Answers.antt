@@ -1,5 +1,5 @@
 use Rattle.std.proofs.Common.{Some, ◌∙◌}
-use Rattle.nfs_stamps.proofs.Looked.{stamp_changed, stamp_lookup}
+use Rattle.nfs_stamps.proofs.MarkLookupLemmas.{stamp_changed, stamp_lookup}
 use Rattle.nfs_stamps.proofs.marks.put.Goals as goal
 
 pub returns-in-Ok-clause-ok : goal.returns-in-Ok-clause-ok

@@ -1,5 +1,5 @@
 use Rattle.std.proofs.Common.{None}
-use Rattle.nfs_stamps.proofs.Looked.{stamp_changed}
+use Rattle.nfs_stamps.proofs.MarkLookupLemmas.{stamp_changed}
 use Rattle.nfs_stamps.proofs.marks.remove.Goals as goal
 
 pub returns : goal.returns

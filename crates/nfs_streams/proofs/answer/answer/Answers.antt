@@ -1,5 +1,5 @@
 use Rattle.std.proofs.Common.{sym, subst}
-use Rattle.nfs_streams.proofs.Answering.{unowned_answered}
+use Rattle.nfs_streams.proofs.RecordAnswerLemmas.{unowned_answered}
 use Rattle.nfs_streams.specs.Served.{IsRecord}
 use Rattle.nfs_streams.proofs.answer.answer.Goals as goal
 

@@ -1,4 +1,4 @@
-use Rattle.nfs_streams.proofs.Answering.{told_answered, told_only, told_refusal, refused_owed, untold_nothing}
+use Rattle.nfs_streams.proofs.RecordAnswerLemmas.{told_answered, told_only, told_refusal, refused_owed, untold_nothing}
 use Rattle.nfs_streams.proofs.answer.answer_arrival.Goals as goal
 
 pub returns-in-Refused-clause-ok : goal.returns-in-Refused-clause-ok

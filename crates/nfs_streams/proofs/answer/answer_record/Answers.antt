@@ -1,5 +1,5 @@
 use Rattle.std.proofs.Common.{[]}
-use Rattle.nfs_streams.proofs.Single.{record_answered, record_unanswered}
+use Rattle.nfs_streams.proofs.OneRecordLemmas.{record_answered, record_unanswered}
 use Rattle.nfs_streams.proofs.answer.answer_record.Goals as goal
 
 pub returns-clause-ok : goal.returns-clause-ok

@@ -1,4 +1,4 @@
-use Rattle.nfs_streams.proofs.Carried.{carried_on}
+use Rattle.nfs_streams.proofs.ConnectionCarriesLemmas.{carried_on}
 use Rattle.nfs_streams.proofs.connection.connections_carry_on.Goals as goal
 
 pub returns : goal.returns

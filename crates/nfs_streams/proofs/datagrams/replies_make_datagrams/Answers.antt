@@ -1,4 +1,4 @@
-use Rattle.nfs_streams.proofs.Datagrammed.{replies_make}
+use Rattle.nfs_streams.proofs.DatagramLemmas.{replies_make}
 use Rattle.nfs_streams.proofs.datagrams.replies_make_datagrams.Goals as goal
 
 pub returns : goal.returns

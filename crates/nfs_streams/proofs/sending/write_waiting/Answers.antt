@@ -1,6 +1,6 @@
 use Rattle.std.proofs.lemmas.Result.{err_from_is_err_and}
-use Rattle.nfs_streams.proofs.Loops.{part_first, part_then}
-use Rattle.nfs_streams.proofs.Wholly.{part_whole}
+use Rattle.nfs_streams.proofs.ServingLoopLemmas.{part_first, part_then}
+use Rattle.nfs_streams.proofs.AllWrittenLemmas.{part_whole}
 use Rattle.nfs_streams.proofs.sending.write_waiting.Goals as goal
 
 pub returns-in_err-write_all-clause-part : goal.returns-in_err-write_all-clause-part

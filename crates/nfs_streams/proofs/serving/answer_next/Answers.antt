@@ -1,5 +1,5 @@
 -- What was answered stays so where messages are dropped behind it.
-use Rattle.nfs_streams.proofs.Dropping.{answered_stays}
+use Rattle.nfs_streams.proofs.DroppedMessageLemmas.{answered_stays}
 use Rattle.nfs_streams.proofs.serving.answer_next.Goals.{in-Dropped, in_default}
 use Rattle.nfs_streams.proofs.serving.answer_next.Goals as goal
 

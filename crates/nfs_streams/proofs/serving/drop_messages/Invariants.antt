@@ -1,5 +1,5 @@
 use Rattle.std.proofs.Common.{length}
-use Rattle.nfs_streams.proofs.Dropping.{Loses}
+use Rattle.nfs_streams.proofs.DroppedMessageLemmas.{Loses}
 use Rattle.nfs_streams.proofs.serving.drop_messages.Given as goal
 
 abbrev pub invariant-messages : goal.invariant-messages

@@ -1,5 +1,5 @@
 use Rattle.std.proofs.Common.{◌≡◌, true, false, []}
-use Rattle.nfs_streams.proofs.Loops.{Taking}
+use Rattle.nfs_streams.proofs.ServingLoopLemmas.{Taking}
 use Rattle.nfs_schedule.specs.Worlds.{IsAtRest}
 use Rattle.nfs_streams.specs.Connections.{waiting}
 use Rattle.nfs_streams.specs.declared.serving.Messages.TheVariants.{Dropped}

@@ -1,6 +1,6 @@
 use Rattle.std.proofs.Common.{refl, []}
 use Rattle.std.proofs.lemmas.Result.{err_from_is_err_and}
-use Rattle.nfs_streams.proofs.Loops.{left_fails, put_adds, put_fails}
+use Rattle.nfs_streams.proofs.ServingLoopLemmas.{left_fails, put_adds, put_fails}
 use Rattle.nfs_streams.proofs.serving.serve_record.Goals as goal
 
 pub returns-in-Ok-clause-adds : goal.returns-in-Ok-clause-adds

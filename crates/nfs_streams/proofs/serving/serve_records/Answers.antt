@@ -1,5 +1,5 @@
 use Rattle.std.proofs.lemmas.Result.{err_from_is_err_and}
-use Rattle.nfs_streams.proofs.Loops.{answering_more, answering_none, answering_stops, sent_goes, sent_stops}
+use Rattle.nfs_streams.proofs.ServingLoopLemmas.{answering_more, answering_none, answering_stops, sent_goes, sent_stops}
 use Rattle.nfs_streams.proofs.serving.serve_records.Goals as goal
 
 pub records-init : goal.records-init

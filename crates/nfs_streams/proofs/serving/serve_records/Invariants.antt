@@ -1,5 +1,5 @@
 use Rattle.std.proofs.Common.{◌≡◌, true, false, [], length}
-use Rattle.nfs_streams.proofs.Loops.{Answering}
+use Rattle.nfs_streams.proofs.ServingLoopLemmas.{Answering}
 use Rattle.nfs_schedule.specs.Worlds.{IsAtRest}
 use Rattle.nfs_streams.specs.Connections.{waiting}
 use Rattle.nfs_streams.specs.declared.serving.Messages.TheVariants.{Dropped}

@@ -1,4 +1,4 @@
-use Rattle.nfs_streams.proofs.Pieces.{front_none}
+use Rattle.nfs_streams.proofs.StreamPieceLemmas.{front_none}
 use Rattle.nfs_streams.proofs.serving.serve_with.Goals as goal
 
 pub returns-in_default-clause-fault : goal.returns-in_default-clause-fault

@@ -1,4 +1,4 @@
-use Rattle.nfs_xdr.proofs.Spelling.{refusal_means_unspelled}
+use Rattle.nfs_xdr.proofs.SpellingLaws.{refusal_means_unspelled}
 use Rattle.nfs_xdr.proofs.laws.refusal_means_unspelled.Goals as goal
 
 pub returns : goal.returns

@@ -1,4 +1,4 @@
-use Rattle.nfs_xdr.proofs.Spelling.{spelled_has_spelling}
+use Rattle.nfs_xdr.proofs.SpellingLaws.{spelled_has_spelling}
 use Rattle.nfs_xdr.proofs.laws.spelled_has_spelling.Goals as goal
 
 pub returns : goal.returns

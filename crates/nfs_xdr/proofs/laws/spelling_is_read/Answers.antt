@@ -1,4 +1,4 @@
-use Rattle.nfs_xdr.proofs.Spelling.{spelling_is_read}
+use Rattle.nfs_xdr.proofs.SpellingLaws.{spelling_is_read}
 use Rattle.nfs_xdr.proofs.laws.spelling_is_read.Goals as goal
 
 pub returns : goal.returns

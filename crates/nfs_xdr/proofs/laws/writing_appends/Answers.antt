@@ -1,4 +1,4 @@
-use Rattle.nfs_xdr.proofs.Spelling.{writing_appends}
+use Rattle.nfs_xdr.proofs.SpellingLaws.{writing_appends}
 use Rattle.nfs_xdr.proofs.laws.writing_appends.Goals as goal
 
 pub returns : goal.returns

@@ -1,5 +1,5 @@
 use Rattle.std.proofs.Common.{arith}
-use Rattle.nfs_xdr.proofs.InPieces.{front-gone, fronts-differ, none-left}
+use Rattle.nfs_xdr.proofs.BytesInPiecesLemmas.{front-gone, fronts-differ, none-left}
 use Rattle.nfs_xdr.proofs.pieces.agree.Goals as goal
 
 pub returns-in_default-split_first : goal.returns-in_default-split_first

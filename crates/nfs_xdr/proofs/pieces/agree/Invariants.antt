@@ -1,6 +1,6 @@
 -- What is left of both agrees just where both do.
 use Rattle.std.proofs.Common.{◌≡◌, ◌+◌, []}
-use Rattle.nfs_xdr.proofs.InPieces.{agreed, left-of}
+use Rattle.nfs_xdr.proofs.BytesInPiecesLemmas.{agreed, left-of}
 use Rattle.nfs_xdr.proofs.pieces.agree.Given as goal
 
 abbrev pub invariant-fronts : goal.invariant-fronts

@@ -1,4 +1,4 @@
-use Rattle.nlm_daemon.proofs.Told.{is-answered}
+use Rattle.nlm_daemon.proofs.NlmAnswerLemmas.{is-answered}
 use Rattle.nlm_daemon.proofs.answering.answer.Goals as goal
 
 pub returns : goal.returns

@@ -1,8 +1,8 @@
 use Rattle.std.proofs.Common.{Err, Ok, true}
 use Rattle.std.proofs.lemmas.Result.{err_from_is_err_and}
-use Rattle.nfs_inodes.proofs.Ending.{means-as, number-as}
-use Rattle.nfs_inodes.proofs.Halting.{exports-stop}
-use Rattle.nlm_daemon.proofs.Judging.{checked-judged, checked-nothing, file-number, file-of, first-read}
+use Rattle.nfs_inodes.proofs.NamedHaltLemmas.{means-as, number-as}
+use Rattle.nfs_inodes.proofs.ReaderHaltLemmas.{exports-stop}
+use Rattle.nlm_daemon.proofs.NlmHandleLemmas.{checked-judged, checked-nothing, file-number, file-of, first-read}
 use Rattle.nlm_daemon.specs.Checks.{file_found}
 use Rattle.nlm_daemon.proofs.checking.file_of.Goals as goal
 

@@ -1,7 +1,7 @@
 use Rattle.std.proofs.Common.{◌∙◌, Ok, ap, refl, sym, true}
 use Rattle.nfs_inodes.specs.Known.{bytes_of}
 use Rattle.nfs_inodes.specs.declared.found.Known.{Known}
-use Rattle.nlm_daemon.proofs.Judging.{judged-fine, judged-none, judged-read_only}
+use Rattle.nlm_daemon.proofs.NlmHandleLemmas.{judged-fine, judged-none, judged-read_only}
 use Rattle.nlm_daemon.proofs.checking.judged_file.Goals as goal
 
 pub returns-in_default-clause-checks : goal.returns-in_default-clause-checks

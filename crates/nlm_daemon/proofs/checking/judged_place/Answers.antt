@@ -2,7 +2,7 @@ use Rattle.std.proofs.Common.{◌∙◌, Ok, ap, sym}
 use Rattle.nfs_machine.specs.Locks.{fits_offsets}
 use Rattle.nfs_inodes.specs.Known.{bytes_of}
 use Rattle.nfs_inodes.specs.declared.found.Known.{Known}
-use Rattle.nlm_daemon.proofs.Judging.{judged-big, judged-fine, judged-none, judged-read_only, some-fits, unfit}
+use Rattle.nlm_daemon.proofs.NlmHandleLemmas.{judged-big, judged-fine, judged-none, judged-read_only, some-fits, unfit}
 use Rattle.nlm_daemon.proofs.checking.judged_place.Goals as goal
 
 pub returns-in_default-clause-checks : goal.returns-in_default-clause-checks

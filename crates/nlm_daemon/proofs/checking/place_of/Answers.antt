@@ -1,9 +1,9 @@
 use Rattle.std.proofs.Common.{Err, Ok}
 use Rattle.std.proofs.lemmas.Result.{err_from_is_err_and}
 use Rattle.nfs_machine.specs.Locks.{fits_offsets}
-use Rattle.nfs_inodes.proofs.Ending.{means-as, number-as}
-use Rattle.nfs_inodes.proofs.Halting.{exports-stop}
-use Rattle.nlm_daemon.proofs.Judging.{checked-judged, checked-nothing, first-read, place-of}
+use Rattle.nfs_inodes.proofs.NamedHaltLemmas.{means-as, number-as}
+use Rattle.nfs_inodes.proofs.ReaderHaltLemmas.{exports-stop}
+use Rattle.nlm_daemon.proofs.NlmHandleLemmas.{checked-judged, checked-nothing, first-read, place-of}
 use Rattle.nlm_daemon.specs.Checks.{place_found}
 use Rattle.nlm_daemon.proofs.checking.place_of.Goals as goal
 

@@ -1,13 +1,13 @@
 use Rattle.std.proofs.Common.{◌∙◌, Some, ap}
 use Rattle.std.specs.Prelude.{option_copied}
 use Rattle.std.proofs.lemmas.Result.{err_from_is_err_and}
-use Rattle.nlm_ranges.proofs.Bucketed.{no-files}
+use Rattle.nlm_ranges.proofs.BucketFilesLemmas.{no-files}
 use Rattle.nlm_ranges.specs.Buckets.{no_bucket}
 use Rattle.nfs_objects.specs.Stands.{bucket_in}
 use Rattle.nfs_objects.specs.declared.address.Addr.TheVariants as addresses
-use Rattle.nfs_inodes.proofs.Halting.{lacking-stops}
-use Rattle.nlm_daemon.proofs.Gathered.{adds-first}
-use Rattle.nlm_daemon.proofs.Wanting.{bucket-stops}
+use Rattle.nfs_inodes.proofs.ReaderHaltLemmas.{lacking-stops}
+use Rattle.nlm_daemon.proofs.FilesByNumberLemmas.{adds-first}
+use Rattle.nlm_daemon.proofs.BucketWishLemmas.{bucket-stops}
 use Rattle.nlm_daemon.proofs.freeing.add_bucket.Goals as goal
 
 pub returns-in_err-bucket : goal.returns-in_err-bucket

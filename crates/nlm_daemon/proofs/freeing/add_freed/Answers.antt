@@ -1,5 +1,5 @@
 use Rattle.std.proofs.Common.{subst, sym}
-use Rattle.nlm_daemon.proofs.Gathered.{adds-first, adds-later}
+use Rattle.nlm_daemon.proofs.FilesByNumberLemmas.{adds-first, adds-later}
 use Rattle.nlm_daemon.proofs.freeing.add_freed.Goals as goal
 use Rattle.nlm_daemon.specs.Freeing.{AddsFreed}
 

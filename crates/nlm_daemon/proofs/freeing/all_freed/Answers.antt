@@ -4,8 +4,8 @@ use Rattle.std.proofs.lemmas.Result.{err_from_is_err_and}
 use Rattle.nlm_ranges.specs.Buckets.{LockedValue, bucket_count}
 use Rattle.nfs_objects.specs.Calls.{buckets_below}
 use Rattle.nfs_objects.specs.declared.address.Addr.TheVariants as addresses
-use Rattle.nfs_inodes.proofs.Halting.{exports-stop-at}
-use Rattle.nlm_daemon.proofs.Collected.{AreGathered, gathered-all, gathered-first, gathered-next}
+use Rattle.nfs_inodes.proofs.ReaderHaltLemmas.{exports-stop-at}
+use Rattle.nlm_daemon.proofs.FreedFilesLemmas.{AreGathered, gathered-all, gathered-first, gathered-next}
 use Rattle.nlm_daemon.proofs.freeing.all_freed.Goals as goal
 
 pub returns-in_err-exports-clause-stops : goal.returns-in_err-exports-clause-stops

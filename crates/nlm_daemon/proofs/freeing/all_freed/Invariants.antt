@@ -1,5 +1,5 @@
 -- The files of the buckets so far are freed.
-use Rattle.nlm_daemon.proofs.Collected.{AreGathered}
+use Rattle.nlm_daemon.proofs.FreedFilesLemmas.{AreGathered}
 use Rattle.nlm_daemon.proofs.freeing.all_freed.Given as goal
 
 abbrev pub invariant-loop-index : goal.invariant-loop-index

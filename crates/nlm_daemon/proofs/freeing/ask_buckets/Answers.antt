@@ -3,9 +3,9 @@ use Rattle.nlm_ranges.specs.Buckets.{bucket_count}
 use Rattle.nfs_objects.specs.Calls.{buckets_below}
 use Rattle.nfs_objects.specs.Values.{known_at}
 use Rattle.nfs_objects.specs.declared.address.Addr.TheVariants as addresses
-use Rattle.nfs_inodes.proofs.Wishing.{asked-result}
+use Rattle.nfs_inodes.proofs.WishesLemmas.{asked-result}
 use Rattle.nfs_inodes.specs.Asking.{AsksFor}
-use Rattle.nlm_daemon.proofs.Wanting.{IsBelow, below-asking, below-known, below-more, below-none}
+use Rattle.nlm_daemon.proofs.BucketWishLemmas.{IsBelow, below-asking, below-known, below-more, below-none}
 use Rattle.nlm_daemon.proofs.freeing.ask_buckets.Goals as goal
 
 pub loop-index-init : goal.loop-index-init

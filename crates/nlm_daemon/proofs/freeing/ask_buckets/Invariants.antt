@@ -1,7 +1,7 @@
 -- The buckets so far are asked for.
 use Rattle.std.proofs.Common.{[]}
 use Rattle.nfs_inodes.specs.Asking.{AsksFor}
-use Rattle.nlm_daemon.proofs.Wanting.{IsBelow}
+use Rattle.nlm_daemon.proofs.BucketWishLemmas.{IsBelow}
 use Rattle.nlm_daemon.proofs.freeing.ask_buckets.Given as goal
 
 abbrev pub invariant-loop-index : goal.invariant-loop-index

@@ -5,10 +5,10 @@ use Rattle.nfs_machine.specs.declared.calls.Call.TheVariants as calls
 use Rattle.nfs_objects.specs.Attempt.{unless_seen}
 use Rattle.nfs_objects.specs.declared.address.Addr.TheVariants as addresses
 use Rattle.nfs_objects.specs.declared.change.Change.{Change}
-use Rattle.nlm_daemon.proofs.Calling.{ends-first, ends-stopped, wanted-alone}
-use Rattle.nlm_daemon.proofs.Judging.{first-halts, first-past}
-use Rattle.nlm_daemon.proofs.Replied.{freed-promised}
-use Rattle.nlm_daemon.proofs.Wanting.{all_places}
+use Rattle.nlm_daemon.proofs.NlmWantsLemmas.{ends-first, ends-stopped, wanted-alone}
+use Rattle.nlm_daemon.proofs.NlmHandleLemmas.{first-halts, first-past}
+use Rattle.nlm_daemon.proofs.GrantEndsLemmas.{freed-promised}
+use Rattle.nlm_daemon.proofs.BucketWishLemmas.{all_places}
 use Rattle.nlm_daemon.proofs.freeing.attempt.Goals as goal
 
 pub free_all-requires-clause-none : goal.free_all-requires-clause-none

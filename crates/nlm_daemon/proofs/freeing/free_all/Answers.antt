@@ -3,10 +3,10 @@ use Rattle.std.proofs.lemmas.Result.{err_from_is_err_and}
 use Rattle.nlm_ranges.specs.Buckets.{bucket_count}
 use Rattle.nfs_objects.specs.Values.{ModesValue}
 use Rattle.nfs_objects.specs.declared.address.Addr.TheVariants as addresses
-use Rattle.nfs_inodes.proofs.Halting.{exports-stop-at, lacking-first-at}
-use Rattle.nlm_daemon.proofs.Emptying.{ArePut, put-first, put-frees, put-next}
-use Rattle.nlm_daemon.proofs.Judging.{first-past}
-use Rattle.nlm_daemon.proofs.Wanting.{all_places, buckets-stop, put-stops}
+use Rattle.nfs_inodes.proofs.ReaderHaltLemmas.{exports-stop-at, lacking-first-at}
+use Rattle.nlm_daemon.proofs.FreeAllDraftLemmas.{ArePut, put-first, put-frees, put-next}
+use Rattle.nlm_daemon.proofs.NlmHandleLemmas.{first-past}
+use Rattle.nlm_daemon.proofs.BucketWishLemmas.{all_places, buckets-stop, put-stops}
 use Rattle.nlm_daemon.proofs.freeing.free_all.Goals as goal
 
 pub returns-in_err-exports-clause-frees : goal.returns-in_err-exports-clause-frees

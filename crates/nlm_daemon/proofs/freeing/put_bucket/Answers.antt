@@ -1,5 +1,5 @@
 use Rattle.std.proofs.lemmas.Result.{err_from_is_err_and}
-use Rattle.nlm_daemon.proofs.Emptying.{own-bucket}
+use Rattle.nlm_daemon.proofs.FreeAllDraftLemmas.{own-bucket}
 use Rattle.nlm_daemon.proofs.freeing.put_bucket.Goals as goal
 
 pub set_bucket-requires-clause-own : goal.set_bucket-requires-clause-own

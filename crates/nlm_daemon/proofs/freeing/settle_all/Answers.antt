@@ -1,6 +1,6 @@
 use Rattle.std.proofs.Common.{arith, subst}
 use Rattle.std.proofs.lemmas.List.{take_all}
-use Rattle.nlm_daemon.proofs.Emptying.{settles-none, settles-step}
+use Rattle.nlm_daemon.proofs.FreeAllDraftLemmas.{settles-none, settles-step}
 use Rattle.nlm_daemon.specs.Freeing.{SettlesAll}
 use Rattle.nlm_daemon.proofs.freeing.settle_all.Goals as goal
 

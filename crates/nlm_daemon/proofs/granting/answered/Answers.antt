@@ -4,9 +4,9 @@ use Rattle.std.proofs.lemmas.Result.{err_from_is_err_and}
 use Rattle.nlm_ranges.specs.Buckets.{no_bucket}
 use Rattle.nfs_objects.specs.Stands.{bucket_in}
 use Rattle.nfs_objects.specs.declared.address.Addr.TheVariants as addresses
-use Rattle.nfs_inodes.proofs.Halting.{exports-stop-at}
-use Rattle.nlm_daemon.proofs.Asked.{finds-it, finds-no_number, finds-none, finds-other, grant-stops}
-use Rattle.nlm_daemon.proofs.Finding.{none-first}
+use Rattle.nfs_inodes.proofs.ReaderHaltLemmas.{exports-stop-at}
+use Rattle.nlm_daemon.proofs.FoundGrantLemmas.{finds-it, finds-no_number, finds-none, finds-other, grant-stops}
+use Rattle.nlm_daemon.proofs.AnsweredGrantLemmas.{none-first}
 use Rattle.nlm_daemon.specs.Granted.{grant_places}
 use Rattle.nlm_daemon.proofs.granting.answered.Goals as goal
 

@@ -1,11 +1,11 @@
 use Rattle.std.proofs.lemmas.Result.{err_from_is_err_and}
 use Rattle.side_wire.specs.declared.nlm.NlmStatus.TheVariants as statuses
-use Rattle.nlm_daemon.proofs.Calling.{alone-ends, alone-first, alone-never, asks-nothing, ends-memory, granting-of}
-use Rattle.nlm_daemon.proofs.Judging.{first-past}
-use Rattle.nlm_daemon.proofs.Told.{denied-promised, step-denied}
+use Rattle.nlm_daemon.proofs.NlmWantsLemmas.{alone-ends, alone-first, alone-never, asks-nothing, ends-memory, granting-of}
+use Rattle.nlm_daemon.proofs.NlmHandleLemmas.{first-past}
+use Rattle.nlm_daemon.proofs.NlmAnswerLemmas.{denied-promised, step-denied}
 use Rattle.nlm_daemon.specs.Answering.{IsAnswered, granting_call}
 use Rattle.nfs_objects.specs.declared.change.Change.{Change}
-use Rattle.nfs_inodes.proofs.Halting.{lacking-first-at}
+use Rattle.nfs_inodes.proofs.ReaderHaltLemmas.{lacking-first-at}
 use Rattle.nfs_objects.specs.declared.address.Addr.TheVariants as addresses
 use Rattle.nlm_daemon.proofs.granting.attempt.Goals as goal
 

@@ -4,10 +4,10 @@ use Rattle.side_wire.specs.declared.nlm.NlmCall.TheVariants as nlm
 use Rattle.nfs_machine.specs.declared.calls.Call.TheVariants as calls
 use Rattle.nfs_objects.specs.Attempt.{unless_seen}
 use Rattle.nfs_objects.specs.declared.address.Addr.TheVariants as addresses
-use Rattle.nfs_inodes.proofs.Halting.{exports-stop-at, lacking-first-at}
-use Rattle.nlm_daemon.proofs.Calling.{ends-first, ends-stopped, wanted-alone}
-use Rattle.nlm_daemon.proofs.Judging.{first-past}
-use Rattle.nlm_daemon.proofs.Replied.{grant-stopped, none-promised, some-promised}
+use Rattle.nfs_inodes.proofs.ReaderHaltLemmas.{exports-stop-at, lacking-first-at}
+use Rattle.nlm_daemon.proofs.NlmWantsLemmas.{ends-first, ends-stopped, wanted-alone}
+use Rattle.nlm_daemon.proofs.NlmHandleLemmas.{first-past}
+use Rattle.nlm_daemon.proofs.GrantEndsLemmas.{grant-stopped, none-promised, some-promised}
 use Rattle.nlm_daemon.specs.Granted.{grant_places}
 use Rattle.nfs_objects.specs.declared.change.Change.{Change}
 use Rattle.nlm_daemon.proofs.granting.attempt_res.Goals as goal

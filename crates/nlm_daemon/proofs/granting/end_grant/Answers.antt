@@ -1,7 +1,7 @@
 use Rattle.std.proofs.Common.{ap, ◌∙◌}
 use Rattle.std.proofs.lemmas.Result.{err_from_is_err_and}
 use Rattle.nfs_machine.specs.OneFile.{requested}
-use Rattle.nlm_daemon.proofs.Replied.{grant-back, grant-kept}
+use Rattle.nlm_daemon.proofs.GrantEndsLemmas.{grant-back, grant-kept}
 use Rattle.nlm_daemon.proofs.granting.end_grant.Goals as goal
 
 pub returns-in_err-put-in-Granted : goal.returns-in_err-put-in-Granted

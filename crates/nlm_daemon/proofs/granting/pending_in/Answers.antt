@@ -1,6 +1,6 @@
 use Rattle.std.proofs.Common.{None, Some, subst, sym}
 use Rattle.std.specs.Arc.{arc_value}
-use Rattle.nlm_daemon.proofs.Finding.{finds-later, grant-first, none-first}
+use Rattle.nlm_daemon.proofs.AnsweredGrantLemmas.{finds-later, grant-first, none-first}
 use Rattle.nlm_daemon.proofs.granting.pending_in.Goals as goal
 use Rattle.nlm_daemon.specs.Granted.{FindsPending}
 

@@ -1,6 +1,6 @@
 use Rattle.std.proofs.Common.{◌∙◌, ap, sym}
 use Rattle.nfs_objects.specs.Stands.{lives_in}
-use Rattle.nlm_daemon.proofs.Finding.{dead-none, grant-copied, unlisted-none}
+use Rattle.nlm_daemon.proofs.AnsweredGrantLemmas.{dead-none, grant-copied, unlisted-none}
 use Rattle.nlm_daemon.proofs.granting.pending_of.Goals as goal
 
 pub returns-then-not-lives : goal.returns-then-not-lives

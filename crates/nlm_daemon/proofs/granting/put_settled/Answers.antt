@@ -3,8 +3,8 @@ use Rattle.std.proofs.lemmas.Result.{err_from_is_err_and}
 use Rattle.nfs_machine.specs.Grants.{grant_message}
 use Rattle.nlm_ranges.specs.Granting.{granted_in}
 use Rattle.nfs_inodes.specs.Locks.{locks_set}
-use Rattle.nlm_daemon.proofs.Ends.{May}
-use Rattle.nlm_daemon.proofs.Sending.{put-sends}
+use Rattle.nlm_daemon.proofs.NlmEndsLemmas.{May}
+use Rattle.nlm_daemon.proofs.SentMessagesLemmas.{put-sends}
 use Rattle.nlm_daemon.proofs.granting.put_settled.Goals as goal
 
 pub returns-in_err-put : goal.returns-in_err-put

@@ -1,6 +1,6 @@
 use Rattle.std.proofs.Common.{arith, ap, ◌∙◌}
 use Rattle.nfs_machine.specs.Grants.{grant_message}
-use Rattle.nlm_daemon.proofs.Sending.{all-sent, sends-next, sends-none}
+use Rattle.nlm_daemon.proofs.SentMessagesLemmas.{all-sent, sends-next, sends-none}
 use Rattle.nlm_daemon.proofs.granting.send_grants.Goals as goal
 
 pub loop-request-init : goal.loop-request-init

@@ -1,9 +1,9 @@
 use Rattle.std.proofs.Common.{◌∷◌, []}
 use Rattle.std.proofs.lemmas.Result.{err_from_is_err_and}
 use Rattle.nfs_objects.specs.Attempt.{first_wanted_with}
-use Rattle.nlm_daemon.proofs.Attempted.{locks-promised}
-use Rattle.nlm_daemon.proofs.Calling.{begins-alone, ends-first, ends-memory, ends-stopped, locking-of}
-use Rattle.nlm_daemon.proofs.Judging.{first-halts, first-past}
+use Rattle.nlm_daemon.proofs.AttemptPromiseLemmas.{locks-promised}
+use Rattle.nlm_daemon.proofs.NlmWantsLemmas.{begins-alone, ends-first, ends-memory, ends-stopped, locking-of}
+use Rattle.nlm_daemon.proofs.NlmHandleLemmas.{first-halts, first-past}
 use Rattle.nlm_daemon.specs.Answering.{IsAnswered, locking_call}
 use Rattle.nlm_daemon.specs.Comes.{lock_places}
 use Rattle.side_wire.specs.declared.nlm.NlmStatus.{NlmStatus}

@@ -1,6 +1,6 @@
 use Rattle.std.proofs.Common.{sym}
 use Rattle.std.proofs.lemmas.Result.{err_from_is_err_and}
-use Rattle.nlm_daemon.proofs.Ends.{comes-known, held-blocked, held-denied, held-none, held-put, longer-is}
+use Rattle.nlm_daemon.proofs.NlmEndsLemmas.{comes-known, held-blocked, held-denied, held-none, held-put, longer-is}
 use Rattle.nlm_daemon.proofs.locking.held_up.Goals as goal
 
 pub returns-then-not-arguments : goal.returns-then-not-arguments

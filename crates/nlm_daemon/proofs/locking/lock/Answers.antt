@@ -1,8 +1,8 @@
 use Rattle.std.proofs.Common.{Result}
 use Rattle.std.proofs.lemmas.Result.{err_from_is_err_and}
-use Rattle.nlm_daemon.proofs.Calling.{stops-behind, stops-locks, stops-named}
-use Rattle.nlm_daemon.proofs.Ends.{lock-fault, lock-granted, lock-held, way-stands}
-use Rattle.nlm_daemon.proofs.Judging.{first-halts, first-past}
+use Rattle.nlm_daemon.proofs.NlmWantsLemmas.{stops-behind, stops-locks, stops-named}
+use Rattle.nlm_daemon.proofs.NlmEndsLemmas.{lock-fault, lock-granted, lock-held, way-stands}
+use Rattle.nlm_daemon.proofs.NlmHandleLemmas.{first-halts, first-past}
 use Rattle.nlm_daemon.specs.Checks.{IsPlaceOf, fault_value}
 use Rattle.side_wire.specs.declared.nlm.NlmStatus.{NlmStatus}
 use Rattle.nlm_daemon.specs.declared.checking.LockFault.{LockFault}

@@ -1,7 +1,7 @@
 use Rattle.side_wire.specs.declared.nlm.NlmCall.TheVariants as nlm
 use Rattle.side_wire.specs.declared.nlm.NlmReply.TheVariants as replies
 use Rattle.nfs_machine.specs.declared.calls.Call.TheVariants as calls
-use Rattle.nlm_daemon.proofs.Told.{passed-promised, step-null}
+use Rattle.nlm_daemon.proofs.NlmAnswerLemmas.{passed-promised, step-null}
 use Rattle.nlm_daemon.proofs.passing.null.Goals as goal
 
 pub returns-clause-ends : goal.returns-clause-ends

@@ -2,10 +2,10 @@ use Rattle.std.proofs.lemmas.Result.{err_from_is_err_and}
 use Rattle.nfs_machine.specs.declared.calls.Call.TheVariants as calls
 use Rattle.nfs_objects.specs.declared.address.Addr.TheVariants as addresses
 use Rattle.nfs_objects.specs.declared.change.Change.{Change}
-use Rattle.nfs_inodes.proofs.Halting.{lacking-first-at}
-use Rattle.nlm_daemon.proofs.Calling.{alone-ends, alone-first, alone-never, passing-of}
-use Rattle.nlm_daemon.proofs.Judging.{first-past}
-use Rattle.nlm_daemon.proofs.Told.{passed-promised, step-passed}
+use Rattle.nfs_inodes.proofs.ReaderHaltLemmas.{lacking-first-at}
+use Rattle.nlm_daemon.proofs.NlmWantsLemmas.{alone-ends, alone-first, alone-never, passing-of}
+use Rattle.nlm_daemon.proofs.NlmHandleLemmas.{first-past}
+use Rattle.nlm_daemon.proofs.NlmAnswerLemmas.{passed-promised, step-passed}
 use Rattle.nlm_daemon.specs.Answering.{reply_passed}
 use Rattle.nlm_daemon.proofs.passing.pass.Goals as goal
 

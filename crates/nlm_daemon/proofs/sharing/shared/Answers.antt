@@ -1,8 +1,8 @@
 use Rattle.std.proofs.Common.{sym, Result}
 use Rattle.std.proofs.lemmas.Result.{err_from_is_err_and}
-use Rattle.nlm_daemon.proofs.Calling.{stops-behind, stops-locks, stops-named}
-use Rattle.nlm_daemon.proofs.Ends.{comes-known, share-denied, share-fault, share-put}
-use Rattle.nlm_daemon.proofs.Judging.{first-halts, first-past}
+use Rattle.nlm_daemon.proofs.NlmWantsLemmas.{stops-behind, stops-locks, stops-named}
+use Rattle.nlm_daemon.proofs.NlmEndsLemmas.{comes-known, share-denied, share-fault, share-put}
+use Rattle.nlm_daemon.proofs.NlmHandleLemmas.{first-halts, first-past}
 use Rattle.nlm_daemon.specs.Checks.{fault_value}
 use Rattle.side_wire.specs.declared.nlm.NlmStatus.{NlmStatus}
 use Rattle.nlm_daemon.specs.declared.checking.LockFault.{LockFault}

@@ -3,9 +3,9 @@ use Rattle.std.proofs.lemmas.Result.{err_from_is_err_and}
 use Rattle.nfs_machine.specs.declared.calls.Call.TheVariants as calls
 use Rattle.side_wire.specs.declared.nlm.NlmCall.TheVariants as nlm
 use Rattle.nfs_objects.specs.Attempt.{first_wanted_with}
-use Rattle.nlm_daemon.proofs.Attempted.{unshares-promised}
-use Rattle.nlm_daemon.proofs.Calling.{begins-alone, ends-first, ends-memory, ends-stopped, unsharing-of}
-use Rattle.nlm_daemon.proofs.Judging.{first-halts, first-past}
+use Rattle.nlm_daemon.proofs.AttemptPromiseLemmas.{unshares-promised}
+use Rattle.nlm_daemon.proofs.NlmWantsLemmas.{begins-alone, ends-first, ends-memory, ends-stopped, unsharing-of}
+use Rattle.nlm_daemon.proofs.NlmHandleLemmas.{first-halts, first-past}
 use Rattle.nlm_daemon.specs.Answering.{IsAnswered}
 use Rattle.nlm_daemon.specs.Comes.{lock_places}
 use Rattle.nlm_daemon.specs.declared.answering.Procedure.TheVariants as procedures

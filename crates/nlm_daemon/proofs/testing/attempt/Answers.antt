@@ -5,9 +5,9 @@ use Rattle.side_wire.specs.declared.nlm.TestStatus.{TestStatus}
 use Rattle.nfs_machine.specs.declared.calls.Call.TheVariants as calls
 use Rattle.nfs_objects.specs.Attempt.{first_wanted_with}
 use Rattle.nfs_objects.specs.declared.change.Change.{Change}
-use Rattle.nlm_daemon.proofs.Calling.{ends-first, ends-stopped}
-use Rattle.nlm_daemon.proofs.Judging.{first-halts, first-past}
-use Rattle.nlm_daemon.proofs.Told.{tested-promised}
+use Rattle.nlm_daemon.proofs.NlmWantsLemmas.{ends-first, ends-stopped}
+use Rattle.nlm_daemon.proofs.NlmHandleLemmas.{first-halts, first-past}
+use Rattle.nlm_daemon.proofs.NlmAnswerLemmas.{tested-promised}
 use Rattle.nlm_daemon.specs.Comes.{lock_places}
 use Rattle.nlm_daemon.proofs.testing.attempt.Goals as goal
 

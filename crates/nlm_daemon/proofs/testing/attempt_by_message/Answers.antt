@@ -6,9 +6,9 @@ use Rattle.nfs_machine.specs.LockSteps.{TestEnds}
 use Rattle.nfs_machine.specs.declared.calls.Call.TheVariants as calls
 use Rattle.nfs_objects.specs.Attempt.{first_wanted_with}
 use Rattle.nfs_objects.specs.declared.change.Change.{Change}
-use Rattle.nlm_daemon.proofs.Calling.{ends-first, ends-stopped}
-use Rattle.nlm_daemon.proofs.Judging.{first-halts, first-past}
-use Rattle.nlm_daemon.proofs.Told.{posted-promised, step-test-message}
+use Rattle.nlm_daemon.proofs.NlmWantsLemmas.{ends-first, ends-stopped}
+use Rattle.nlm_daemon.proofs.NlmHandleLemmas.{first-halts, first-past}
+use Rattle.nlm_daemon.proofs.NlmAnswerLemmas.{posted-promised, step-test-message}
 use Rattle.nlm_daemon.specs.Comes.{lock_places}
 use Rattle.nlm_daemon.proofs.testing.attempt_by_message.Goals as goal
 

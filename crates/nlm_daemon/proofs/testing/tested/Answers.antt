@@ -2,9 +2,9 @@ use Rattle.std.proofs.Common.{Result}
 use Rattle.std.proofs.lemmas.Result.{err_from_is_err_and}
 use Rattle.side_wire.specs.declared.nlm.TestStatus.{TestStatus}
 use Rattle.nlm_ranges.specs.Files.{no_file}
-use Rattle.nlm_daemon.proofs.Calling.{stops-behind, stops-named}
-use Rattle.nlm_daemon.proofs.Ends.{nothing-held, test-fault, test-free, test-held, way-rises}
-use Rattle.nlm_daemon.proofs.Judging.{first-halts, first-past}
+use Rattle.nlm_daemon.proofs.NlmWantsLemmas.{stops-behind, stops-named}
+use Rattle.nlm_daemon.proofs.NlmEndsLemmas.{nothing-held, test-fault, test-free, test-held, way-rises}
+use Rattle.nlm_daemon.proofs.NlmHandleLemmas.{first-halts, first-past}
 use Rattle.nlm_daemon.specs.Checks.{IsPlaceOf, fault_value}
 use Rattle.nlm_daemon.specs.declared.checking.LockFault.{LockFault}
 use Rattle.nlm_daemon.specs.declared.checking.Place.{Place}

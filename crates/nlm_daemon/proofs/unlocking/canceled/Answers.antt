@@ -2,9 +2,9 @@ use Rattle.std.proofs.Common.{sym, Result}
 use Rattle.std.proofs.lemmas.Result.{err_from_is_err_and}
 use Rattle.nfs_machine.specs.LockSteps.{is_request}
 use Rattle.nlm_ranges.specs.Files.{no_file}
-use Rattle.nlm_daemon.proofs.Calling.{stops-behind, stops-locks, stops-named}
-use Rattle.nlm_daemon.proofs.Ends.{cancel-denied, cancel-fault, cancel-put, comes-known, nothing-waits}
-use Rattle.nlm_daemon.proofs.Judging.{first-halts, first-past}
+use Rattle.nlm_daemon.proofs.NlmWantsLemmas.{stops-behind, stops-locks, stops-named}
+use Rattle.nlm_daemon.proofs.NlmEndsLemmas.{cancel-denied, cancel-fault, cancel-put, comes-known, nothing-waits}
+use Rattle.nlm_daemon.proofs.NlmHandleLemmas.{first-halts, first-past}
 use Rattle.nlm_daemon.specs.Checks.{IsPlaceOf, fault_value}
 use Rattle.side_wire.specs.declared.nlm.NlmStatus.{NlmStatus}
 use Rattle.nlm_daemon.specs.declared.checking.LockFault.{LockFault}

@@ -1,5 +1,5 @@
 use Rattle.std.proofs.Common.{◌<◌, Some, ap, arith, length, sym, ◌∙◌}
-use Rattle.nlm_ranges.proofs.Requested.{earliest-here}
+use Rattle.nlm_ranges.proofs.RequestListLemmas.{earliest-here}
 use Rattle.nlm_ranges.proofs.batch.earliest.Goals as goal
 use Rattle.nlm_ranges.specs.Requests.{goes}
 

@@ -1,5 +1,5 @@
 use Rattle.std.proofs.Common.{◌≡◌, ◌++◌, ap, false, rules, sym, ◌∙◌}
-use Rattle.nlm_ranges.proofs.Pieces.{all_others}
+use Rattle.nlm_ranges.proofs.PieceLemmas.{all_others}
 use Rattle.nlm_ranges.proofs.list.add_others.Goals as goal
 use Rattle.nlm_ranges.specs.Cutting.{is_of_caller, joined}
 

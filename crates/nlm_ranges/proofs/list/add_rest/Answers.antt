@@ -1,5 +1,5 @@
 use Rattle.std.proofs.Common.{◌≡◌, ◌++◌, ap, false, rules, sym, ◌∙◌}
-use Rattle.nlm_ranges.proofs.Pieces.{uncut}
+use Rattle.nlm_ranges.proofs.PieceLemmas.{uncut}
 use Rattle.nlm_ranges.proofs.list.add_rest.Goals as goal
 use Rattle.nlm_ranges.specs.Cutting.{joined}
 

@@ -1,5 +1,5 @@
 use Rattle.std.proofs.Common.{◌<◌, arith, length}
-use Rattle.nlm_ranges.proofs.Pieces.{in-piece}
+use Rattle.nlm_ranges.proofs.PieceLemmas.{in-piece}
 use Rattle.nlm_ranges.proofs.list.first_in_way.Goals as goal
 
 pub returns-in-Some-clause-some : goal.returns-in-Some-clause-some

@@ -1,6 +1,6 @@
 use Rattle.std.proofs.Common.{◌<◌, ◌++◌, ap, arith, filter, length, not, sym, ◌∙◌}
 use Rattle.nfs_machine.specs.State.{Lock}
-use Rattle.nlm_ranges.proofs.Pieces.{next-left}
+use Rattle.nlm_ranges.proofs.PieceLemmas.{next-left}
 use Rattle.nlm_ranges.proofs.list.others_of.Goals as goal
 use Rattle.nlm_ranges.specs.Cutting.{is_of_caller}
 

@@ -1,6 +1,6 @@
 use Rattle.std.proofs.Common.{◌<◌, ◌++◌, ap, arith, length, sym, ◌∙◌}
 use Rattle.std.specs.List.{flat_map}
-use Rattle.nlm_ranges.proofs.Pieces.{next-cut}
+use Rattle.nlm_ranges.proofs.PieceLemmas.{next-cut}
 use Rattle.nlm_ranges.proofs.list.rest_of.Goals as goal
 use Rattle.nlm_ranges.specs.Cutting.{cut}
 

@@ -1,5 +1,5 @@
 use Rattle.std.proofs.Common.{◌++◌, ap, ◌∙◌}
-use Rattle.nlm_ranges.proofs.Pieces.{inserts-pieces}
+use Rattle.nlm_ranges.proofs.PieceLemmas.{inserts-pieces}
 use Rattle.nlm_ranges.proofs.list.with_lock.Goals as goal
 
 pub returns : goal.returns

@@ -1,5 +1,5 @@
 use Rattle.std.proofs.Common.{subst, sym}
-use Rattle.nlm_ranges.proofs.Widening.{begins-itself, begins-more}
+use Rattle.nlm_ranges.proofs.WideningLemmas.{begins-itself, begins-more}
 use Rattle.nlm_ranges.proofs.locks.first_with.Goals as goal
 use Rattle.nlm_ranges.specs.Held.{BeginsWith}
 

@@ -1,5 +1,5 @@
 use Rattle.std.proofs.Common.{◌<◌, ◌^◌, arith, subst, sym}
-use Rattle.nlm_ranges.proofs.Widening.{ends-itself, ends-more}
+use Rattle.nlm_ranges.proofs.WideningLemmas.{ends-itself, ends-more}
 use Rattle.nlm_ranges.proofs.locks.last_with.Goals as goal
 use Rattle.nlm_ranges.specs.Held.{EndsWith}
 

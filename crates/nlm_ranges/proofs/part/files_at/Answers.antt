@@ -2,7 +2,7 @@ use Rattle.std.proofs.Common.{◌==◌, ap, sym, ◌∙◌, rules, tests}
 use Rattle.std.specs.Prelude.{option_copied}
 use Rattle.std.proofs.lemmas.Iterator.{YieldsList-from_slice}
 use Rattle.std.proofs.lemmas.Iterator.Search.{find_from_yields_List}
-use Rattle.nlm_ranges.proofs.InParts.{taken}
+use Rattle.nlm_ranges.proofs.BucketPartsLemmas.{taken}
 use Rattle.nlm_ranges.proofs.part.files_at.Goals as goal
 use Rattle.nlm_ranges.specs.Parts.{PartValue}
 

@@ -2,7 +2,7 @@ use Rattle.std.proofs.Common.{◌==◌, ap, ◌∙◌, length, rules, tests}
 use Rattle.std.proofs.lemmas.Iterator.{YieldsList-from_slice}
 use Rattle.std.proofs.lemmas.Iterator.Search.{position_from_yields_List}
 use Rattle.std.specs.Option.{unwrap_or}
-use Rattle.nlm_ranges.proofs.InParts.{place-of}
+use Rattle.nlm_ranges.proofs.BucketPartsLemmas.{place-of}
 use Rattle.nlm_ranges.proofs.part.place_of.Goals as goal
 use Rattle.nlm_ranges.specs.Parts.{PartValue}
 

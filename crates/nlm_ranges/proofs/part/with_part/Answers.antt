@@ -1,6 +1,6 @@
 use Rattle.std.proofs.Common.{◌++◌, [], ap, append_assoc, drop, sym, ◌∙◌}
 use Rattle.std.proofs.lemmas.List.{append-nil, nil_from_length}
-use Rattle.nlm_ranges.proofs.InParts.{placed}
+use Rattle.nlm_ranges.proofs.BucketPartsLemmas.{placed}
 use Rattle.nlm_ranges.proofs.part.with_part.Goals as goal
 use Rattle.nlm_ranges.specs.Parts.{part_of}
 

@@ -1,5 +1,5 @@
 use Rattle.std.proofs.Common.{◌<◌, arith, length}
-use Rattle.nlm_ranges.proofs.Pieces.{ends-more}
+use Rattle.nlm_ranges.proofs.PieceLemmas.{ends-more}
 use Rattle.nlm_ranges.proofs.piece.ends.Goals as goal
 
 pub loop-lock-preserved : goal.loop-lock-preserved

@@ -1,5 +1,5 @@
 use Rattle.std.proofs.Common.{◌<◌, ◌++◌, ap, arith, length, sym, take, ◌∙◌}
-use Rattle.nlm_ranges.proofs.Pieces.{next-joined}
+use Rattle.nlm_ranges.proofs.PieceLemmas.{next-joined}
 use Rattle.nlm_ranges.proofs.requests.all_shared.Goals as goal
 use Rattle.nlm_ranges.specs.Cutting.{joined}
 

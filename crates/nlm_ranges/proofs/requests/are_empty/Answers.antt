@@ -1,7 +1,7 @@
 use Rattle.std.proofs.Common.{◌≡◌, ◌==◌, ◌<◌, List, ap, arith, false, length, rules, sym, true, ◌∙◌}
 use Rattle.std.specs.Cmp.{unsigned_Decides}
 use Rattle.nfs_machine.specs.State.{Request}
-use Rattle.nlm_ranges.proofs.Pieces.{counted, none-joined, some-joined}
+use Rattle.nlm_ranges.proofs.PieceLemmas.{counted, none-joined, some-joined}
 use Rattle.nlm_ranges.proofs.requests.are_empty.Goals as goal
 
 pub returns-then-not-is_empty : goal.returns-then-not-is_empty

@@ -1,8 +1,8 @@
 use Rattle.std.proofs.Common.{◌≡◌, ◌<◌, arith, length, rules, subst, sym, take, true}
 use Rattle.std.specs.List.{AllByRecursion}
 use Rattle.nfs_machine.specs.OneFile.{IsHeldUp}
-use Rattle.nfs_machine.proofs.Modes.{all-joined}
-use Rattle.nlm_ranges.proofs.Pieces.{next-joined}
+use Rattle.nfs_machine.proofs.ModesLemmas.{all-joined}
+use Rattle.nlm_ranges.proofs.PieceLemmas.{next-joined}
 use Rattle.nlm_ranges.proofs.requests.are_held_up.Goals as goal
 use Rattle.nlm_ranges.specs.Cutting.{joined}
 

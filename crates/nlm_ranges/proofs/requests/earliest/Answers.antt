@@ -1,6 +1,6 @@
 use Rattle.std.proofs.Common.{◌<◌, arith, length}
 use Rattle.std.specs.Arc.{arc_value}
-use Rattle.nlm_ranges.proofs.Pieces.{found-in}
+use Rattle.nlm_ranges.proofs.PieceLemmas.{found-in}
 use Rattle.nlm_ranges.proofs.requests.earliest.Goals as goal
 use Rattle.nlm_ranges.specs.Requests.{goes}
 

@@ -1,7 +1,7 @@
 use Rattle.std.proofs.Common.{◌<◌, ◌++◌, ap, arith, length, not, sym, ◌∙◌}
 use Rattle.nfs_machine.specs.FileLists.{all_but}
 use Rattle.nfs_machine.specs.State.{Request}
-use Rattle.nlm_ranges.proofs.Pieces.{next-left}
+use Rattle.nlm_ranges.proofs.PieceLemmas.{next-left}
 use Rattle.nlm_ranges.proofs.requests.others.Goals as goal
 use Rattle.nlm_ranges.specs.Requests.{goes}
 

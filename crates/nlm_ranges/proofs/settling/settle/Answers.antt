@@ -1,6 +1,6 @@
 use Rattle.std.proofs.Common.{map, subst, sym}
 use Rattle.std.specs.Arc.{arc_value}
-use Rattle.nlm_ranges.proofs.Granted.{way-ends}
+use Rattle.nlm_ranges.proofs.GrantingLemmas.{way-ends}
 use Rattle.nlm_ranges.proofs.settling.settle.Goals as goal
 use Rattle.nlm_ranges.specs.Granting.{IsOnWay, holding, kept_in}
 

@@ -1,6 +1,6 @@
 use Rattle.std.proofs.Common.{subst}
 use Rattle.nfs_xdr.specs.Laws.{IsBytes}
-use Rattle.nfs_xdr.proofs.Spelling.{reading_finds_spelling}
+use Rattle.nfs_xdr.proofs.SpellingLaws.{reading_finds_spelling}
 use Rattle.nfs_xdr.proofs.ProgramLaws.{refused_told, held_told}
 use Rattle.side_wire.specs.NlmTypes.{nlm4_res, result_value}
 use Rattle.nfs_xdr.proofs.ProgramLaws.{is_not_memory, is_memory}

@@ -1,4 +1,4 @@
-use Rattle.nfs_xdr.proofs.Spelling.{WritesResult-bytes, WritesResult-spells}
+use Rattle.nfs_xdr.proofs.SpellingLaws.{WritesResult-bytes, WritesResult-spells}
 use Rattle.side_wire.proofs.nlm.write_result.Goals as goal
 
 pub returns-clause-written : goal.returns-clause-written

@@ -1,4 +1,4 @@
-use Rattle.nfs_inodes.proofs.Counting.{stands-first}
+use Rattle.nfs_inodes.proofs.UsageChangeLemmas.{stands-first}
 use Rattle.machine_tests.proofs.tests.makers.changed.Goals as goal
 
 pub lose_link-requires-clause-stands : goal.lose_link-requires-clause-stands

@@ -1,4 +1,4 @@
-use Rattle.nfs_inodes.proofs.Counting.{stands-first, stands-on}
+use Rattle.nfs_inodes.proofs.UsageChangeLemmas.{stands-first, stands-on}
 use Rattle.machine_tests.proofs.tests.makers.come_and_go.Goals as goal
 
 pub add_entry-requires-clause-stands : goal.add_entry-requires-clause-stands

@@ -1,5 +1,5 @@
 use Rattle.std.proofs.Common.{ap, sym, ◌∙◌}
-use Rattle.nfs_engine.proofs.Turned.{recalled_kept, recalled_running, recalled_wanting}
+use Rattle.nfs_engine.proofs.AdmitErrorLemmas.{recalled_kept, recalled_running, recalled_wanting}
 use Rattle.nfs_engine.specs.Arrivals.{ArrivalValue}
 use Rattle.nfs_engine.proofs.book.Book.admit_call.Goals as goal
 

@@ -1,7 +1,7 @@
 use Rattle.std.proofs.Common.{◌≡◌, Err, IfSome, ap, sym, subst, ◌∙◌}
 use Rattle.nfs_machine.specs.Run.{Setting}
-use Rattle.nfs_engine.proofs.Booked.{begun, idle_of}
-use Rattle.nfs_engine.proofs.Turned.{entered, known_of, turned}
+use Rattle.nfs_engine.proofs.BookLemmas.{begun, idle_of}
+use Rattle.nfs_engine.proofs.AdmitErrorLemmas.{entered, known_of, turned}
 use Rattle.nfs_engine.specs.Arrivals.{ArrivalValue, incoming_value}
 use Rattle.nfs_engine.specs.Book.{Admits, BookValue, IsNoRepeat, IsUnknown, book_value}
 use Rattle.nfs_engine.specs.Calls.{TxnValue}

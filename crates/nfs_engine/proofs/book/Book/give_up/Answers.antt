@@ -1,4 +1,4 @@
-use Rattle.nfs_engine.proofs.Booked.{given_up}
+use Rattle.nfs_engine.proofs.BookLemmas.{given_up}
 use Rattle.nfs_engine.proofs.book.Book.give_up.Goals as goal
 
 pub invariant_of-self : goal.invariant_of-self

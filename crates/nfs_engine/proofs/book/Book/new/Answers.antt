@@ -1,8 +1,8 @@
 use Rattle.std.proofs.Common.{[], ap, refl, sym, subst, arith, ◌∙◌}
 use Rattle.nfs_replies.specs.Replies.{RepliesValue}
-use Rattle.nfs_engine.proofs.Came.{nowhere}
-use Rattle.nfs_engine.proofs.Led.{begun_run}
-use Rattle.nfs_engine.proofs.Openings.{opened_lasts, opened_leads, opened_store}
+use Rattle.nfs_engine.proofs.OriginsLemmas.{nowhere}
+use Rattle.nfs_engine.proofs.CommitLeadsLemmas.{begun_run}
+use Rattle.nfs_engine.proofs.OpeningWritesLemmas.{opened_lasts, opened_leads, opened_store}
 use Rattle.nfs_engine.specs.Running.{CallsValue, CameWith}
 use Rattle.nfs_engine.specs.Tables.{ObjectsValue, store_of}
 use Rattle.nfs_engine.proofs.book.Book.new.Goals as goal

@@ -1,5 +1,5 @@
 use Rattle.std.proofs.Common.{ap, ◌∙◌}
-use Rattle.nfs_engine.proofs.Led.{rebased_run, rebases}
+use Rattle.nfs_engine.proofs.CommitLeadsLemmas.{rebased_run, rebases}
 use Rattle.nfs_engine.specs.Book.{BookValue}
 use Rattle.nfs_engine.specs.Journal.{JournalValue}
 use Rattle.nfs_engine.proofs.book.Book.new_era.Goals as goal

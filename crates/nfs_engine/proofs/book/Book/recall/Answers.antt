@@ -1,4 +1,4 @@
-use Rattle.nfs_engine.proofs.Booked.{recalled}
+use Rattle.nfs_engine.proofs.BookLemmas.{recalled}
 use Rattle.nfs_engine.proofs.book.Book.recall.Goals as goal
 
 pub invariant_of-self-in-Some : goal.invariant_of-self-in-Some

@@ -1,5 +1,5 @@
 use Rattle.std.proofs.Common.{ap, refl}
-use Rattle.nfs_engine.proofs.Led.{same_run}
+use Rattle.nfs_engine.proofs.CommitLeadsLemmas.{same_run}
 use Rattle.nfs_engine.specs.Journal.{JournalValue}
 use Rattle.nfs_engine.proofs.book.Book.take_message.Goals as goal
 

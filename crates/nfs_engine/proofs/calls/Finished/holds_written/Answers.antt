@@ -2,7 +2,7 @@ use Rattle.std.proofs.Common.{List, subst, sym}
 use Rattle.std.specs.List.{AllByRecursion}
 use Rattle.nfs_objects.specs.Values.{write_value}
 use Rattle.nfs_objects.specs.declared.change.Write.{Write}
-use Rattle.nfs_engine.proofs.Making.{over_values, under_values}
+use Rattle.nfs_engine.proofs.WritesInShardLemmas.{over_values, under_values}
 use Rattle.nfs_engine.specs.Settling.{HoldsWritten}
 use Rattle.nfs_engine.proofs.calls.Finished.holds_written.Goals as goal
 

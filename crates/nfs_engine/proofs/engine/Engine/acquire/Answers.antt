@@ -1,5 +1,5 @@
 use Rattle.std.proofs.Common.{arith}
-use Rattle.nfs_engine.proofs.Stepped.{got_counters, got_on}
+use Rattle.nfs_engine.proofs.EngineStepLemmas.{got_counters, got_on}
 use Rattle.nfs_engine.proofs.engine.Engine.acquire.Goals as goal
 
 pub invariant_of-self : goal.invariant_of-self

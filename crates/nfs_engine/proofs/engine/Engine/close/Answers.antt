@@ -1,4 +1,4 @@
-use Rattle.nfs_engine.proofs.Unlocked.{nothing_held}
+use Rattle.nfs_engine.proofs.HeldCountLemmas.{nothing_held}
 use Rattle.nfs_engine.proofs.engine.Engine.close.Goals as goal
 
 pub returns : goal.returns

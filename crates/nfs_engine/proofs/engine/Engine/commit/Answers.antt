@@ -5,8 +5,8 @@ use Rattle.nfs_objects.specs.declared.address.Addr.{Addr}
 use Rattle.nfs_objects.specs.declared.object.Object.{Object}
 use Rattle.nfs_machine.specs.RpcReplies.{success_message}
 use Rattle.nfs_replies.specs.declared.origins.Origin.{Origin}
-use Rattle.nfs_engine.proofs.Settled.{came_so, held_to_write, may_commit, settled_counters, settled_leaving}
-use Rattle.nfs_engine.proofs.Settled.{settled_others, settled_tied}
+use Rattle.nfs_engine.proofs.SettleLemmas.{came_so, held_to_write, may_commit, settled_counters, settled_leaving}
+use Rattle.nfs_engine.proofs.SettleLemmas.{settled_others, settled_tied}
 use Rattle.nfs_engine.specs.Calls.{txn_of}
 use Rattle.nfs_engine.specs.Engine.{IsHeldAmong}
 use Rattle.nfs_engine.specs.Releases.{ReleaseValue}

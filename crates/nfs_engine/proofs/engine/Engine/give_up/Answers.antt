@@ -1,4 +1,4 @@
-use Rattle.nfs_engine.proofs.Ended.{gave_up}
+use Rattle.nfs_engine.proofs.GivenUpCallLemmas.{gave_up}
 use Rattle.nfs_engine.proofs.engine.Engine.give_up.Goals as goal
 
 pub returns-clause-others : goal.returns-clause-others

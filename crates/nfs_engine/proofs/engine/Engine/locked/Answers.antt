@@ -1,6 +1,6 @@
 use Rattle.std.proofs.Common.{List, ◌+◌, ◌∙◌, ap, sym, take, arith, subst}
 use Rattle.std.proofs.lemmas.List.{take_all}
-use Rattle.nfs_engine.proofs.Unlocked.{counted_more}
+use Rattle.nfs_engine.proofs.HeldCountLemmas.{counted_more}
 use Rattle.nfs_engine.specs.Engine.{CountsLocked, EngineValue}
 use Rattle.nfs_engine.specs.Locked.{IsLocked}
 use Rattle.nfs_engine.specs.Shards.{ShardValue}

@@ -1,6 +1,6 @@
 use Rattle.std.proofs.Common.{map, ◌∙◌}
 use Rattle.nfs_objects.specs.Values.{write_value}
-use Rattle.nfs_engine.proofs.Opened.{nobody_holds, opened_tied}
+use Rattle.nfs_engine.proofs.OpenedShardsLemmas.{nobody_holds, opened_tied}
 use Rattle.nfs_engine.proofs.engine.Engine.new.Goals as goal
 
 pub open_all-requires : goal.open_all-requires

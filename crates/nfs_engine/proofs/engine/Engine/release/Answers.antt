@@ -1,5 +1,5 @@
 use Rattle.std.proofs.Common.{arith}
-use Rattle.nfs_engine.proofs.Left.{left_next, left_others, left_tied}
+use Rattle.nfs_engine.proofs.LeftCallLemmas.{left_next, left_others, left_tied}
 use Rattle.nfs_engine.proofs.engine.Engine.release.Goals as goal
 
 pub invariant_of-self : goal.invariant_of-self

@@ -1,4 +1,4 @@
-use Rattle.nfs_engine.proofs.Loosed.{loosed, loosed_tied}
+use Rattle.nfs_engine.proofs.LetGoAllLemmas.{loosed, loosed_tied}
 use Rattle.nfs_engine.proofs.engine.Engine.release_all.Goals as goal
 
 pub invariant_of-self : goal.invariant_of-self

@@ -1,5 +1,5 @@
 use Rattle.std.proofs.Common.{arith}
-use Rattle.nfs_engine.proofs.Stepped.{gained_counters, gained_on, holds_there}
+use Rattle.nfs_engine.proofs.EngineStepLemmas.{gained_counters, gained_on, holds_there}
 use Rattle.nfs_engine.proofs.engine.Engine.reserve.Goals as goal
 
 pub reserve_in-requires : goal.reserve_in-requires

@@ -2,7 +2,7 @@ use Rattle.std.proofs.Common.{◌==◌, cond, Some, ap, sym, ◌∙◌}
 use Rattle.nfs_objects.specs.declared.modes.Mode.TheVariants.{Shared}
 use Rattle.nfs_engine.specs.Holders.{hold_of, holders_value}
 use Rattle.nfs_engine.specs.declared.holders.Holders.{Holders}
-use Rattle.nfs_engine.proofs.Holding.{joined_among}
+use Rattle.nfs_engine.proofs.HolderCountLemmas.{joined_among}
 use Rattle.nfs_engine.proofs.holders.Holders.add_beside.Goals as goal
 
 pub returns-in-Several-clause-ok : goal.returns-in-Several-clause-ok

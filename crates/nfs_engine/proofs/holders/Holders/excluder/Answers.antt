@@ -3,7 +3,7 @@ use Rattle.nfs_objects.specs.declared.modes.Mode.{Mode}
 use Rattle.nfs_objects.specs.declared.modes.Mode.TheVariants.{Exclusive}
 use Rattle.nfs_engine.specs.Holders.{IsExcluder, holders_value}
 use Rattle.nfs_engine.specs.declared.holders.Holders.{Holders}
-use Rattle.nfs_engine.proofs.Holding.{first_excludes}
+use Rattle.nfs_engine.proofs.HolderCountLemmas.{first_excludes}
 use Rattle.nfs_engine.proofs.holders.Holders.excluder.Goals as goal
 
 pub returns-in-Exclusive : goal.returns-in-Exclusive

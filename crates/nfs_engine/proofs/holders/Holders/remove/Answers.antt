@@ -1,7 +1,7 @@
 use Rattle.std.proofs.Common.{ℕ, ◌==◌, List, cond, None, ap, sym, ◌∙◌}
 use Rattle.nfs_engine.specs.Holders.{hold_in, hold_of, holders_value}
 use Rattle.nfs_engine.specs.declared.holders.Holders.{Holders}
-use Rattle.nfs_engine.proofs.Holding.{removed_among}
+use Rattle.nfs_engine.proofs.HolderCountLemmas.{removed_among}
 use Rattle.nfs_engine.proofs.holders.Holders.remove.Goals as goal
 
 pub returns-in-Several : goal.returns-in-Several

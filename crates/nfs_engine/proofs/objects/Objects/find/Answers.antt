@@ -1,7 +1,7 @@
 use Rattle.std.proofs.Common.{◌∙◌, ap, option_map, unwrap_or, Option}
 use Rattle.std.specs.Option.{option_copied}
 use Rattle.std.specs.Arc.{arc_value}
-use Rattle.nfs_engine.proofs.Written.{kept-lookup}
+use Rattle.nfs_engine.proofs.StoreWriteLemmas.{kept-lookup}
 use Rattle.nfs_engine.specs.Tables.{KeptValue, ObjectsValue, empty_kept, kept_at, kept_value}
 use Rattle.nfs_engine.specs.declared.objects.Kept.{Kept}
 use Rattle.nfs_engine.proofs.objects.Objects.find.Goals as goal

@@ -2,7 +2,7 @@ use Rattle.std.proofs.Common.{List, true, refl, subst}
 use Rattle.std.specs.Bool.{Decides}
 use Rattle.std.specs.List.{AllByRecursion}
 use Rattle.nfs_objects.specs.declared.view.Reserved.{Reserved}
-use Rattle.nfs_engine.proofs.Fitting.{fitting}
+use Rattle.nfs_engine.proofs.FitsLemmas.{fitting}
 use Rattle.nfs_engine.specs.Tables.{Unspent, store_of}
 use Rattle.nfs_engine.proofs.objects.Objects.fits_shown.Goals as goal
 

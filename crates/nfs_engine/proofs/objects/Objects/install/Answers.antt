@@ -1,6 +1,6 @@
 use Rattle.std.proofs.Common.{map, ap}
 use Rattle.nfs_objects.specs.Values.{write_value}
-use Rattle.nfs_engine.proofs.Written.{installing_more, installing_next}
+use Rattle.nfs_engine.proofs.StoreWriteLemmas.{installing_more, installing_next}
 use Rattle.nfs_engine.proofs.objects.Objects.install.Goals as goal
 
 pub put-requires : goal.put-requires

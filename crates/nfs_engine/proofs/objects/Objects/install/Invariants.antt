@@ -1,7 +1,7 @@
 use Rattle.std.proofs.Common.{length, map}
 use Rattle.std.specs.Vec.Iter.{into_iter_items}
 use Rattle.nfs_objects.specs.Values.{write_value}
-use Rattle.nfs_engine.proofs.Written.{Installing}
+use Rattle.nfs_engine.proofs.StoreWriteLemmas.{Installing}
 use Rattle.nfs_engine.proofs.objects.Objects.install.Given as goal
 
 abbrev pub invariant-writes : goal.invariant-writes

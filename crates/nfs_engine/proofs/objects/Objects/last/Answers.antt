@@ -1,5 +1,5 @@
 use Rattle.std.proofs.Common.{◌∙◌, ap, option_map, unwrap_or, Option}
-use Rattle.nfs_engine.proofs.Written.{kept-lookup}
+use Rattle.nfs_engine.proofs.StoreWriteLemmas.{kept-lookup}
 use Rattle.nfs_engine.specs.Tables.{KeptValue, ObjectsValue, empty_kept, kept_at, kept_value}
 use Rattle.nfs_engine.specs.declared.objects.Kept.{Kept}
 use Rattle.nfs_engine.proofs.objects.Objects.last.Goals as goal

@@ -1,8 +1,8 @@
 use Rattle.std.proofs.Common.{◌≡◌, ◌∙◌, ◌&&◌, not, true, ap, is_some, option_map, sym}
 use Rattle.std.specs.Arc.{arc_value}
 use Rattle.nfs_objects.specs.Values.{write_value}
-use Rattle.nfs_engine.proofs.Needing.{slot-found}
-use Rattle.nfs_engine.proofs.Standing.{given-some}
+use Rattle.nfs_engine.proofs.SlotNeedLemmas.{slot-found}
+use Rattle.nfs_engine.proofs.StandingCountLemmas.{given-some}
 use Rattle.nfs_engine.specs.Tables.{ObjectsValue, needs_slot}
 use Rattle.nfs_engine.proofs.objects.Objects.needs_slot.Goals as goal
 

@@ -1,7 +1,7 @@
 use Rattle.std.proofs.Common.{◌∙◌, ap, arith, option_map, sym}
 use Rattle.std.proofs.lemmas.List.{length-map}
 use Rattle.std.specs.Arc.{arc_value}
-use Rattle.nfs_engine.proofs.Standing.{found-some, given-some, put-count}
+use Rattle.nfs_engine.proofs.StandingCountLemmas.{found-some, given-some, put-count}
 use Rattle.nfs_engine.specs.Standing.{count_after}
 use Rattle.nfs_objects.specs.declared.address.Addr.{Addr}
 use Rattle.nfs_engine.specs.Tables.{KeptValue, ObjectsValue, kept_slots, kept_value, store_of}

@@ -1,5 +1,5 @@
 use Rattle.std.proofs.Common.{◌∙◌, sym, arith}
-use Rattle.nfs_engine.proofs.Needing.{needed-more, needed-same}
+use Rattle.nfs_engine.proofs.SlotNeedLemmas.{needed-more, needed-same}
 use Rattle.nfs_engine.proofs.objects.Objects.slots_needed.Goals as goal
 use Rattle.nfs_engine.proofs.objects.Objects.slots_needed.Goals.{then-needs_slot, else-needs_slot}
 

@@ -1,4 +1,4 @@
-use Rattle.nfs_engine.proofs.Loosed.{aborted_after, ended_after}
+use Rattle.nfs_engine.proofs.LetGoAllLemmas.{aborted_after, ended_after}
 use Rattle.nfs_engine.proofs.release.Release.ended.Goals as goal
 
 pub returns-in-Some : goal.returns-in-Some

@@ -1,6 +1,6 @@
 use Rattle.std.proofs.Common.{◌∙◌, arith, false, get_or, not, refl}
 use Rattle.std.proofs.lemmas.List.{length-set}
-use Rattle.nfs_engine.proofs.Loosed.{one_marked}
+use Rattle.nfs_engine.proofs.LetGoAllLemmas.{one_marked}
 use Rattle.nfs_engine.proofs.release.Release.left.Goals as goal
 
 pub loop-index-preserved : goal.loop-index-preserved

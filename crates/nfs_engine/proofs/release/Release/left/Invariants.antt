@@ -1,5 +1,5 @@
 use Rattle.std.proofs.Common.{◌≡◌, length}
-use Rattle.nfs_engine.proofs.Loosed.{MarkedTo}
+use Rattle.nfs_engine.proofs.LetGoAllLemmas.{MarkedTo}
 use Rattle.nfs_engine.proofs.release.Release.left.Given as goal
 
 abbrev pub invariant-loop-index : goal.invariant-loop-index

@@ -1,6 +1,6 @@
 use Rattle.std.proofs.Common.{get_or, false, sym, ◌∙◌, ap, arith}
 use Rattle.nfs_objects.specs.Values.{Seen, seen_of}
-use Rattle.nfs_engine.proofs.Left.{free_further, holds_nothing, holds_some, past_all, past_none}
+use Rattle.nfs_engine.proofs.LeftCallLemmas.{free_further, holds_nothing, holds_some, past_all, past_none}
 use Rattle.nfs_engine.proofs.release.Release.next_shard.Goals as goal
 
 pub loop-place-preserved : goal.loop-place-preserved

@@ -1,6 +1,6 @@
 use Rattle.std.proofs.Common.{IfSome, List, Option, sym, ap, subst}
 use Rattle.slab.specs.Slab.{Slab}
-use Rattle.nfs_engine.proofs.Came.{begun_origins}
+use Rattle.nfs_engine.proofs.OriginsLemmas.{begun_origins}
 use Rattle.nfs_engine.specs.Running.{CallsValue, IsInProgress, Joins}
 use Rattle.nfs_engine.specs.declared.running.Running.{Running}
 use Rattle.nfs_engine.proofs.running.Calls.begin.Goals as goal

@@ -1,5 +1,5 @@
 use Rattle.std.proofs.Common.{IfSome, List, None, Option, set, sym, subst, arith}
-use Rattle.nfs_engine.proofs.Came.{ended_gone, ended_origins, noted_there}
+use Rattle.nfs_engine.proofs.OriginsLemmas.{ended_gone, ended_origins, noted_there}
 use Rattle.nfs_engine.specs.Running.{AreOrigins, CallsValue, IsInProgress, origin_at}
 use Rattle.nfs_engine.specs.declared.running.Running.{Running}
 use Rattle.nfs_engine.proofs.running.Calls.end.Goals as goal

@@ -1,6 +1,6 @@
 use Rattle.std.proofs.Common.{Some, None, option_map, sym, ◌∙◌, ap}
-use Rattle.nfs_engine.proofs.Holding.{nobody_held}
-use Rattle.nfs_engine.proofs.Steps.{excluder_of, other_here}
+use Rattle.nfs_engine.proofs.HolderCountLemmas.{nobody_held}
+use Rattle.nfs_engine.proofs.SlotStepLemmas.{excluder_of, other_here}
 use Rattle.nfs_engine.specs.Shards.{shard_value, slot_value}
 use Rattle.nfs_engine.proofs.shard.Shard.excluder.Goals as goal
 

@@ -1,6 +1,6 @@
 use Rattle.std.proofs.Common.{refl}
 use Rattle.nfs_engine.specs.declared.slot.Slot.{Slot}
-use Rattle.nfs_engine.proofs.Steps.{absent_held, number_fills, other_fills}
+use Rattle.nfs_engine.proofs.SlotStepLemmas.{absent_held, number_fills, other_fills}
 use Rattle.nfs_engine.proofs.shard.Shard.fill.Goals as goal
 
 pub invariant_of-self : goal.invariant_of-self

@@ -1,4 +1,4 @@
-use Rattle.nfs_engine.proofs.Listed.{locked}
+use Rattle.nfs_engine.proofs.ShardSlotListLemmas.{locked}
 use Rattle.nfs_engine.proofs.shard.Shard.locked.Goals as goal
 
 pub returns : goal.returns

@@ -1,5 +1,5 @@
 use Rattle.std.proofs.lemmas.Bool.Decides.{not_from_Decides}
-use Rattle.nfs_engine.proofs.Steps.{absent_left, number_goes, number_stays, other_goes, other_stays}
+use Rattle.nfs_engine.proofs.SlotStepLemmas.{absent_left, number_goes, number_stays, other_goes, other_stays}
 use Rattle.nfs_engine.proofs.shard.Shard.release.Goals as goal
 
 pub invariant_of-self : goal.invariant_of-self

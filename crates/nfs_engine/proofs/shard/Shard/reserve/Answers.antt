@@ -1,4 +1,4 @@
-use Rattle.nfs_engine.proofs.Reserving.{reserved_sound, reserves}
+use Rattle.nfs_engine.proofs.ReserveLemmas.{reserved_sound, reserves}
 use Rattle.nfs_engine.proofs.shard.Shard.reserve.Goals as goal
 
 pub invariant_of-self-2 : goal.invariant_of-self-2

@@ -1,7 +1,7 @@
 use Rattle.std.proofs.Common.{Some, None, false, option_map, sym, ◌∙◌, ap}
 use Rattle.nfs_engine.specs.Shards.{shard_value, slot_value}
-use Rattle.nfs_engine.proofs.Has.{decides_filled}
-use Rattle.nfs_engine.proofs.Steps.{other_here}
+use Rattle.nfs_engine.proofs.HolderLemmas.{decides_filled}
+use Rattle.nfs_engine.proofs.SlotStepLemmas.{other_here}
 use Rattle.nfs_engine.proofs.shard.Shard.stands_at.Goals as goal
 
 pub returns-in-Some-get : goal.returns-in-Some-get

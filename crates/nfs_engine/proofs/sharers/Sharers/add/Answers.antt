@@ -1,7 +1,7 @@
 use Rattle.std.proofs.Common.{◌||◌, ◌==◌, ℕ, List, sym, ◌∙◌, ap}
 use Rattle.std.specs.List.{list_any}
 use Rattle.nfs_engine.specs.Holders.{is_among}
-use Rattle.nfs_engine.proofs.Holding.{found_among, known_among, pushed_among}
+use Rattle.nfs_engine.proofs.HolderCountLemmas.{found_among, known_among, pushed_among}
 use Rattle.nfs_engine.proofs.sharers.Sharers.add.Goals as goal
 
 pub returns-then-contains-clause-added : goal.returns-then-contains-clause-added

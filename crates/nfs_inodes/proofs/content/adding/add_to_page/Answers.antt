@@ -4,8 +4,8 @@ use Rattle.std.proofs.lemmas.Result.{err_from_is_err_and}
 use Rattle.nfs_machine.specs.State.{Entry}
 use Rattle.nfs_objects.specs.Entries.{entry}
 use Rattle.nfs_objects.specs.declared.address.Addr.TheVariants as addresses
-use Rattle.nfs_inodes.proofs.Adding.{page-comes}
-use Rattle.nfs_inodes.proofs.Onward.{lacked-stops}
+use Rattle.nfs_inodes.proofs.AddEntryLemmas.{page-comes}
+use Rattle.nfs_inodes.proofs.AsksAfterWritesLemmas.{lacked-stops}
 use Rattle.nfs_inodes.proofs.content.adding.add_to_page.Goals as goal
 use Rattle.nfs_inodes.proofs.content.adding.add_to_page.Goals.{in-Some+in_ok-entries-in-Some, in-None+in_ok-entries-in-None}
 use Rattle.nfs_objects.specs.Stands.{stored_page}

@@ -4,8 +4,8 @@ use Rattle.std.proofs.lemmas.Result.{err_from_is_err_and}
 use Rattle.nfs_objects.specs.Directories.{bucket_of, count_in, counted_up, part_among, width_in, width_of}
 use Rattle.nfs_objects.specs.Entries.{entry}
 use Rattle.nfs_objects.specs.declared.address.Addr.TheVariants as addresses
-use Rattle.nfs_inodes.proofs.Adding.{Comes, MayDivide, part-comes, part-stops, width-more, width-some}
-use Rattle.nfs_inodes.proofs.Onward.{keeps-none}
+use Rattle.nfs_inodes.proofs.AddEntryLemmas.{Comes, MayDivide, part-comes, part-stops, width-more, width-some}
+use Rattle.nfs_inodes.proofs.AsksAfterWritesLemmas.{keeps-none}
 use Rattle.nfs_inodes.specs.Entered.{Divides, KeepsButBucket, PartsLive, lacked_of}
 use Rattle.nfs_inodes.specs.Stops.{StopsAt}
 use Rattle.nfs_inodes.proofs.content.adding.add_to_part.Goals as goal

@@ -1,7 +1,7 @@
 use Rattle.std.proofs.Common.{◌≡◌, ◌<◌, ◌∙◌, ap, arith}
 use Rattle.nfs_objects.specs.Directories.{bucket_of, count_in, width_in}
 use Rattle.nfs_objects.specs.declared.address.Addr.TheVariants as addresses
-use Rattle.nfs_inodes.proofs.Adding.{asks-divided, asks-first, asks-own, asks-same, width-more, width-some}
+use Rattle.nfs_inodes.proofs.AddEntryLemmas.{asks-divided, asks-first, asks-own, asks-same, width-more, width-some}
 use Rattle.nfs_inodes.specs.Asking.{with_wish}
 use Rattle.indexmap.proofs.MapLemmas.{OnOk-map}
 use Rattle.nfs_inodes.proofs.content.adding.ask_added.Goals as goal

@@ -7,9 +7,9 @@ use Rattle.nfs_objects.specs.Stands.{part_of}
 use Rattle.nfs_objects.specs.Values.{known_at, with_written}
 use Rattle.nfs_objects.specs.declared.address.Addr.TheVariants as addresses
 use Rattle.nfs_objects.specs.declared.object.Object.TheVariants as objects
-use Rattle.nfs_inodes.proofs.Adding.{none-divides, part-divides}
-use Rattle.nfs_inodes.proofs.Onward.{lacked-stops, lives-stops, told-known}
-use Rattle.nfs_inodes.proofs.StillKnown.{knows-written}
+use Rattle.nfs_inodes.proofs.AddEntryLemmas.{none-divides, part-divides}
+use Rattle.nfs_inodes.proofs.AsksAfterWritesLemmas.{lacked-stops, lives-stops, told-known}
+use Rattle.nfs_inodes.proofs.StillKnownLemmas.{knows-written}
 use Rattle.nfs_inodes.specs.Entered.{lacked_of}
 use Rattle.nfs_inodes.proofs.content.adding.divide.Goals as goal
 

@@ -2,16 +2,16 @@ use Rattle.std.proofs.Common.{◌≡◌, ◌/◌, ◌∷◌, ◌++◌, [], List,
 use Rattle.std.proofs.lemmas.Result.{err_from_is_err_and}
 use Rattle.nfs_machine.specs.Checks.{entry_of}
 use Rattle.nfs_machine.specs.State.{Entry}
-use Rattle.nfs_objects.proofs.Laying.{enters-none}
+use Rattle.nfs_objects.proofs.OtherObjectsLemmas.{enters-none}
 use Rattle.nfs_objects.specs.Calls.{places_for}
 use Rattle.nfs_objects.specs.Directories.{bucket_of, width_in}
 use Rattle.nfs_objects.specs.Entries.{entry}
 use Rattle.nfs_objects.specs.Unfiled.{Relists}
 use Rattle.nfs_objects.specs.declared.address.Addr.TheVariants as addresses
-use Rattle.nfs_inodes.proofs.Adding.{added-asking}
-use Rattle.nfs_inodes.proofs.Entered.{entered}
-use Rattle.nfs_inodes.proofs.Onward.{lacked-more, lacked-stops-back}
-use Rattle.nfs_inodes.proofs.StillKnown.{knows-none}
+use Rattle.nfs_inodes.proofs.AddEntryLemmas.{added-asking}
+use Rattle.nfs_inodes.proofs.EntryMoreLemmas.{entered}
+use Rattle.nfs_inodes.proofs.AsksAfterWritesLemmas.{lacked-more, lacked-stops-back}
+use Rattle.nfs_inodes.proofs.StillKnownLemmas.{knows-none}
 use Rattle.nfs_inodes.specs.Entered.{AsksToAdd, lacked_of}
 use Rattle.nfs_inodes.specs.Stops.{StopsAt}
 use Rattle.nfs_inodes.proofs.content.adding.with_entry.Goals as goal

@@ -1,7 +1,7 @@
 use Rattle.std.proofs.Common.{◌≡◌, ◌==◌, true, false, arith, refl, sym, subst}
 use Rattle.std.specs.Cmp.{unsigned_Decides}
-use Rattle.nfs_inodes.proofs.Reading.{block-there}
-use Rattle.nfs_inodes.proofs.Wishing.{differs}
+use Rattle.nfs_inodes.proofs.ReadBlocksLemmas.{block-there}
+use Rattle.nfs_inodes.proofs.WishesLemmas.{differs}
 use Rattle.nfs_inodes.specs.Blocks.{HasBlock}
 use Rattle.nfs_inodes.proofs.content.blocks.are_there.Goals as goal
 

@@ -1,5 +1,5 @@
 use Rattle.std.proofs.Common.{arith}
-use Rattle.nfs_inodes.proofs.Wishing.{each-more, each-none}
+use Rattle.nfs_inodes.proofs.WishesLemmas.{each-more, each-none}
 use Rattle.nfs_inodes.specs.Blocks.{first_of}
 use Rattle.nfs_inodes.proofs.content.blocks.ask_blocks.Goals as goal
 

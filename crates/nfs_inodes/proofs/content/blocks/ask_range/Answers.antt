@@ -1,7 +1,7 @@
 use Rattle.std.proofs.Common.{◌≡◌, [], arith, sym, subst}
 use Rattle.nfs_objects.specs.Calls.{blocks_at}
-use Rattle.nfs_inodes.proofs.WriteAsks.{read-asking, read-known}
-use Rattle.nfs_inodes.proofs.Wishing.{IsPaged, asked-result, range-more, range-none, range-skip}
+use Rattle.nfs_inodes.proofs.WriteAsksLemmas.{read-asking, read-known}
+use Rattle.nfs_inodes.proofs.WishesLemmas.{IsPaged, asked-result, range-more, range-none, range-skip}
 use Rattle.nfs_inodes.specs.Asking.{AsksFor}
 use Rattle.nfs_inodes.specs.Blocks.{IsBlockIn, KnowsMapped, end_of, first_of}
 use Rattle.nfs_inodes.proofs.content.blocks.ask_range.Goals as goal

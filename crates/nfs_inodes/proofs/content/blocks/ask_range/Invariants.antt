@@ -1,5 +1,5 @@
 use Rattle.std.proofs.Common.{[]}
-use Rattle.nfs_inodes.proofs.Wishing.{IsPaged}
+use Rattle.nfs_inodes.proofs.WishesLemmas.{IsPaged}
 use Rattle.nfs_inodes.specs.Asking.{AsksFor}
 use Rattle.nfs_inodes.specs.Blocks.{IsBlockIn, first_of}
 use Rattle.nfs_inodes.proofs.content.blocks.ask_range.Given as goal

@@ -1,5 +1,5 @@
 use Rattle.std.proofs.Common.{◌≡◌, ◌⊎◌, ◌+◌, ◌-◌, ◌/◌, arith, subst}
-use Rattle.nfs_inodes.proofs.Wishing.{block-no-map, with-map, with-no-maps, without-map}
+use Rattle.nfs_inodes.proofs.WishesLemmas.{block-no-map, with-map, with-no-maps, without-map}
 use Rattle.nfs_inodes.specs.Asking.{AsksFor}
 use Rattle.nfs_inodes.specs.Blocks.{IsBlockIn, IsMapIn, end_of, first_of}
 use Rattle.nfs_inodes.proofs.content.blocks.ask_written.Goals as goal

@@ -1,7 +1,7 @@
 use Rattle.std.proofs.Common.{◌++◌, ◌-◌, [], drop, min, unwrap_or, arith, ◌∙◌}
 use Rattle.std.specs.Prelude.{option_copied}
 use Rattle.nfs_machine.specs.Data.{resized}
-use Rattle.nfs_inodes.proofs.Reading.{gathered-more}
+use Rattle.nfs_inodes.proofs.ReadBlocksLemmas.{gathered-more}
 use Rattle.nfs_inodes.proofs.content.blocks.gathered.Goals as goal
 
 pub loop-index-preserved : goal.loop-index-preserved

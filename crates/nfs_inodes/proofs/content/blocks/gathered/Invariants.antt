@@ -1,4 +1,4 @@
-use Rattle.nfs_inodes.proofs.Reading.{IsGathered}
+use Rattle.nfs_inodes.proofs.ReadBlocksLemmas.{IsGathered}
 use Rattle.nfs_inodes.proofs.content.blocks.gathered.Given as goal
 
 abbrev pub invariant-loop-index : goal.invariant-loop-index

@@ -2,8 +2,8 @@ use Rattle.std.proofs.Common.{◌||◌, ◌&&◌, ◌+◌, ◌-◌, ◌*◌, [],
 use Rattle.std.proofs.lemmas.Result.{err_from_is_err_and}
 use Rattle.nfs_objects.specs.Bits.{has}
 use Rattle.nfs_objects.specs.declared.address.Addr.TheVariants as addresses
-use Rattle.nfs_inodes.proofs.Halting.{any-stops, lacking-stops}
-use Rattle.nfs_inodes.proofs.Written.{page-tells}
+use Rattle.nfs_inodes.proofs.ReaderHaltLemmas.{any-stops, lacking-stops}
+use Rattle.nfs_inodes.proofs.WrittenBlocksLemmas.{page-tells}
 use Rattle.nfs_inodes.specs.Blocks.{end_of, first_of}
 use Rattle.nfs_inodes.proofs.content.blocks.map_after.Goals as goal
 

@@ -1,5 +1,5 @@
 use Rattle.nfs_objects.specs.Calls.{blocks_at}
-use Rattle.nfs_inodes.proofs.WriteAsks.{stops-any}
+use Rattle.nfs_inodes.proofs.WriteAsksLemmas.{stops-any}
 use Rattle.nfs_inodes.proofs.content.blocks.read_range.Goals as goal
 
 pub returns : goal.returns

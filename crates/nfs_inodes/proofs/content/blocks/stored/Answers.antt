@@ -1,5 +1,5 @@
 use Rattle.std.proofs.Common.{sym}
-use Rattle.nfs_inodes.proofs.Reading.{has-pages, known-block, shows-absent}
+use Rattle.nfs_inodes.proofs.ReadBlocksLemmas.{has-pages, known-block, shows-absent}
 use Rattle.nfs_inodes.proofs.content.blocks.stored.Goals as goal
 
 pub returns-then-not-has : goal.returns-then-not-has

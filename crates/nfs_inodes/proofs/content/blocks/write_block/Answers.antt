@@ -1,5 +1,5 @@
 use Rattle.std.specs.Prelude.{option_copied}
-use Rattle.nfs_inodes.proofs.Written.{block-written}
+use Rattle.nfs_inodes.proofs.WrittenBlocksLemmas.{block-written}
 use Rattle.nfs_inodes.proofs.content.blocks.write_block.Goals as goal
 
 pub returns : goal.returns

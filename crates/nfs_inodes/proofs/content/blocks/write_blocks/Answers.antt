@@ -1,5 +1,5 @@
 use Rattle.std.proofs.Common.{◌≡◌, ◌-◌, take, drop, arith, ◌∙◌}
-use Rattle.nfs_inodes.proofs.Written.{blocks-next}
+use Rattle.nfs_inodes.proofs.WrittenBlocksLemmas.{blocks-next}
 use Rattle.nfs_inodes.specs.Blocks.{place_in}
 use Rattle.nfs_inodes.proofs.content.blocks.write_blocks.Goals as goal
 

@@ -3,9 +3,9 @@ use Rattle.std.proofs.lemmas.Result.{err_from_is_err_and}
 use Rattle.nfs_objects.specs.Calls.{maps_at}
 use Rattle.nfs_objects.specs.Values.{known_at}
 use Rattle.nfs_objects.specs.declared.address.Addr.TheVariants as addresses
-use Rattle.nfs_inodes.proofs.Halting.{any-stops}
-use Rattle.nfs_inodes.proofs.WriteAsks.{one-map}
-use Rattle.nfs_inodes.proofs.Written.{back-known, range-written}
+use Rattle.nfs_inodes.proofs.ReaderHaltLemmas.{any-stops}
+use Rattle.nfs_inodes.proofs.WriteAsksLemmas.{one-map}
+use Rattle.nfs_inodes.proofs.WrittenBlocksLemmas.{back-known, range-written}
 use Rattle.nfs_inodes.specs.Blocks.{IsMapAfter, IsMapPut, end_of, first_of}
 use Rattle.nfs_inodes.proofs.content.blocks.write_range.Goals as goal
 

@@ -1,7 +1,7 @@
 use Rattle.std.proofs.Common.{[], inr, sym}
 use Rattle.std.proofs.lemmas.Result.{err_from_is_err_and}
-use Rattle.nfs_inodes.proofs.Clearing.{frees-other, frees-own}
-use Rattle.nfs_inodes.proofs.Onward.{lives-stops}
+use Rattle.nfs_inodes.proofs.ClearDirectoryLemmas.{frees-other, frees-own}
+use Rattle.nfs_inodes.proofs.AsksAfterWritesLemmas.{lives-stops}
 use Rattle.nfs_inodes.proofs.content.clearing.clear_at.Goals as goal
 use Rattle.nfs_inodes.proofs.content.clearing.clear_at.Goals.{then-is_entries_of+in_ok-free_at, else-is_entries_of}
 

@@ -1,6 +1,6 @@
 use Rattle.std.proofs.Common.{◌<◌, ◌≤◌, ℕ, [], arith}
-use Rattle.nfs_inodes.proofs.Cutting.{in-end, in-more, told-there}
-use Rattle.nfs_inodes.proofs.Wishing.{asked-result, asking-all, known-all}
+use Rattle.nfs_inodes.proofs.CutFileLemmas.{in-end, in-more, told-there}
+use Rattle.nfs_inodes.proofs.WishesLemmas.{asked-result, asking-all, known-all}
 use Rattle.nfs_inodes.specs.Cuts.{IsToldIn, KnowsTold, told_at}
 use Rattle.nfs_inodes.proofs.content.cut.ask_blocks.Goals as goal
 

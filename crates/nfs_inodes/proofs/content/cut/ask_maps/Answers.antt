@@ -1,6 +1,6 @@
 use Rattle.std.proofs.Common.{[], arith, sym, refl}
-use Rattle.nfs_inodes.proofs.Cutting.{page-there, pages-more, pages-skip}
-use Rattle.nfs_inodes.proofs.Wishing.{asked-result, asking-all, known-all}
+use Rattle.nfs_inodes.proofs.CutFileLemmas.{page-there, pages-more, pages-skip}
+use Rattle.nfs_inodes.proofs.WishesLemmas.{asked-result, asking-all, known-all}
 use Rattle.nfs_inodes.specs.Cuts.{IsPageIn, KnowsMaps}
 use Rattle.nfs_inodes.proofs.content.cut.ask_maps.Goals as goal
 use Rattle.nfs_inodes.proofs.content.cut.ask_maps.Goals.{then-has+in_ok-add, else-has}

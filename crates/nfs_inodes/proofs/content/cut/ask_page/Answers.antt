@@ -1,5 +1,5 @@
 use Rattle.std.proofs.Common.{arith, sym, inl, inr}
-use Rattle.nfs_inodes.proofs.Cutting.{told-all, told-more, told-skip}
+use Rattle.nfs_inodes.proofs.CutFileLemmas.{told-all, told-more, told-skip}
 use Rattle.nfs_inodes.proofs.content.cut.ask_page.Goals as goal
 use Rattle.nfs_inodes.proofs.content.cut.ask_page.Goals.{then-has+then-index-from+in_ok-add, else-has}
 use Rattle.nfs_inodes.proofs.content.cut.ask_page.Goals.{else-has-via-then-has+else-index-from, else-has-via-else-has}

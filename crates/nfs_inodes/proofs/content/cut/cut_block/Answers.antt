@@ -1,7 +1,7 @@
 use Rattle.std.proofs.Common.{Some, None, arith, ap, ◌∙◌}
 use Rattle.std.specs.Prelude.{option_copied}
-use Rattle.nfs_inodes.proofs.Cutting.{cut-none, cut-same, cut-some, few-none, few-some}
-use Rattle.nfs_inodes.proofs.Wishing.{not-same}
+use Rattle.nfs_inodes.proofs.CutFileLemmas.{cut-none, cut-same, cut-some, few-none, few-some}
+use Rattle.nfs_inodes.proofs.WishesLemmas.{not-same}
 use Rattle.nfs_inodes.proofs.content.cut.cut_block.Goals as goal
 
 pub returns-then-left-eq0 : goal.returns-then-left-eq0

@@ -1,5 +1,5 @@
 use Rattle.std.proofs.Common.{arith, inl, inr, sym}
-use Rattle.nfs_inodes.proofs.Cutting.{cuts-all, cuts-next, cuts-skip}
+use Rattle.nfs_inodes.proofs.CutFileLemmas.{cuts-all, cuts-next, cuts-skip}
 use Rattle.nfs_inodes.proofs.content.cut.cut_blocks.Goals as goal
 use Rattle.nfs_inodes.proofs.content.cut.cut_blocks.Goals.{then-has+then-index-size+in_ok-cut_block, else-has}
 use Rattle.nfs_inodes.proofs.content.cut.cut_blocks.Goals.{else-has-via-then-has+else-index-size}

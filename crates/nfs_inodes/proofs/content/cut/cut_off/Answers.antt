@@ -1,6 +1,6 @@
 use Rattle.std.proofs.Common.{◌-◌, ◌<◌, ◌/◌, length, sym, subst, arith}
 use Rattle.std.proofs.lemmas.List.{get_or_read}
-use Rattle.nfs_inodes.proofs.Cutting.{blank, cut-end, cut-skip, cut-start, cut-step, told-known}
+use Rattle.nfs_inodes.proofs.CutFileLemmas.{blank, cut-end, cut-skip, cut-start, cut-step, told-known}
 use Rattle.nfs_inodes.specs.Cuts.{KnowsTold, ShowsMap, told_at}
 use Rattle.nfs_inodes.proofs.content.cut.cut_off.Goals as goal
 use Rattle.nfs_inodes.proofs.content.cut.cut_off.Goals.{then-has+in_ok-left, else-has}

@@ -1,5 +1,5 @@
 use Rattle.std.proofs.Common.{◌-◌, ap, ◌∙◌, ◌*◌}
-use Rattle.nfs_inodes.proofs.Cutting.{page-cut}
+use Rattle.nfs_inodes.proofs.CutFileLemmas.{page-cut}
 use Rattle.nfs_inodes.proofs.content.cut.cut_page.Goals as goal
 
 pub returns : goal.returns

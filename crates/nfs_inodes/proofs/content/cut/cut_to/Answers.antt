@@ -1,5 +1,5 @@
 use Rattle.std.proofs.Common.{arith}
-use Rattle.nfs_inodes.proofs.Cutting.{larger, smaller-result}
+use Rattle.nfs_inodes.proofs.CutFileLemmas.{larger, smaller-result}
 use Rattle.nfs_inodes.proofs.content.cut.cut_to.Goals as goal
 
 pub returns-then-size-old_size : goal.returns-then-size-old_size

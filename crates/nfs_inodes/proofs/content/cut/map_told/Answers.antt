@@ -1,5 +1,5 @@
 use Rattle.std.proofs.Common.{sym}
-use Rattle.nfs_inodes.proofs.Reading.{known-told}
+use Rattle.nfs_inodes.proofs.ReadBlocksLemmas.{known-told}
 use Rattle.nfs_inodes.proofs.content.cut.map_told.Goals as goal
 
 pub returns-then-has : goal.returns-then-has

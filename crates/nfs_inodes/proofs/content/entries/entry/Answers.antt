@@ -2,10 +2,10 @@ use Rattle.std.proofs.Common.{Some, None, ap, subst, refl}
 use Rattle.std.proofs.lemmas.Result.{err_from_is_err_and}
 use Rattle.std.specs.Prelude.{option_copied}
 use Rattle.nfs_objects.specs.Stands.{entry_map_in}
-use Rattle.nfs_inodes.proofs.Beside.{directory-lives}
-use Rattle.nfs_inodes.proofs.Counting.{stands-first}
-use Rattle.nfs_inodes.proofs.Halting.{any-stops}
-use Rattle.nfs_inodes.proofs.Leading.{entry-led, entry-lives, entry-there, no-entry-there, no-map}
+use Rattle.nfs_inodes.proofs.DirectoryMapLemmas.{directory-lives}
+use Rattle.nfs_inodes.proofs.UsageChangeLemmas.{stands-first}
+use Rattle.nfs_inodes.proofs.ReaderHaltLemmas.{any-stops}
+use Rattle.nfs_inodes.proofs.NameLeadsLemmas.{entry-led, entry-lives, entry-there, no-entry-there, no-map}
 use Rattle.nfs_inodes.specs.Entered.{ShowsLeaf}
 use Rattle.nfs_inodes.specs.Known.{HasInode}
 use Rattle.nfs_inodes.proofs.content.entries.entry.Goals as goal

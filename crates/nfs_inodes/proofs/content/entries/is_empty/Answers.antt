@@ -1,6 +1,6 @@
 use Rattle.std.proofs.Common.{true, Some, None, subst, refl}
 use Rattle.std.specs.Prelude.{option_copied}
-use Rattle.nfs_inodes.proofs.Leading.{empty-there}
+use Rattle.nfs_inodes.proofs.NameLeadsLemmas.{empty-there}
 use Rattle.nfs_inodes.specs.Known.{HasInode}
 use Rattle.nfs_inodes.proofs.content.entries.is_empty.Goals as goal
 

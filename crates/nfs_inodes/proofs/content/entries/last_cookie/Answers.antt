@@ -1,6 +1,6 @@
 use Rattle.std.proofs.Common.{Some, None, subst, refl}
 use Rattle.std.specs.Prelude.{option_copied}
-use Rattle.nfs_inodes.proofs.Leading.{cookie-shown, cookie-there}
+use Rattle.nfs_inodes.proofs.NameLeadsLemmas.{cookie-shown, cookie-there}
 use Rattle.nfs_inodes.specs.Known.{HasInode}
 use Rattle.nfs_inodes.proofs.content.entries.last_cookie.Goals as goal
 

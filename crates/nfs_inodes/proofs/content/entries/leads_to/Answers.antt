@@ -1,5 +1,5 @@
-use Rattle.nfs_inodes.proofs.Leading.{leads-by-entry, parent-lives}
-use Rattle.nfs_inodes.proofs.Standing.{known-lives}
+use Rattle.nfs_inodes.proofs.NameLeadsLemmas.{leads-by-entry, parent-lives}
+use Rattle.nfs_inodes.proofs.StandsLemmas.{known-lives}
 use Rattle.nfs_inodes.proofs.content.entries.leads_to.Goals as goal
 
 pub returns-then-is_self-clause-lives : goal.returns-then-is_self-clause-lives

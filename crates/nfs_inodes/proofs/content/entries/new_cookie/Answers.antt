@@ -1,5 +1,5 @@
 use Rattle.std.proofs.Common.{rules}
-use Rattle.nfs_inodes.proofs.Leading.{next-cookie}
+use Rattle.nfs_inodes.proofs.NameLeadsLemmas.{next-cookie}
 use Rattle.nfs_inodes.proofs.content.entries.new_cookie.Goals as goal
 
 pub returns-clause-next : goal.returns-clause-next

@@ -1,6 +1,6 @@
 use Rattle.std.proofs.Common.{Some, None, subst, sym, ◌∙◌}
 use Rattle.std.specs.Prelude.{option_copied}
-use Rattle.nfs_inodes.proofs.Standing.{parent-there}
+use Rattle.nfs_inodes.proofs.StandsLemmas.{parent-there}
 use Rattle.nfs_inodes.specs.Known.{HasInode}
 use Rattle.nfs_inodes.proofs.content.entries.parent.Goals as goal
 

@@ -1,8 +1,8 @@
 use Rattle.std.proofs.Common.{refl}
 use Rattle.std.proofs.lemmas.Result.{err_from_is_err_and}
 use Rattle.nfs_objects.specs.Calls.{addresses_of}
-use Rattle.nfs_inodes.proofs.Cutting.{cleared-all}
-use Rattle.nfs_inodes.proofs.Halting.{any-stops}
+use Rattle.nfs_inodes.proofs.CutFileLemmas.{cleared-all}
+use Rattle.nfs_inodes.proofs.ReaderHaltLemmas.{any-stops}
 use Rattle.nfs_inodes.proofs.content.file.clear.Goals as goal
 
 pub returns-in_err-cut_off : goal.returns-in_err-cut_off

@@ -2,8 +2,8 @@ use Rattle.std.specs.Prelude.{option_copied, option_map}
 use Rattle.std.specs.Arc.{arc_value}
 use Rattle.std.proofs.lemmas.Result.{err_from_is_err_and}
 use Rattle.nfs_objects.specs.declared.address.Addr.TheVariants as addresses
-use Rattle.nfs_inodes.proofs.Halting.{lacking-stops}
-use Rattle.nfs_inodes.proofs.Reading.{known-pages}
+use Rattle.nfs_inodes.proofs.ReaderHaltLemmas.{lacking-stops}
+use Rattle.nfs_inodes.proofs.ReadBlocksLemmas.{known-pages}
 use Rattle.nfs_inodes.proofs.content.file.pages_at.Goals as goal
 
 pub returns-in_err-find : goal.returns-in_err-find

@@ -2,8 +2,8 @@ use Rattle.std.proofs.Common.{subst, sym, ◌∙◌, ap}
 use Rattle.std.specs.Prelude.{option_copied}
 use Rattle.std.proofs.lemmas.Result.{err_from_is_err_and}
 use Rattle.nfs_machine.specs.Data.{read_at}
-use Rattle.nfs_inodes.proofs.Reading.{no-bytes-none, no-bytes-other}
-use Rattle.nfs_inodes.proofs.WriteAsks.{read-object, read-result}
+use Rattle.nfs_inodes.proofs.ReadBlocksLemmas.{no-bytes-none, no-bytes-other}
+use Rattle.nfs_inodes.proofs.WriteAsksLemmas.{read-object, read-result}
 use Rattle.nfs_inodes.specs.Known.{HasInode}
 use Rattle.nfs_inodes.proofs.content.file.read.Goals as goal
 

@@ -1,6 +1,6 @@
 use Rattle.std.proofs.Common.{◌≡◌, ◌+◌, ◌-◌, min, nat_le, sym, ap, arith, ◌∙◌}
 use Rattle.nfs_objects.specs.Stands.{bytes_at}
-use Rattle.nfs_inodes.proofs.Reading.{content-there, read-is}
+use Rattle.nfs_inodes.proofs.ReadBlocksLemmas.{content-there, read-is}
 use Rattle.nfs_inodes.proofs.content.file.read_file.Goals as goal
 
 pub returns-then-count-eq0 : goal.returns-then-count-eq0

@@ -3,14 +3,14 @@ use Rattle.std.proofs.lemmas.Result.{err_from_is_err_and}
 use Rattle.nfs_machine.specs.Data.{resized}
 use Rattle.nfs_machine.specs.Times.{time_of}
 use Rattle.nfs_machine.specs.declared.context.Ctx.{Ctx}
-use Rattle.nfs_objects.proofs.Suiting.{change-each}
+use Rattle.nfs_objects.proofs.ModesSuitLemmas.{change-each}
 use Rattle.nfs_objects.specs.declared.address.Addr.TheVariants as addresses
 use Rattle.nfs_objects.specs.declared.object.Inode.{Inode}
-use Rattle.nfs_inodes.proofs.Counting.{count-known, stands-first, stands-on}
-use Rattle.nfs_inodes.proofs.Filing.{file-map, laid-change, laid-generation, laid-known, put-made, written-turns}
-use Rattle.nfs_inodes.proofs.Halting.{any-stops, stops-before}
-use Rattle.nfs_inodes.proofs.Putting.{object-stops, usage-stops}
-use Rattle.nfs_inodes.proofs.Reading.{content-there, has-pages}
+use Rattle.nfs_inodes.proofs.UsageChangeLemmas.{count-known, stands-first, stands-on}
+use Rattle.nfs_inodes.proofs.FilePutLemmas.{file-map, laid-change, laid-generation, laid-known, put-made, written-turns}
+use Rattle.nfs_inodes.proofs.ReaderHaltLemmas.{any-stops, stops-before}
+use Rattle.nfs_inodes.proofs.PutObjectLemmas.{object-stops, usage-stops}
+use Rattle.nfs_inodes.proofs.ReadBlocksLemmas.{content-there, has-pages}
 use Rattle.nfs_inodes.specs.Stops.{counted_at}
 use Rattle.nfs_inodes.proofs.content.file.resize.Goals as goal
 

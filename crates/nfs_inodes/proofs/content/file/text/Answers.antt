@@ -1,7 +1,7 @@
 use Rattle.std.proofs.Common.{Some, None, refl, subst, ◌∙◌}
 use Rattle.std.specs.Prelude.{option_copied}
 use Rattle.nfs_machine.specs.Checks.{text_in}
-use Rattle.nfs_inodes.proofs.Standing.{contains-as}
+use Rattle.nfs_inodes.proofs.StandsLemmas.{contains-as}
 use Rattle.nfs_inodes.specs.Known.{HasInode}
 use Rattle.nfs_inodes.proofs.content.file.text.Goals as goal
 

@@ -3,17 +3,17 @@ use Rattle.std.proofs.lemmas.Result.{err_from_is_err_and}
 use Rattle.nfs_machine.specs.Data.{written}
 use Rattle.nfs_machine.specs.Times.{time_of}
 use Rattle.nfs_machine.specs.declared.context.Ctx.{Ctx}
-use Rattle.nfs_objects.proofs.Suiting.{change-each}
+use Rattle.nfs_objects.proofs.ModesSuitLemmas.{change-each}
 use Rattle.nfs_objects.specs.Calls.{maps_at}
 use Rattle.nfs_objects.specs.declared.address.Addr.TheVariants as addresses
 use Rattle.nfs_objects.specs.declared.object.Inode.{Inode}
-use Rattle.nfs_inodes.proofs.Counting.{count-known}
-use Rattle.nfs_inodes.proofs.Filing.{file-map, laid-change, laid-generation, laid-known, put-made, range-content}
-use Rattle.nfs_inodes.proofs.Filing.{written-turns}
-use Rattle.nfs_inodes.proofs.Halting.{stops-before}
-use Rattle.nfs_inodes.proofs.Putting.{object-stops, usage-stops}
-use Rattle.nfs_inodes.proofs.Reading.{has-pages}
-use Rattle.nfs_inodes.proofs.WriteAsks.{range-kept, write-asking, write-known, written-counts, written-maps}
+use Rattle.nfs_inodes.proofs.UsageChangeLemmas.{count-known}
+use Rattle.nfs_inodes.proofs.FilePutLemmas.{file-map, laid-change, laid-generation, laid-known, put-made, range-content}
+use Rattle.nfs_inodes.proofs.FilePutLemmas.{written-turns}
+use Rattle.nfs_inodes.proofs.ReaderHaltLemmas.{stops-before}
+use Rattle.nfs_inodes.proofs.PutObjectLemmas.{object-stops, usage-stops}
+use Rattle.nfs_inodes.proofs.ReadBlocksLemmas.{has-pages}
+use Rattle.nfs_inodes.proofs.WriteAsksLemmas.{range-kept, write-asking, write-known, written-counts, written-maps}
 use Rattle.nfs_objects.specs.Sums.{is_same_usage}
 use Rattle.nfs_inodes.specs.Asking.{AsksFor}
 use Rattle.nfs_inodes.specs.Blocks.{IsBlockIn, IsInRange, end_of, first_of, written_from}

@@ -1,6 +1,6 @@
 use Rattle.std.proofs.Common.{[], suc, subst}
-use Rattle.nfs_objects.proofs.Addressed.{IsNextListed, next-listed}
-use Rattle.nfs_inodes.proofs.PageAsks.{IsPageBefore, Nothing, pages-asking, pages-more, pages-none}
+use Rattle.nfs_objects.proofs.PagePartAddressLemmas.{IsNextListed, next-listed}
+use Rattle.nfs_inodes.proofs.PageAsksLemmas.{IsPageBefore, Nothing, pages-asking, pages-more, pages-none}
 use Rattle.nfs_inodes.specs.Asking.{AsksFor}
 use Rattle.nfs_inodes.proofs.content.listing.ask_pages.Goals as goal
 

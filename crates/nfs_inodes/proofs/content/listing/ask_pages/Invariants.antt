@@ -1,6 +1,6 @@
 use Rattle.std.proofs.Common.{[]}
-use Rattle.nfs_objects.proofs.Addressed.{IsNextListed}
-use Rattle.nfs_inodes.proofs.PageAsks.{IsPageBefore, Nothing}
+use Rattle.nfs_objects.proofs.PagePartAddressLemmas.{IsNextListed}
+use Rattle.nfs_inodes.proofs.PageAsksLemmas.{IsPageBefore, Nothing}
 use Rattle.nfs_inodes.specs.Asking.{AsksFor}
 use Rattle.nfs_inodes.proofs.content.listing.ask_pages.Given as goal
 

@@ -2,15 +2,15 @@ use Rattle.std.proofs.Common.{Some, None, refl, ap, map, subst, suc, sym, false,
 use Rattle.std.proofs.lemmas.List.{length-map}
 use Rattle.std.proofs.lemmas.Result.{err_from_is_err_and}
 use Rattle.std.specs.Prelude.{option_copied}
-use Rattle.nfs_objects.proofs.Addressed.{IsNextListed, next-listed}
+use Rattle.nfs_objects.proofs.PagePartAddressLemmas.{IsNextListed, next-listed}
 use Rattle.nfs_objects.specs.Stands.{entry_map_in}
-use Rattle.nfs_inodes.proofs.Beside.{directory-lives}
-use Rattle.nfs_inodes.proofs.Counting.{stands-first}
-use Rattle.nfs_inodes.proofs.Halting.{any-stops}
-use Rattle.nfs_inodes.proofs.Leading.{no-map}
-use Rattle.nfs_inodes.proofs.LeftOver.{IsFront, IsGathered, front-lives, front-part, front-whole, gathered-first}
-use Rattle.nfs_inodes.proofs.LeftOver.{gathered-more}
-use Rattle.nfs_inodes.proofs.LeftOver.{gathered-none, no-front}
+use Rattle.nfs_inodes.proofs.DirectoryMapLemmas.{directory-lives}
+use Rattle.nfs_inodes.proofs.UsageChangeLemmas.{stands-first}
+use Rattle.nfs_inodes.proofs.ReaderHaltLemmas.{any-stops}
+use Rattle.nfs_inodes.proofs.NameLeadsLemmas.{no-map}
+use Rattle.nfs_inodes.proofs.EntriesLeftLemmas.{IsFront, IsGathered, front-lives, front-part, front-whole, gathered-first}
+use Rattle.nfs_inodes.proofs.EntriesLeftLemmas.{gathered-more}
+use Rattle.nfs_inodes.proofs.EntriesLeftLemmas.{gathered-none, no-front}
 use Rattle.nfs_inodes.specs.Entered.{ShowsPage}
 use Rattle.nfs_inodes.specs.Known.{HasInode}
 use Rattle.nfs_inodes.specs.Listing.{dots_behind, listed_entry}

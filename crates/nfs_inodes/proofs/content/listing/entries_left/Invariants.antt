@@ -1,6 +1,6 @@
 use Rattle.std.proofs.Common.{map}
-use Rattle.nfs_objects.proofs.Addressed.{IsNextListed, left_from}
-use Rattle.nfs_inodes.proofs.LeftOver.{IsGathered}
+use Rattle.nfs_objects.proofs.PagePartAddressLemmas.{IsNextListed, left_from}
+use Rattle.nfs_inodes.proofs.EntriesLeftLemmas.{IsGathered}
 use Rattle.nfs_inodes.specs.Listing.{listed_entry}
 use Rattle.nfs_inodes.proofs.content.listing.entries_left.Given as goal
 

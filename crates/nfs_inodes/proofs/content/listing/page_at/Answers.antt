@@ -1,7 +1,7 @@
 use Rattle.std.specs.Prelude.{option_copied}
 use Rattle.nfs_objects.specs.declared.address.Addr.TheVariants as addresses
-use Rattle.nfs_inodes.proofs.Halting.{there-stops}
-use Rattle.nfs_inodes.proofs.PageAsks.{page-lives}
+use Rattle.nfs_inodes.proofs.ReaderHaltLemmas.{there-stops}
+use Rattle.nfs_inodes.proofs.PageAsksLemmas.{page-lives}
 use Rattle.nfs_inodes.specs.Entered.{ShowsPage}
 use Rattle.nfs_inodes.proofs.content.listing.page_at.Goals as goal
 

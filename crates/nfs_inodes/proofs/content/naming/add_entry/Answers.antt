@@ -2,20 +2,20 @@ use Rattle.std.proofs.Common.{ap, refl, sym, subst, ◌∙◌}
 use Rattle.std.proofs.lemmas.Result.{err_from_is_err_and}
 use Rattle.nfs_machine.specs.Times.{time_of}
 use Rattle.nfs_machine.specs.declared.context.Ctx.{Ctx}
-use Rattle.nfs_objects.proofs.Suiting.{change-each}
+use Rattle.nfs_objects.proofs.ModesSuitLemmas.{change-each}
 use Rattle.nfs_objects.specs.Entries.{entry}
 use Rattle.nfs_objects.specs.declared.address.Addr.TheVariants as addresses
 use Rattle.nfs_objects.specs.declared.directory.Directory.{Directory}
 use Rattle.nfs_objects.specs.declared.object.Inode.{Inode}
-use Rattle.nfs_inodes.proofs.EntryAsks.{header-lives}
-use Rattle.nfs_inodes.proofs.Halting.{any-stops}
-use Rattle.nfs_inodes.proofs.Onward.{may-change-on}
-use Rattle.nfs_inodes.proofs.Putting.{knows-on}
-use Rattle.nfs_inodes.proofs.Relinked.{added-turns, keeps-generation, kept-turns, leaf-absent, leaf-there, relisted-copy}
-use Rattle.nfs_inodes.proofs.Showing.{directory-kinds}
-use Rattle.nfs_inodes.proofs.StillKnown.{inode-known-on, knows-directory, knows-inode, knows-kinds, knows-none}
-use Rattle.nfs_inodes.proofs.Widths.{directory-stops, grown-stops, less-none}
-use Rattle.nfs_inodes.proofs.Written.{known-other}
+use Rattle.nfs_inodes.proofs.EntryAsksLemmas.{header-lives}
+use Rattle.nfs_inodes.proofs.ReaderHaltLemmas.{any-stops}
+use Rattle.nfs_inodes.proofs.AsksAfterWritesLemmas.{may-change-on}
+use Rattle.nfs_inodes.proofs.PutObjectLemmas.{knows-on}
+use Rattle.nfs_inodes.proofs.RelinkLemmas.{added-turns, keeps-generation, kept-turns, leaf-absent, leaf-there, relisted-copy}
+use Rattle.nfs_inodes.proofs.ShownKindLemmas.{directory-kinds}
+use Rattle.nfs_inodes.proofs.StillKnownLemmas.{inode-known-on, knows-directory, knows-inode, knows-kinds, knows-none}
+use Rattle.nfs_inodes.proofs.BucketWidthLemmas.{directory-stops, grown-stops, less-none}
+use Rattle.nfs_inodes.proofs.WrittenBlocksLemmas.{known-other}
 use Rattle.nfs_inodes.specs.Entered.{DirectoryLives, grown_at}
 use Rattle.nfs_inodes.proofs.content.naming.add_entry.Goals as goal
 

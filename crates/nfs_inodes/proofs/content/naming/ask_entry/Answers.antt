@@ -1,4 +1,4 @@
-use Rattle.nfs_inodes.proofs.EntryAsks.{adds-entry}
+use Rattle.nfs_inodes.proofs.EntryAsksLemmas.{adds-entry}
 use Rattle.nfs_inodes.proofs.content.naming.ask_entry.Goals as goal
 
 pub returns : goal.returns

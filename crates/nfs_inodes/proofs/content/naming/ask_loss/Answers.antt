@@ -1,9 +1,9 @@
 use Rattle.std.proofs.Common.{[]}
 use Rattle.std.proofs.lemmas.Result.{err_from_is_err_and}
 use Rattle.nfs_objects.specs.Calls.{addresses_of}
-use Rattle.nfs_inodes.proofs.EntryAsks.{header-lives, takes-entry}
-use Rattle.nfs_inodes.proofs.Halting.{any-stops}
-use Rattle.nfs_inodes.proofs.Wishing.{asks-none}
+use Rattle.nfs_inodes.proofs.EntryAsksLemmas.{header-lives, takes-entry}
+use Rattle.nfs_inodes.proofs.ReaderHaltLemmas.{any-stops}
+use Rattle.nfs_inodes.proofs.WishesLemmas.{asks-none}
 use Rattle.nfs_inodes.specs.Entered.{MayEnter}
 use Rattle.nfs_inodes.proofs.content.naming.ask_loss.Goals as goal
 

@@ -1,5 +1,5 @@
 use Rattle.std.proofs.Common.{refl}
-use Rattle.nfs_inodes.proofs.Relinked.{other-parent}
+use Rattle.nfs_inodes.proofs.RelinkLemmas.{other-parent}
 use Rattle.nfs_inodes.proofs.content.naming.below.Goals as goal
 
 pub returns-in_default : goal.returns-in_default

@@ -7,12 +7,12 @@ use Rattle.nfs_objects.specs.Entries.{entry}
 use Rattle.nfs_objects.specs.declared.address.Addr.TheVariants as addresses
 use Rattle.nfs_objects.specs.declared.directory.Directory.{Directory}
 use Rattle.nfs_objects.specs.declared.object.Inode.{Inode}
-use Rattle.nfs_inodes.proofs.EntryAsks.{header-lives}
-use Rattle.nfs_inodes.proofs.Halting.{any-stops}
-use Rattle.nfs_inodes.proofs.Onward.{may-change-on}
-use Rattle.nfs_inodes.proofs.Relinked.{given-relists, given-turns, keeps-generation, relisted-copy}
-use Rattle.nfs_inodes.proofs.StillKnown.{inode-known-on, knows-both, knows-inode, lives-still, lives-less}
-use Rattle.nfs_inodes.proofs.Widths.{directory-stops, grown-stops}
+use Rattle.nfs_inodes.proofs.EntryAsksLemmas.{header-lives}
+use Rattle.nfs_inodes.proofs.ReaderHaltLemmas.{any-stops}
+use Rattle.nfs_inodes.proofs.AsksAfterWritesLemmas.{may-change-on}
+use Rattle.nfs_inodes.proofs.RelinkLemmas.{given-relists, given-turns, keeps-generation, relisted-copy}
+use Rattle.nfs_inodes.proofs.StillKnownLemmas.{inode-known-on, knows-both, knows-inode, lives-still, lives-less}
+use Rattle.nfs_inodes.proofs.BucketWidthLemmas.{directory-stops, grown-stops}
 use Rattle.nfs_inodes.specs.Entered.{DirectoryLives, grown_at}
 use Rattle.nfs_inodes.proofs.content.naming.give_name.Goals as goal
 

@@ -6,13 +6,13 @@ use Rattle.nfs_objects.specs.Calls.{addresses_of}
 use Rattle.nfs_objects.specs.declared.address.Addr.TheVariants as addresses
 use Rattle.nfs_objects.specs.declared.directory.Directory.{Directory}
 use Rattle.nfs_objects.specs.declared.object.Inode.{Inode}
-use Rattle.nfs_inodes.proofs.EntryAsks.{header-lives}
-use Rattle.nfs_inodes.proofs.Halting.{any-stops}
-use Rattle.nfs_inodes.proofs.Onward.{may-change-on}
-use Rattle.nfs_inodes.proofs.Relinked.{keeps-generation, left-turns, relisted-copy}
-use Rattle.nfs_inodes.proofs.Showing.{directory-kinds}
-use Rattle.nfs_inodes.proofs.StillKnown.{inode-known-on, knows-directory, knows-inode, knows-kinds}
-use Rattle.nfs_inodes.proofs.Written.{known-other}
+use Rattle.nfs_inodes.proofs.EntryAsksLemmas.{header-lives}
+use Rattle.nfs_inodes.proofs.ReaderHaltLemmas.{any-stops}
+use Rattle.nfs_inodes.proofs.AsksAfterWritesLemmas.{may-change-on}
+use Rattle.nfs_inodes.proofs.RelinkLemmas.{keeps-generation, left-turns, relisted-copy}
+use Rattle.nfs_inodes.proofs.ShownKindLemmas.{directory-kinds}
+use Rattle.nfs_inodes.proofs.StillKnownLemmas.{inode-known-on, knows-directory, knows-inode, knows-kinds}
+use Rattle.nfs_inodes.proofs.WrittenBlocksLemmas.{known-other}
 use Rattle.nfs_inodes.specs.Entered.{DirectoryLives}
 use Rattle.nfs_inodes.proofs.content.naming.leave.Goals as goal
 

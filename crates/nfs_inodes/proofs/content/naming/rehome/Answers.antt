@@ -1,7 +1,7 @@
 use Rattle.std.proofs.Common.{subst}
 use Rattle.std.specs.Prelude.{option_copied}
 use Rattle.nfs_machine.specs.Times.{time_of}
-use Rattle.nfs_inodes.proofs.Relinked.{none-rehomed, rehomed-turns}
+use Rattle.nfs_inodes.proofs.RelinkLemmas.{none-rehomed, rehomed-turns}
 use Rattle.nfs_inodes.specs.Known.{HasInode}
 use Rattle.nfs_inodes.proofs.content.naming.rehome.Goals as goal
 

@@ -1,7 +1,7 @@
 use Rattle.std.proofs.Common.{[], sym, subst}
 use Rattle.std.specs.Prelude.{MatchResult, option_copied}
 use Rattle.nfs_objects.specs.Unfiled.{Relists}
-use Rattle.nfs_inodes.proofs.Relinked.{staying-knows, staying-less, staying-lists}
+use Rattle.nfs_inodes.proofs.RelinkLemmas.{staying-knows, staying-less, staying-lists}
 use Rattle.nfs_inodes.specs.Entered.{always}
 use Rattle.nfs_inodes.specs.Renames.{staying}
 use Rattle.nfs_inodes.specs.Stops.{StopsAt}

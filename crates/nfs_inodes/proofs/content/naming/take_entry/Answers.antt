@@ -2,16 +2,16 @@ use Rattle.std.proofs.Common.{ap, sym, subst, ◌∙◌}
 use Rattle.std.proofs.lemmas.Result.{err_from_is_err_and}
 use Rattle.nfs_machine.specs.Times.{time_of}
 use Rattle.nfs_machine.specs.declared.context.Ctx.{Ctx}
-use Rattle.nfs_objects.proofs.Suiting.{change-each}
+use Rattle.nfs_objects.proofs.ModesSuitLemmas.{change-each}
 use Rattle.nfs_objects.specs.Calls.{addresses_of}
 use Rattle.nfs_objects.specs.declared.address.Addr.TheVariants as addresses
 use Rattle.nfs_objects.specs.declared.directory.Directory.{Directory}
 use Rattle.nfs_objects.specs.declared.object.Inode.{Inode}
-use Rattle.nfs_inodes.proofs.EntryAsks.{header-lives}
-use Rattle.nfs_inodes.proofs.Halting.{any-stops}
-use Rattle.nfs_inodes.proofs.Onward.{may-change-on}
-use Rattle.nfs_inodes.proofs.Relinked.{keeps-generation, relisted-copy, taken-turns}
-use Rattle.nfs_inodes.proofs.StillKnown.{inode-known-on, knows-inode}
+use Rattle.nfs_inodes.proofs.EntryAsksLemmas.{header-lives}
+use Rattle.nfs_inodes.proofs.ReaderHaltLemmas.{any-stops}
+use Rattle.nfs_inodes.proofs.AsksAfterWritesLemmas.{may-change-on}
+use Rattle.nfs_inodes.proofs.RelinkLemmas.{keeps-generation, relisted-copy, taken-turns}
+use Rattle.nfs_inodes.proofs.StillKnownLemmas.{inode-known-on, knows-inode}
 use Rattle.nfs_inodes.specs.Entered.{DirectoryLives}
 use Rattle.nfs_inodes.proofs.content.naming.take_entry.Goals as goal
 

@@ -2,8 +2,8 @@ use Rattle.std.proofs.Common.{◌≡◌, ◌<◌, ◌/◌, ◌==◌, Bool, true,
 use Rattle.nfs_objects.specs.Directories.{count_in, width_in}
 use Rattle.nfs_objects.specs.PageRuns.{lists}
 use Rattle.nfs_objects.specs.declared.address.Addr.TheVariants as addresses
-use Rattle.nfs_inodes.proofs.Dropping.{width-most}
-use Rattle.nfs_inodes.proofs.TakenAsks.{takes-joined, takes-same}
+use Rattle.nfs_inodes.proofs.DropNameLemmas.{width-most}
+use Rattle.nfs_inodes.proofs.TakenNameAsksLemmas.{takes-joined, takes-same}
 use Rattle.nfs_inodes.specs.Asking.{with_wish}
 use Rattle.nfs_inodes.specs.declared.content.asking.Asking.{Asking}
 use Rattle.nfs_inodes.proofs.content.taking.ask_taken.Goals as goal

@@ -4,9 +4,9 @@ use Rattle.nfs_objects.specs.Stands.{part_of}
 use Rattle.nfs_objects.specs.Values.{DraftValue, known_at, with_written}
 use Rattle.nfs_objects.specs.declared.address.Addr.TheVariants as addresses
 use Rattle.nfs_objects.specs.declared.object.Object.TheVariants as objects
-use Rattle.nfs_inodes.proofs.Dropping.{absent-last, absent-source, parts-joined}
-use Rattle.nfs_inodes.proofs.Onward.{lives-stops, told-known}
-use Rattle.nfs_inodes.proofs.StillKnown.{knows-written}
+use Rattle.nfs_inodes.proofs.DropNameLemmas.{absent-last, absent-source, parts-joined}
+use Rattle.nfs_inodes.proofs.AsksAfterWritesLemmas.{lives-stops, told-known}
+use Rattle.nfs_inodes.proofs.StillKnownLemmas.{knows-written}
 use Rattle.nfs_inodes.proofs.content.taking.join.Goals as goal
 
 pub returns-in_err-moves : goal.returns-in_err-moves

@@ -1,8 +1,8 @@
 use Rattle.std.proofs.Common.{[], inr}
 use Rattle.std.proofs.lemmas.Result.{err_from_is_err_and}
 use Rattle.nfs_objects.specs.declared.address.Addr.TheVariants as addresses
-use Rattle.nfs_inodes.proofs.Onward.{lives-stops}
-use Rattle.nfs_inodes.proofs.TakenAsks.{place-lives}
+use Rattle.nfs_inodes.proofs.AsksAfterWritesLemmas.{lives-stops}
+use Rattle.nfs_inodes.proofs.TakenNameAsksLemmas.{place-lives}
 use Rattle.nfs_inodes.proofs.content.taking.leaf_of.Goals as goal
 
 pub returns-in_err-entries : goal.returns-in_err-entries

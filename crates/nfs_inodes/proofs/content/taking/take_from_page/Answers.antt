@@ -1,9 +1,9 @@
 use Rattle.std.proofs.Common.{◌/◌, [], Some, ap, ◌∙◌, inr, option_copied, sym}
 use Rattle.std.proofs.lemmas.Result.{err_from_is_err_and}
 use Rattle.nfs_objects.specs.declared.address.Addr.TheVariants as addresses
-use Rattle.nfs_inodes.proofs.Dropping.{absent-page, page-lost, rest-none, rest-some, unlisted}
-use Rattle.nfs_inodes.proofs.Onward.{lives-stops}
-use Rattle.nfs_inodes.proofs.TakenAsks.{page-beside}
+use Rattle.nfs_inodes.proofs.DropNameLemmas.{absent-page, page-lost, rest-none, rest-some, unlisted}
+use Rattle.nfs_inodes.proofs.AsksAfterWritesLemmas.{lives-stops}
+use Rattle.nfs_inodes.proofs.TakenNameAsksLemmas.{page-beside}
 use Rattle.nfs_inodes.proofs.content.taking.take_from_page.Goals as goal
 
 pub returns-then-not-has : goal.returns-then-not-has

@@ -5,9 +5,9 @@ use Rattle.nfs_objects.specs.Stands.{part_of}
 use Rattle.nfs_objects.specs.Values.{known_at, with_written}
 use Rattle.nfs_objects.specs.declared.address.Addr.TheVariants as addresses
 use Rattle.nfs_objects.specs.declared.object.Object.TheVariants as objects
-use Rattle.nfs_inodes.proofs.Dropping.{absent-part, joined-lost, one-less, rest-lost, whole-lost}
-use Rattle.nfs_inodes.proofs.Onward.{keeps-part, lives-on, lives-stops}
-use Rattle.nfs_inodes.proofs.TakenAsks.{part-beside, place-lives}
+use Rattle.nfs_inodes.proofs.DropNameLemmas.{absent-part, joined-lost, one-less, rest-lost, whole-lost}
+use Rattle.nfs_inodes.proofs.AsksAfterWritesLemmas.{keeps-part, lives-on, lives-stops}
+use Rattle.nfs_inodes.proofs.TakenNameAsksLemmas.{part-beside, place-lives}
 use Rattle.nfs_inodes.specs.Entered.{Joins}
 use Rattle.nfs_inodes.proofs.content.taking.take_from_part.Goals as goal
 use Rattle.nfs_inodes.proofs.content.taking.take_from_part.Goals.{then-before-after+in_ok-join, else-before-after}

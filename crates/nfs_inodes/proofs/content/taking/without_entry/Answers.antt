@@ -1,10 +1,10 @@
 use Rattle.std.proofs.Common.{[], Some, None, refl, subst}
 use Rattle.std.proofs.lemmas.Result.{err_from_is_err_and}
 use Rattle.nfs_objects.specs.Directories.{IsPlace}
-use Rattle.nfs_inodes.proofs.Entered.{left}
-use Rattle.nfs_inodes.proofs.Leaves.{gone-absent, leaf-stands}
-use Rattle.nfs_inodes.proofs.StillKnown.{lives-still}
-use Rattle.nfs_inodes.proofs.TakenAsks.{taken-asking}
+use Rattle.nfs_inodes.proofs.EntryMoreLemmas.{left}
+use Rattle.nfs_inodes.proofs.LeafLemmas.{gone-absent, leaf-stands}
+use Rattle.nfs_inodes.proofs.StillKnownLemmas.{lives-still}
+use Rattle.nfs_inodes.proofs.TakenNameAsksLemmas.{taken-asking}
 use Rattle.nfs_inodes.specs.Entered.{AsksToTake, ShowsLeaf}
 use Rattle.nfs_inodes.proofs.content.taking.without_entry.Goals as goal
 

@@ -1,5 +1,5 @@
 use Rattle.std.proofs.Common.{refl}
-use Rattle.nfs_inodes.proofs.Gathering.{gathers-again, gathers-more}
+use Rattle.nfs_inodes.proofs.GatherLemmas.{gathers-again, gathers-more}
 use Rattle.nfs_inodes.proofs.gather.Wishes.add.Goals as goal
 
 pub returns-in_ok-push : goal.returns-in_ok-push

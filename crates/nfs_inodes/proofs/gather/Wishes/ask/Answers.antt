@@ -2,7 +2,7 @@ use Rattle.std.proofs.Common.{◌≡◌, [], length, arith, sym, ◌∙◌, ap}
 use Rattle.std.proofs.lemmas.List.{nil_from_length}
 use Rattle.std.specs.Cmp.{unsigned_Decides}
 use Rattle.std.specs.Vec.{vec_len}
-use Rattle.nfs_inodes.proofs.Gathering.{asks-each, none-lacked}
+use Rattle.nfs_inodes.proofs.GatherLemmas.{asks-each, none-lacked}
 use Rattle.nfs_inodes.proofs.gather.Wishes.ask.Goals as goal
 
 pub returns-then-is_empty-clause-known : goal.returns-then-is_empty-clause-known

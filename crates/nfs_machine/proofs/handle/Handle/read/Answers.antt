@@ -1,7 +1,7 @@
 use Rattle.std.proofs.Common.{rules, arith, sym, ◌∙◌, ◌≡◌, length, w32}
 use Rattle.std.proofs.lemmas.Bool.{eqb-true}
 use Rattle.std.specs.Int.{from_be_bytes}
-use Rattle.nfs_machine.proofs.Handles.{handle_of-chunks}
+use Rattle.nfs_machine.proofs.HandleBytesLemmas.{handle_of-chunks}
 use Rattle.nfs_machine.specs.Handles.{handle_mark}
 use Rattle.nfs_machine.proofs.handle.Handle.read.Goals as goal
 

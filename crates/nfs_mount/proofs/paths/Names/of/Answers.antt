@@ -1,4 +1,4 @@
-use Rattle.nfs_mount.proofs.Parts.{length_parts}
+use Rattle.nfs_mount.proofs.PathPartLemmas.{length_parts}
 use Rattle.nfs_mount.proofs.paths.Names.of.Goals as goal
 
 pub returns-clause-count : goal.returns-clause-count

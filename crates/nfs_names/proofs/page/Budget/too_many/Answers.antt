@@ -1,5 +1,5 @@
 use Rattle.std.proofs.Common.{◌+◌, ◌/◌, false, ◌≡◌, min, ap, subst, sym}
-use Rattle.nfs_names.proofs.Paged.{many-full, many-names}
+use Rattle.nfs_names.proofs.FittingPageLemmas.{many-full, many-names}
 use Rattle.nfs_names.specs.Pages.{fit_of}
 use Rattle.nfs_names.proofs.page.Budget.too_many.Goals as goal
 

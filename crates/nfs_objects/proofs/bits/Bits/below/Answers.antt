@@ -1,5 +1,5 @@
 use Rattle.std.proofs.Common.{[], ◌∷◌}
-use Rattle.nfs_objects.proofs.BitSets.{at-place, below-has}
+use Rattle.nfs_objects.proofs.BitSetLemmas.{at-place, below-has}
 use Rattle.nfs_objects.specs.Bits.{IsWordBelow}
 use Rattle.nfs_objects.proofs.bits.Bits.below.Goals as goal
 

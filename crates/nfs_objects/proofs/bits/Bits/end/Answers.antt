@@ -1,5 +1,5 @@
 use Rattle.std.proofs.Common.{rules, arith, ◌-◌}
-use Rattle.nfs_objects.proofs.BitSets.{end-found}
+use Rattle.nfs_objects.proofs.BitSetLemmas.{end-found}
 use Rattle.nfs_objects.proofs.bits.Bits.end.Goals as goal
 
 pub returns-then-word-ne0-clause-end : goal.returns-then-word-ne0-clause-end

@@ -1,5 +1,5 @@
 use Rattle.std.proofs.Common.{rules}
-use Rattle.nfs_objects.proofs.BitSets.{with-has}
+use Rattle.nfs_objects.proofs.BitSetLemmas.{with-has}
 use Rattle.nfs_objects.proofs.bits.Bits.with.Goals as goal
 
 -- src/bits.rt:41:5

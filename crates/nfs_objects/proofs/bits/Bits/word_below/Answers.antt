@@ -1,5 +1,5 @@
 use Rattle.std.proofs.Common.{subst}
-use Rattle.nfs_objects.proofs.BitSets.{masked}
+use Rattle.nfs_objects.proofs.BitSetLemmas.{masked}
 use Rattle.nfs_objects.specs.Bits.{IsMask}
 use Rattle.nfs_objects.proofs.bits.Bits.word_below.Goals as goal
 

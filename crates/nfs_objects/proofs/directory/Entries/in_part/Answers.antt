@@ -2,7 +2,7 @@ use Rattle.std.proofs.Common.{ap, ◌∙◌, ◌==◌, filter, rules, ℕ, List}
 use Rattle.std.proofs.lemmas.Map.Entries.{entries_from_clone}
 use Rattle.indexmap.proofs.CallerLemmas.{filter-RetainsPairs}
 use Rattle.nfs_machine.specs.State.{Entry}
-use Rattle.nfs_objects.proofs.Listed.{kept-listed}
+use Rattle.nfs_objects.proofs.NameMapLemmas.{kept-listed}
 use Rattle.nfs_objects.specs.Directories.{part_among}
 use Rattle.nfs_objects.specs.Entries.{entries_of_pairs}
 use Rattle.nfs_objects.proofs.directory.Entries.in_part.Goals as goal

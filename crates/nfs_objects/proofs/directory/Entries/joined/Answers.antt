@@ -6,7 +6,7 @@ use Rattle.std.specs.List.{IsDistinct}
 use Rattle.std.specs.Map.{keys_of}
 use Rattle.std.specs.Prelude.{slice_get}
 use Rattle.indexmap.specs.IndexMap.{insert_all}
-use Rattle.nfs_objects.proofs.Listed.{entries-back, inserted-next, listed-apart, pairs-back, pairs_of, take-none}
+use Rattle.nfs_objects.proofs.NameMapLemmas.{entries-back, inserted-next, listed-apart, pairs-back, pairs_of, take-none}
 use Rattle.nfs_objects.proofs.directory.Entries.joined.Goals as goal
 use Rattle.nfs_objects.specs.Directories.{AreApart}
 use Rattle.nfs_objects.specs.Entries.{entries_of_pairs}

@@ -1,7 +1,7 @@
 use Rattle.std.proofs.Common.{◌≡◌, nat_eq, take}
 use Rattle.std.specs.Cmp.Lexicographic.{pointwise}
 use Rattle.indexmap.specs.IndexMap.{insert_all}
-use Rattle.nfs_objects.proofs.Listed.{pairs_of}
+use Rattle.nfs_objects.proofs.NameMapLemmas.{pairs_of}
 use Rattle.nfs_objects.proofs.directory.Entries.joined.Given as goal
 
 -- the names so far were put to those of the first

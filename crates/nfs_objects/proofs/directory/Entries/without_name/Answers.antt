@@ -3,7 +3,7 @@ use Rattle.std.proofs.lemmas.Map.Entries.{entries_from_clone}
 use Rattle.indexmap.proofs.CallerLemmas.{filter-RetainsPairs}
 use Rattle.nfs_machine.specs.Bytes.{same_bytes}
 use Rattle.nfs_machine.specs.RemoveSteps.{without}
-use Rattle.nfs_objects.proofs.Listed.{kept-listed}
+use Rattle.nfs_objects.proofs.NameMapLemmas.{kept-listed}
 use Rattle.nfs_objects.specs.Entries.{entries_of_pairs}
 use Rattle.nfs_objects.proofs.directory.Entries.without_name.Goals as goal
 

@@ -1,5 +1,5 @@
 use Rattle.std.proofs.Common.{sym, ap, ◌∙◌}
-use Rattle.nfs_objects.proofs.Seen.{written-none, written-or}
+use Rattle.nfs_objects.proofs.SeenLemmas.{written-none, written-or}
 use Rattle.nfs_objects.specs.Values.{DraftValue, shown_at}
 use Rattle.nfs_objects.proofs.draft.Draft.find.Goals as goal
 

@@ -1,6 +1,6 @@
 use Rattle.std.proofs.Common.{◌≡◌, arith, sym, ap, ◌∙◌, refl, List, [], ◌∷◌, slice_get, None, map}
 use Rattle.std.proofs.Common.{subst}
-use Rattle.nfs_objects.proofs.Drafted.{is-first}
+use Rattle.nfs_objects.proofs.DraftLemmas.{is-first}
 use Rattle.nfs_objects.specs.Asks.{IsFirst}
 use Rattle.nfs_objects.specs.Values.{DraftValue, modes_value, write_value}
 use Rattle.nfs_objects.proofs.draft.Draft.fresh.Goals as goal

@@ -1,5 +1,5 @@
 use Rattle.std.proofs.Common.{arith, ap, length, map, sym, subst, take}
-use Rattle.nfs_objects.proofs.Drafted.{are-first}
+use Rattle.nfs_objects.proofs.DraftLemmas.{are-first}
 use Rattle.nfs_objects.specs.Asks.{AreFirst}
 use Rattle.nfs_objects.specs.Values.{DraftValue, modes_value, write_value}
 use Rattle.nfs_objects.proofs.draft.Draft.fresh_all.Goals as goal

@@ -1,5 +1,5 @@
 use Rattle.std.proofs.Common.{IsSome, refl, sym, ap, ◌∙◌, subst}
-use Rattle.nfs_objects.proofs.Seen.{written-none, written-or}
+use Rattle.nfs_objects.proofs.SeenLemmas.{written-none, written-or}
 use Rattle.nfs_objects.specs.Values.{DraftValue, shown_at}
 use Rattle.nfs_objects.proofs.draft.Draft.lacked.Goals as goal
 

@@ -1,5 +1,5 @@
 use Rattle.std.proofs.Common.{sym, ap, ◌∙◌, is_some}
-use Rattle.nfs_objects.proofs.Seen.{known-stands}
+use Rattle.nfs_objects.proofs.SeenLemmas.{known-stands}
 use Rattle.nfs_objects.specs.Stands.{mounts_in, mounts_of}
 use Rattle.nfs_objects.specs.declared.address.Addr.TheVariants.{Mounts}
 use Rattle.nfs_objects.proofs.draft.Draft.mounts.Goals as goal

@@ -1,7 +1,7 @@
 use Rattle.std.proofs.Common.{sym, subst, ap, ◌∙◌, map, option_map, IsSome}
 use Rattle.std.proofs.lemmas.List.{map-append}
 use Rattle.std.specs.Arc.{arc_value}
-use Rattle.nfs_objects.proofs.Drafted.{drafted}
+use Rattle.nfs_objects.proofs.DraftLemmas.{drafted}
 use Rattle.nfs_objects.specs.Drafts.{MayWrite}
 use Rattle.nfs_objects.specs.Modes.{held_mode}
 use Rattle.nfs_objects.specs.Values.{DraftValue, known_at, modes_value, write_value}

@@ -1,5 +1,5 @@
 use Rattle.std.proofs.Common.{[]}
-use Rattle.nfs_objects.proofs.Addressed.{is_beside_below}
+use Rattle.nfs_objects.proofs.PagePartAddressLemmas.{is_beside_below}
 use Rattle.nfs_objects.proofs.entry_map.EntryMap.addresses.Given as goal
 use Rattle.nfs_objects.specs.Directories.{HasBesides}
 

@@ -1,5 +1,5 @@
 use Rattle.std.proofs.Common.{◌==◌, ◌∙◌, ap}
-use Rattle.nfs_objects.proofs.Parting.{none-some}
+use Rattle.nfs_objects.proofs.PagesAndPartsLemmas.{none-some}
 use Rattle.nfs_objects.proofs.entry_page.EntryPage.is_empty.Goals as goal
 
 pub returns : goal.returns

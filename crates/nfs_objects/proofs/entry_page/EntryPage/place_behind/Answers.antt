@@ -4,7 +4,7 @@ use Rattle.std.proofs.lemmas.List.Sorted.{IsPartitionedBy-leb}
 use Rattle.nfs_machine.specs.Pages.{behind}
 use Rattle.nfs_machine.specs.State.{Entry}
 use Rattle.nfs_machine.specs.WellFormed.{CookiesRise}
-use Rattle.nfs_objects.proofs.Rising.{cookie_of, drop-behind, rise-up}
+use Rattle.nfs_objects.proofs.RisingEntryLemmas.{cookie_of, drop-behind, rise-up}
 use Rattle.nfs_objects.proofs.entry_page.EntryPage.place_behind.Goals as goal
 
 pub returns-clause-behind : goal.returns-clause-behind

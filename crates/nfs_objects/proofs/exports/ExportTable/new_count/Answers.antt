@@ -3,8 +3,8 @@ use Rattle.std.specs.Borrow.{Bor}
 use Rattle.std.specs.Option.{option_copied}
 use Rattle.nfs_machine.specs.Exports.{export_value}
 use Rattle.nfs_machine.specs.Replacing.{is_new}
-use Rattle.nfs_objects.proofs.ExportTables.{item-at}
-use Rattle.nfs_objects.proofs.Renumbering.{none-new, one-new}
+use Rattle.nfs_objects.proofs.ExportTableLemmas.{item-at}
+use Rattle.nfs_objects.proofs.RenumberLemmas.{none-new, one-new}
 use Rattle.nfs_objects.proofs.exports.ExportTable.new_count.Goals as goal
 use Rattle.nfs_objects.proofs.exports.ExportTable.new_count.Goals.{then-is_none, else-is_none}
 

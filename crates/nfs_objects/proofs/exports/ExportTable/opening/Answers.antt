@@ -1,7 +1,7 @@
 use Rattle.std.proofs.Common.{◌≡◌, ap, arith, ◌+◌, length, sym, ◌∙◌}
 use Rattle.std.proofs.lemmas.List.{length-map}
 use Rattle.nfs_machine.specs.Exports.{export_value}
-use Rattle.nfs_objects.proofs.ExportTables.{all-numbered-table, item-at, one-more}
+use Rattle.nfs_objects.proofs.ExportTableLemmas.{all-numbered-table, item-at, one-more}
 use Rattle.nfs_objects.proofs.exports.ExportTable.opening.Goals as goal
 
 pub loop-index-preserved : goal.loop-index-preserved

@@ -1,9 +1,9 @@
 use Rattle.std.proofs.Common.{◌≡◌, ℕ, ◌+◌, ◌≤◌, ◌∙◌, List, length, max, sym, ap, subst, arith}
 use Rattle.std.proofs.lemmas.List.{length-map}
 use Rattle.nfs_machine.specs.Exports.{ExportValue, LivingExport, export_value}
-use Rattle.nfs_objects.proofs.ExportTables.{item-at}
-use Rattle.nfs_objects.proofs.Renumbering.{IsSoFar, all-counted, all-listed, new-below, new-fits, one-more}
-use Rattle.nfs_objects.proofs.Renumbering.{replaced-table}
+use Rattle.nfs_objects.proofs.ExportTableLemmas.{item-at}
+use Rattle.nfs_objects.proofs.RenumberLemmas.{IsSoFar, all-counted, all-listed, new-below, new-fits, one-more}
+use Rattle.nfs_objects.proofs.RenumberLemmas.{replaced-table}
 use Rattle.nfs_objects.specs.ExportTables.{ExportTableValue, IsExportTable}
 use Rattle.nfs_objects.specs.Roots.{root_choice}
 use Rattle.nfs_objects.specs.declared.view.Reserved.{Reserved}

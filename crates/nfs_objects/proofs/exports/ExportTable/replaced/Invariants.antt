@@ -1,4 +1,4 @@
-use Rattle.nfs_objects.proofs.Renumbering.{IsSoFar}
+use Rattle.nfs_objects.proofs.RenumberLemmas.{IsSoFar}
 use Rattle.nfs_objects.specs.Roots.{root_choice}
 use Rattle.nfs_objects.proofs.exports.ExportTable.replaced.Given as goal
 

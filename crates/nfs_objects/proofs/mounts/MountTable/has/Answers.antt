@@ -4,7 +4,7 @@ use Rattle.std.specs.List.{list_any}
 use Rattle.std.specs.declared.sync.Arc.{Arc}
 use Rattle.std.proofs.lemmas.Iterator.{YieldsList-from_slice}
 use Rattle.std.proofs.lemmas.Iterator.Search.{any_from_yields_List}
-use Rattle.nfs_objects.proofs.MountTables.{any-joined}
+use Rattle.nfs_objects.proofs.MountTableLemmas.{any-joined}
 use Rattle.nfs_objects.proofs.mounts.MountTable.has.Goals as goal
 use Rattle.nfs_objects.specs.Leaving.{leaves}
 use Rattle.side_wire.specs.declared.mount.lists.MountBody.{MountBody}

@@ -1,6 +1,6 @@
 use Rattle.std.proofs.Common.{map, subst, sym}
 use Rattle.std.specs.Arc.{arc_value}
-use Rattle.nfs_objects.proofs.MountTables.{held-none}
+use Rattle.nfs_objects.proofs.MountTableLemmas.{held-none}
 use Rattle.nfs_objects.proofs.mounts.MountTable.new.Goals as goal
 use Rattle.nfs_objects.specs.MountTables.{AreInPieces}
 

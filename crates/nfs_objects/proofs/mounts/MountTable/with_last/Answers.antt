@@ -1,7 +1,7 @@
 use Rattle.std.proofs.Common.{◌≡◌, ◌<◌, [], ◌∷◌, ◌++◌, ap, arith, length, map, subst, sym, ◌∙◌}
 use Rattle.std.specs.Arc.{arc_value}
 use Rattle.nfs_machine.specs.MountSteps.{is_mounted}
-use Rattle.nfs_objects.proofs.MountTables.{more-apart, more-held}
+use Rattle.nfs_objects.proofs.MountTableLemmas.{more-apart, more-held}
 use Rattle.nfs_objects.proofs.mounts.MountTable.with_last.Goals as goal
 use Rattle.nfs_objects.specs.MountTables.{AreDistinct, ArePacked, joined}
 

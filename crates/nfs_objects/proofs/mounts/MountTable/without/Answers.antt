@@ -1,7 +1,7 @@
 use Rattle.std.proofs.Common.{List, Global, ◌<◌, length, map, not, sym, ap, subst, arith}
 use Rattle.std.specs.Arc.{arc_value}
 use Rattle.std.specs.declared.sync.Arc.{Arc}
-use Rattle.nfs_objects.proofs.MountTables.{sifted-all, sifted-apart, sifted-pieces, sifted-room}
+use Rattle.nfs_objects.proofs.MountTableLemmas.{sifted-all, sifted-apart, sifted-pieces, sifted-room}
 use Rattle.nfs_objects.proofs.mounts.MountTable.without.Goals as goal
 use Rattle.nfs_objects.specs.Leaving.{leaves}
 use Rattle.nfs_objects.specs.MountTables.{AreDistinct, AreInPieces, is_same, joined}

@@ -1,7 +1,7 @@
 -- Of the pieces seen so far those mounts are kept that stay.
 use Rattle.std.proofs.Common.{map, not, take}
 use Rattle.std.specs.Arc.{arc_value}
-use Rattle.nfs_objects.proofs.MountTables.{AreSifted}
+use Rattle.nfs_objects.proofs.MountTableLemmas.{AreSifted}
 use Rattle.nfs_objects.specs.Leaving.{leaves}
 use Rattle.nfs_objects.proofs.mounts.MountTable.without.Given as goal
 

@@ -1,6 +1,6 @@
 use Rattle.std.proofs.Common.{◌≡◌, ◌∷◌, ◌++◌, ap, drop, map, subst, sym, ◌∙◌}
 use Rattle.std.specs.Arc.{arc_value}
-use Rattle.nfs_objects.proofs.MountTables.{first-held, others-apart}
+use Rattle.nfs_objects.proofs.MountTableLemmas.{first-held, others-apart}
 use Rattle.nfs_objects.proofs.mounts.MountTable.without_first.Goals as goal
 use Rattle.nfs_objects.specs.MountTables.{AreDistinct, AreInPieces, ArePacked, joined}
 

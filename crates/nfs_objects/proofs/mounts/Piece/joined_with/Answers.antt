@@ -1,6 +1,6 @@
 use Rattle.std.proofs.Common.{◌∙◌}
 use Rattle.std.specs.List.{each_same}
-use Rattle.nfs_objects.proofs.MountTables.{joined-behind}
+use Rattle.nfs_objects.proofs.MountTableLemmas.{joined-behind}
 use Rattle.nfs_objects.proofs.mounts.Piece.joined_with.Goals as goal
 
 pub returns : goal.returns

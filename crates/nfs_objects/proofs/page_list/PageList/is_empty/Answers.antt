@@ -1,5 +1,5 @@
 use Rattle.std.proofs.Common.{◌==◌, ◌∙◌, ap, length}
-use Rattle.nfs_objects.proofs.PageRuns.{some-page}
+use Rattle.nfs_objects.proofs.PageRunLemmas.{some-page}
 use Rattle.nfs_objects.proofs.page_list.PageList.is_empty.Goals as goal
 
 pub returns : goal.returns

@@ -1,5 +1,5 @@
 use Rattle.std.proofs.Common.{arith, suc, subst, sym}
-use Rattle.nfs_objects.proofs.PageRuns.{none-past}
+use Rattle.nfs_objects.proofs.PageRunLemmas.{none-past}
 use Rattle.nfs_objects.proofs.page_list.PageList.next_behind.Goals as goal
 use Rattle.nfs_objects.specs.PageRuns.{IsNextPage, RunsRise}
 

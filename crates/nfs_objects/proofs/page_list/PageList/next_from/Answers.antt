@@ -1,5 +1,5 @@
 use Rattle.std.proofs.Common.{◌≡◌, ◌<◌, ◌≤◌, get_or, length, subst, sym}
-use Rattle.nfs_objects.proofs.PageRuns.{next-in, no-next}
+use Rattle.nfs_objects.proofs.PageRunLemmas.{next-in, no-next}
 use Rattle.nfs_objects.proofs.page_list.PageList.next_from.Goals as goal
 use Rattle.nfs_objects.specs.PageRuns.{IsNextPage}
 

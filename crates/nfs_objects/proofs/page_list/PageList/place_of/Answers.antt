@@ -1,7 +1,7 @@
 use Rattle.std.proofs.Common.{drop, ltb, rules, subst, sym, take}
 use Rattle.std.proofs.lemmas.Fn.{always_returns_same}
 use Rattle.std.proofs.lemmas.List.Sorted.{IsPartitionedBy-ltb}
-use Rattle.nfs_objects.proofs.PageRuns.{EndBefore, Reach, ends-rise, fronts-end, others-reach}
+use Rattle.nfs_objects.proofs.PageRunLemmas.{EndBefore, Reach, ends-rise, fronts-end, others-reach}
 use Rattle.nfs_objects.proofs.page_list.PageList.place_of.Goals as goal
 use Rattle.nfs_objects.specs.PageRuns.{RunsRise}
 use Rattle.nfs_objects.specs.declared.page_list.PageRun.{PageRun}

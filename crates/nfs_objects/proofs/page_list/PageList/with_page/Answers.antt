@@ -1,6 +1,6 @@
 use Rattle.std.proofs.Common.{◌≡◌, ◌==◌, ◌||◌, ◌++◌, ℕ, arith, drop, false, rules, subst, sym, take}
 use Rattle.std.proofs.lemmas.Grind.{common_steps}
-use Rattle.nfs_objects.proofs.PageRuns.{page-added}
+use Rattle.nfs_objects.proofs.PageRunLemmas.{page-added}
 use Rattle.nfs_objects.proofs.page_list.PageList.with_page.Goals as goal
 use Rattle.nfs_objects.specs.PageRuns.{IsWithLast, RunsRise, lists}
 

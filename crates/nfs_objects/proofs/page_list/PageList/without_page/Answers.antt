@@ -1,7 +1,7 @@
 use Rattle.std.proofs.Common.{◌≡◌, ◌∙◌, ◌==◌, ◌&&◌, ◌+◌, ◌++◌, ◌<◌, ◌≤◌, ℕ, Err, IfOk, MatchResult, Ok, Result, ap}
 use Rattle.std.proofs.Common.{arith, drop, false, get_or, length, not, subst, sym, take}
 use Rattle.std.proofs.lemmas.Grind.{common_steps}
-use Rattle.nfs_objects.proofs.PageRuns.{before-run, no-next, not-there, page-left, run-has, run-reaches}
+use Rattle.nfs_objects.proofs.PageRunLemmas.{before-run, no-next, not-there, page-left, run-has, run-reaches}
 use Rattle.nfs_objects.proofs.page_list.PageList.without_page.Goals as goal
 use Rattle.nfs_objects.specs.PageRuns.{RunsRise, lists, rest_of}
 

@@ -1,5 +1,5 @@
 use Rattle.std.proofs.Common.{◌<◌, [], ◌∷◌, arith, subst, sym}
-use Rattle.nfs_objects.proofs.Seen.{view-more}
+use Rattle.nfs_objects.proofs.SeenLemmas.{view-more}
 use Rattle.nfs_objects.specs.Fits.{IsView}
 use Rattle.nfs_objects.specs.Rooms.{RoomyValue}
 use Rattle.nfs_objects.specs.Values.{seen_of}

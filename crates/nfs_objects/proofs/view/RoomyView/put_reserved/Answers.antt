@@ -1,6 +1,6 @@
 use Rattle.std.proofs.Common.{◌≡◌, ◌+◌, ◌<◌, [], ◌∷◌, None, length, ap, arith}
 use Rattle.std.proofs.Common.{length-append, subst, sym, ◌∙◌}
-use Rattle.nfs_objects.proofs.Seen.{view-last}
+use Rattle.nfs_objects.proofs.SeenLemmas.{view-last}
 use Rattle.nfs_objects.specs.Fits.{IsView}
 use Rattle.nfs_objects.specs.Rooms.{RoomyValue}
 use Rattle.nfs_objects.specs.Values.{ViewValue, seen_at}

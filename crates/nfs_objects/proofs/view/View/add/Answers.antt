@@ -1,5 +1,5 @@
 use Rattle.std.proofs.Common.{◌++◌, [], ◌∷◌, sym, ap, ◌∙◌, subst}
-use Rattle.nfs_objects.proofs.Seen.{view-more}
+use Rattle.nfs_objects.proofs.SeenLemmas.{view-more}
 use Rattle.nfs_objects.specs.Fits.{IsView}
 use Rattle.nfs_objects.specs.Values.{Seen, seen_of}
 use Rattle.nfs_objects.proofs.view.View.add.Goals as goal

@@ -1,5 +1,5 @@
 use Rattle.std.proofs.Common.{◌≡◌, ◌++◌, [], ◌∷◌, None, sym, ap, ◌∙◌, subst}
-use Rattle.nfs_objects.proofs.Seen.{view-last}
+use Rattle.nfs_objects.proofs.SeenLemmas.{view-last}
 use Rattle.nfs_objects.specs.Fits.{IsView, vacant}
 use Rattle.nfs_objects.specs.Values.{ViewValue, seen_at}
 use Rattle.nfs_objects.specs.declared.address.Addr.TheVariants.{Inode}

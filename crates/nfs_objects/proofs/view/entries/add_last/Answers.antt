@@ -1,4 +1,4 @@
-use Rattle.nfs_objects.proofs.Looked.{added-last, so-ok}
+use Rattle.nfs_objects.proofs.ViewLookupLemmas.{added-last, so-ok}
 use Rattle.nfs_objects.proofs.view.entries.add_last.Goals as goal
 
 pub returns-clause-entries : goal.returns-clause-entries

@@ -4,7 +4,7 @@ use Rattle.nfs_objects.specs.Values.{write_value}
 use Rattle.nfs_objects.specs.declared.change.Write.{Write}
 use Rattle.nfs_engine.specs.Book.{store_in}
 use Rattle.nfs_stamps.specs.Marking.{Writes}
-use Rattle.nfs_pool.proofs.Marked.{makes-store}
+use Rattle.nfs_pool.proofs.MarkedWritesLemmas.{makes-store}
 use Rattle.nfs_pool.proofs.desk.Desk.commit.Goals as goal
 
 pub invariant_of-self-in-Ok-clause-marked : goal.invariant_of-self-in-Ok-clause-marked

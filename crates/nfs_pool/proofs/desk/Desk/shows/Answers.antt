@@ -1,7 +1,7 @@
 use Rattle.std.proofs.Common.{◌≡◌, ◌∙◌, Some, ap, refl, slice_get, sym}
 use Rattle.nfs_objects.specs.Values.{ViewValue, seen_of}
 use Rattle.nfs_engine.specs.Book.{store_in}
-use Rattle.nfs_pool.proofs.Shown.{shown-at}
+use Rattle.nfs_pool.proofs.ShownEntryLemmas.{shown-at}
 use Rattle.nfs_pool.proofs.desk.Desk.shows.Goals as goal
 
 pub returns-then-tell : goal.returns-then-tell

@@ -12,8 +12,8 @@ use Rattle.nfs_engine.specs.declared.journal.Receipt.{Receipt}
 use Rattle.nfs_engine.specs.declared.records.Era.{Era}
 use Rattle.nfs_pool.specs.Eras.{BeginSo, EndedValue, EndsEra, TellAll, told_in, told_value}
 use Rattle.nfs_pool.specs.declared.comparing.Told.{Told}
-use Rattle.nfs_pool.proofs.Numbered.{tell-all}
-use Rattle.nfs_pool.proofs.Ordered.{begin-sorted}
+use Rattle.nfs_pool.proofs.ReceiptNumberLemmas.{tell-all}
+use Rattle.nfs_pool.proofs.ReceiptOrderLemmas.{begin-sorted}
 use Rattle.nfs_pool.proofs.ended.Ended.compare.Goals as goal
 
 pub returns-clause-ends : goal.returns-clause-ends

@@ -1,4 +1,4 @@
-use Rattle.nfs_pool.proofs.Noting.{none-noted}
+use Rattle.nfs_pool.proofs.NotesBesideLemmas.{none-noted}
 use Rattle.nfs_pool.proofs.noted.NotedTxn.new.Goals as goal
 
 pub invariant_of-result : goal.invariant_of-result

@@ -1,4 +1,4 @@
-use Rattle.nfs_pool.proofs.Kept.{got_same, marks_stay}
+use Rattle.nfs_pool.proofs.MarksStayLemmas.{got_same, marks_stay}
 use Rattle.nfs_pool.proofs.placed.Placed.acquire.Goals as goal
 
 pub invariant_of-self : goal.invariant_of-self

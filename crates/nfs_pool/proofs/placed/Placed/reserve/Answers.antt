@@ -1,4 +1,4 @@
-use Rattle.nfs_pool.proofs.Kept.{marks_stay, tested_same}
+use Rattle.nfs_pool.proofs.MarksStayLemmas.{marks_stay, tested_same}
 use Rattle.nfs_pool.proofs.placed.Placed.reserve.Goals as goal
 
 pub invariant_of-self : goal.invariant_of-self

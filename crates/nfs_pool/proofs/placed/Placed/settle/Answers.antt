@@ -4,7 +4,7 @@ use Rattle.nfs_objects.specs.declared.address.Addr.{Addr}
 use Rattle.nfs_objects.specs.declared.change.Write.{Write}
 use Rattle.nfs_engine.specs.Shards.{slot_at}
 use Rattle.nfs_pool.specs.Marked.{MakesAmong}
-use Rattle.nfs_pool.proofs.Marked.{made-among}
+use Rattle.nfs_pool.proofs.MarkedWritesLemmas.{made-among}
 use Rattle.nfs_pool.proofs.placed.Placed.settle.Goals as goal
 
 pub invariant_of-self : goal.invariant_of-self

@@ -2,13 +2,13 @@ use Rattle.std.proofs.Common.{◌≡◌, map, ap, arith, set, subst, sym, refl, 
 use Rattle.std.proofs.lemmas.Result.{IfOk-weaker}
 use Rattle.std.specs.Cmp.{unsigned_Decides}
 use Rattle.nfs_objects.specs.Values.{write_value, written_at}
-use Rattle.nfs_engine.proofs.Making.{Writes, held_by_test, spent_places}
+use Rattle.nfs_engine.proofs.WritesInShardLemmas.{Writes, held_by_test, spent_places}
 use Rattle.nfs_engine.specs.Releases.{ReleaseValue}
 use Rattle.nfs_engine.specs.Settling.{AreHeldIn}
 use Rattle.nfs_engine.specs.Shards.{ShardValue, shard_of}
 use Rattle.nfs_pool.specs.Steps.{LetGoFrom, addresses}
-use Rattle.nfs_pool.proofs.LetGo.{none_let_go, one_let_go}
-use Rattle.nfs_pool.proofs.Marked.{spent-apart, stamps-of}
+use Rattle.nfs_pool.proofs.CommitLetsGoLemmas.{none_let_go, one_let_go}
+use Rattle.nfs_pool.proofs.MarkedWritesLemmas.{spent-apart, stamps-of}
 use Rattle.nfs_pool.proofs.pool.Pool.+commit_from.Goals as goal
 
 -- the call holds what it writes here, as it was asked in the same hold

@@ -1,4 +1,4 @@
-use Rattle.nfs_pool.proofs.Numbered.{if_missing-weaker}
+use Rattle.nfs_pool.proofs.ReceiptNumberLemmas.{if_missing-weaker}
 use Rattle.nfs_pool.proofs.pool.Pool.finish.Goals as goal
 
 pub returns-in-Err-clause-missing : goal.returns-in-Err-clause-missing

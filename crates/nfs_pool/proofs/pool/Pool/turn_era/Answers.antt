@@ -1,5 +1,5 @@
 use Rattle.std.proofs.lemmas.Result.{IfErr-weaker, IfOk-weaker}
-use Rattle.nfs_pool.proofs.Numbered.{if_missing-weaker}
+use Rattle.nfs_pool.proofs.ReceiptNumberLemmas.{if_missing-weaker}
 use Rattle.nfs_pool.proofs.pool.Pool.turn_era.Goals as goal
 
 pub returns-clause-era : goal.returns-clause-era

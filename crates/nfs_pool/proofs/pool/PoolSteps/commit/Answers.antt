@@ -2,7 +2,7 @@ use Rattle.std.proofs.Common.{◌≡◌, Option, sym, subst, arith}
 use Rattle.std.specs.Prelude.{IfSome}
 use Rattle.nfs_engine.specs.Engine.{ArePlaces}
 use Rattle.nfs_stamps.specs.Marking.{Writes}
-use Rattle.nfs_pool.proofs.LetGo.{all_let_go}
+use Rattle.nfs_pool.proofs.CommitLetsGoLemmas.{all_let_go}
 use Rattle.nfs_pool.proofs.pool.PoolSteps.commit.Goals as goal
 
 pub commit_from-requires : goal.commit_from-requires

@@ -1,5 +1,5 @@
 use Rattle.std.proofs.Common.{◌≡◌, ◌∙◌, List, length, ap, arith, sym, subst}
-use Rattle.nfs_replies.proofs.Alone.{alone_out}
+use Rattle.nfs_replies.proofs.OneOriginLemmas.{alone_out}
 use Rattle.nfs_replies.specs.Origins.{is_among}
 use Rattle.nfs_replies.specs.declared.origins.Origin.{Origin}
 use Rattle.nfs_replies.proofs.origins.Origins.take_out.Goals as goal

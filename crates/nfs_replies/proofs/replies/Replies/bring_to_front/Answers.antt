@@ -3,8 +3,8 @@ use Rattle.std.specs.Map.{lookup}
 use Rattle.std.specs.Option.{option_copied_mut}
 use Rattle.nfs_replies.specs.Kept.{same_bytes}
 use Rattle.nfs_replies.specs.Kept.ReplyEvent.{Repeated}
-use Rattle.nfs_replies.proofs.Caches.{promoted-left}
-use Rattle.nfs_replies.proofs.Hosts.{is-after-lent, is-after-unkept, listed-at, listed-lent, reply-at}
+use Rattle.nfs_replies.proofs.CacheLemmas.{promoted-left}
+use Rattle.nfs_replies.proofs.HostMapLemmas.{is-after-lent, is-after-unkept, listed-at, listed-lent, reply-at}
 use Rattle.nfs_replies.proofs.replies.Replies.bring_to_front.Goals as goal
 use Rattle.nfs_replies.proofs.replies.Replies.bring_to_front.Goals.{in-Some, in_default}
 

@@ -1,6 +1,6 @@
 use Rattle.std.proofs.Common.{sym, ap, ◌∙◌}
 use Rattle.std.specs.Option.{option_copied}
-use Rattle.nfs_replies.proofs.Hosts.{is-after-unkept}
+use Rattle.nfs_replies.proofs.HostMapLemmas.{is-after-unkept}
 use Rattle.nfs_replies.proofs.replies.Replies.find.Goals as goal
 
 -- where nothing is found, the order stays

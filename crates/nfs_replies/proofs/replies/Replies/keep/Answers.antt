@@ -4,8 +4,8 @@ use Rattle.std.specs.Option.{option_copied_mut}
 use Rattle.nfs_replies.specs.Kept.{ReplyEvent, reply_for, same_bytes}
 use Rattle.nfs_replies.specs.Kept.ReplyEvent.{Replied}
 use Rattle.nfs_replies.specs.Replies.{IsListed, RepliesValue, kept_of}
-use Rattle.nfs_replies.proofs.Caches.{IsLeftBy, put-left, reply_for-kept}
-use Rattle.nfs_replies.proofs.Hosts.{is-after-lent, listed-at, listed-lent, no-list-at, reply-at, same-lent}
+use Rattle.nfs_replies.proofs.CacheLemmas.{IsLeftBy, put-left, reply_for-kept}
+use Rattle.nfs_replies.proofs.HostMapLemmas.{is-after-lent, listed-at, listed-lent, no-list-at, reply-at, same-lent}
 use Rattle.nfs_replies.proofs.replies.Replies.keep.Goals as goal
 
 abbrev event : goal.Joined-put-2 → ReplyEvent

@@ -4,8 +4,8 @@ use Rattle.lru.specs.LruCache.{lru_cache}
 use Rattle.nfs_replies.specs.Kept.{ReplyEvent, same_bytes}
 use Rattle.nfs_replies.specs.Kept.ReplyEvent.{Replied}
 use Rattle.nfs_replies.specs.Replies.{RepliesValue, list_of}
-use Rattle.nfs_replies.proofs.Caches.{IsLeftBy, empty-listed, put-left}
-use Rattle.nfs_replies.proofs.Hosts.{is-after-new, listed-new, none-stands}
+use Rattle.nfs_replies.proofs.CacheLemmas.{IsLeftBy, empty-listed, put-left}
+use Rattle.nfs_replies.proofs.HostMapLemmas.{is-after-new, listed-new, none-stands}
 use Rattle.nfs_replies.proofs.replies.Replies.keep_first.Goals as goal
 
 abbrev event : goal.Joined-unwrap → ReplyEvent

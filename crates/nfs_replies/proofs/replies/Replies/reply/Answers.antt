@@ -1,6 +1,6 @@
 use Rattle.std.proofs.Common.{Some, None, sym, ap, ◌∙◌}
 use Rattle.std.specs.Option.{option_copied}
-use Rattle.nfs_replies.proofs.Hosts.{reply-at}
+use Rattle.nfs_replies.proofs.HostMapLemmas.{reply-at}
 use Rattle.nfs_replies.proofs.replies.Replies.reply.Goals as goal
 
 pub returns-in_err-get : goal.returns-in_err-get

@@ -1,6 +1,6 @@
 -- Three digits and one more fit a word.
 use Rattle.std.proofs.Common.{arith}
-use Rattle.nfs_rpc.proofs.Places.{number_fits}
+use Rattle.nfs_rpc.proofs.FragmentByteLemmas.{number_fits}
 use Rattle.nfs_rpc.proofs.marking.Place.behind_byte.Goals as goal
 
 pub overflow_mul-number : goal.overflow_mul-number

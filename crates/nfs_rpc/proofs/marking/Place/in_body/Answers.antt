@@ -1,6 +1,6 @@
 -- A body that misses nothing becomes an earlier fragment, and the next header begins.
 use Rattle.std.proofs.Common.{◌≡◌, arith}
-use Rattle.nfs_rpc.proofs.Places.{body_ends}
+use Rattle.nfs_rpc.proofs.FragmentByteLemmas.{body_ends}
 use Rattle.nfs_rpc.proofs.marking.Place.in_body.Goals as goal
 
 pub returns-else-last-clause-leads : goal.returns-else-last-clause-leads

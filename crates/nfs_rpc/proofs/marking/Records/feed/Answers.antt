@@ -1,6 +1,6 @@
 -- The piece goes on where the stream stood, and what is held then tells whether a header was too large.
 use Rattle.std.proofs.Common.{◌++◌, [], append-nil, sym}
-use Rattle.nfs_rpc.proofs.Places.{adds_none, holds_then, not_refused, refused, refused_leads}
+use Rattle.nfs_rpc.proofs.FragmentByteLemmas.{adds_none, holds_then, not_refused, refused, refused_leads}
 use Rattle.nfs_rpc.proofs.marking.Records.feed.Goals as goal
 use Rattle.nfs_rpc.proofs.marking.Records.feed.Goals.{then-is_refused-2, else-is_refused-2}
 

@@ -1,5 +1,5 @@
 -- The first of the queued records is the next of those given.
-use Rattle.nfs_rpc.proofs.Places.{gives_next}
+use Rattle.nfs_rpc.proofs.FragmentByteLemmas.{gives_next}
 use Rattle.nfs_rpc.proofs.marking.Records.next.Goals as goal
 
 pub returns-clause-gives : goal.returns-clause-gives

@@ -1,7 +1,7 @@
 use Rattle.std.proofs.Common.{◌≡◌, [], ◌∷◌, ◌++◌, rules, ap}
 use Rattle.nfs_engine.specs.Book.{BookValue}
-use Rattle.nfs_schedule.proofs.Kept.{kept_all}
-use Rattle.nfs_schedule.proofs.Runs.{era_runs, with_eras}
+use Rattle.nfs_schedule.proofs.WorldKeepsLemmas.{kept_all}
+use Rattle.nfs_schedule.proofs.EraRunLemmas.{era_runs, with_eras}
 use Rattle.nfs_schedule.specs.Worlds.{WorldValue}
 use Rattle.nfs_schedule.proofs.world.World.new_era.Goals as goal
 

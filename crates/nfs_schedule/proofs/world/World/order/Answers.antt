@@ -1,4 +1,4 @@
-use Rattle.nfs_schedule.proofs.Ordered.{orderly}
+use Rattle.nfs_schedule.proofs.WorldOrderLemmas.{orderly}
 use Rattle.nfs_schedule.proofs.world.World.order.Goals as goal
 
 pub returns : goal.returns

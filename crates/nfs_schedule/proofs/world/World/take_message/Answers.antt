@@ -1,6 +1,6 @@
 use Rattle.std.proofs.Common.{Some, rules}
-use Rattle.nfs_schedule.proofs.Kept.{kept_all}
-use Rattle.nfs_schedule.proofs.Runs.{message_living, message_runs}
+use Rattle.nfs_schedule.proofs.WorldKeepsLemmas.{kept_all}
+use Rattle.nfs_schedule.proofs.EraRunLemmas.{message_living, message_runs}
 use Rattle.nfs_schedule.proofs.world.World.take_message.Goals as goal
 
 pub returns-in_default-clause-runs : goal.returns-in_default-clause-runs

@@ -1,7 +1,7 @@
 use Rattle.std.proofs.Common.{◌<◌, ◌≤◌, ◌-◌, length, refl, arith}
 use Rattle.std.proofs.lemmas.Option.{slice_get_read}
-use Rattle.nfs_schedule.proofs.Kept.{kept_turn}
-use Rattle.nfs_schedule.proofs.Runs.{turn_runs}
+use Rattle.nfs_schedule.proofs.WorldKeepsLemmas.{kept_turn}
+use Rattle.nfs_schedule.proofs.EraRunLemmas.{turn_runs}
 use Rattle.nfs_schedule.proofs.world.World.turn.Goals as goal
 
 pub invariant_of-self : goal.invariant_of-self

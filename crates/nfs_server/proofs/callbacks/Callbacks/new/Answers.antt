@@ -1,6 +1,6 @@
 -- Each text is taken, or is the first that is no callback.
 use Rattle.std.proofs.Common.{arith, ◌≡◌, length}
-use Rattle.nfs_server.proofs.Called.{are-next, first-bad}
+use Rattle.nfs_server.proofs.CallbackTextLemmas.{are-next, first-bad}
 use Rattle.nfs_server.proofs.callbacks.Callbacks.new.Goals as goal
 
 pub returns-in-None-clause-error : goal.returns-in-None-clause-error

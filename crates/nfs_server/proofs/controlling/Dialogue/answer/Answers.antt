@@ -1,6 +1,6 @@
 -- What is sent is what the line is answered.
 use Rattle.std.proofs.Common.{ap}
-use Rattle.nfs_server.proofs.Answering.{sends_all, sends_part}
+use Rattle.nfs_server.proofs.AnsweredLinesLemmas.{sends_all, sends_part}
 use Rattle.nfs_server.specs.Control.{bytes_of}
 use Rattle.nfs_server.proofs.controlling.Dialogue.answer.Given as given
 use Rattle.nfs_server.proofs.controlling.Dialogue.answer.Goals as goal

@@ -1,5 +1,5 @@
 -- The input has ended behind a newline, or else what stands behind the last one is answered.
-use Rattle.nfs_server.proofs.Answering.{hears_all, hears_rest, hears_rest_broken}
+use Rattle.nfs_server.proofs.AnsweredLinesLemmas.{hears_all, hears_rest, hears_rest_broken}
 use Rattle.nfs_server.proofs.controlling.Dialogue.finish.Given as given
 use Rattle.nfs_server.proofs.controlling.Dialogue.finish.Goals as goal
 

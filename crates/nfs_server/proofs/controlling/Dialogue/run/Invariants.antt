@@ -1,5 +1,5 @@
 use Rattle.std.proofs.Common.{◌≡◌, true}
-use Rattle.nfs_server.proofs.Hearing.{Heard}
+use Rattle.nfs_server.proofs.HeardInputLemmas.{Heard}
 use Rattle.nfs_server.proofs.controlling.Dialogue.run.Given as goal
 
 abbrev pub invariant-pieces : goal.invariant-pieces

@@ -1,6 +1,6 @@
 use Rattle.std.proofs.Common.{rules, tests}
 use Rattle.std.proofs.lemmas.Result.{on_err_weaker, on_ok_weaker}
-use Rattle.nfs_server.proofs.Answering.{hears_broken, stands_answered, stands_more}
+use Rattle.nfs_server.proofs.AnsweredLinesLemmas.{hears_broken, stands_answered, stands_more}
 use Rattle.nfs_server.proofs.controlling.Dialogue.take_byte.Given as given
 use Rattle.nfs_server.proofs.controlling.Dialogue.take_byte.Goals as goal
 

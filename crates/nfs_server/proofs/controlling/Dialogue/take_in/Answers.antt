@@ -1,6 +1,6 @@
 use Rattle.std.proofs.Common.{◌≡◌, ◌∙◌, ◌++◌, ◌+◌, drop, subst, sym, take, take-append-drop}
 use Rattle.std.proofs.lemmas.List.{take_more}
-use Rattle.nfs_server.proofs.Answering.{on_err, one_more_byte}
+use Rattle.nfs_server.proofs.AnsweredLinesLemmas.{on_err, one_more_byte}
 use Rattle.nfs_server.specs.Control.{Hears, Stands}
 use Rattle.nfs_server.specs.declared.controlling.Ended.TheVariants.{Write}
 use Rattle.nfs_server.proofs.controlling.Dialogue.take_in.Given as given

@@ -1,6 +1,6 @@
 -- Bytes of a fragment are taken at once.
 use Rattle.std.proofs.Common.{arith}
-use Rattle.nfs_server.proofs.Fragments.{steps_body}
+use Rattle.nfs_server.proofs.FragmentPieceLemmas.{steps_body}
 use Rattle.nfs_server.proofs.marks.Stage.step.Goals as goal
 
 pub returns-in-Body : goal.returns-in-Body

@@ -2,7 +2,7 @@
 use denote.Param.{copied, param}
 use denote.Param.Send.{sendable}
 use Rattle.std.proofs.Crossing.{crosses}
-use Rattle.nfs_server.proofs.Crossing.{reader_send}
+use Rattle.nfs_server.proofs.CrossingLemmas.{reader_send}
 use Rattle.nfs_server.proofs.network.attendance.Attendance.TheSendSync as attendance
 use Rattle.nfs_server.proofs.network.listening.start.Goals as goal
 

@@ -4,7 +4,7 @@ use Rattle.std.proofs.lemmas.Result.{IfOk-weaker}
 use Rattle.nfs_xdr.specs.Laws.{IsBytes}
 use Rattle.nfs_xdr.specs.Reading.{read}
 use Rattle.nfs_server.specs.CalledBack.{reply_header}
-use Rattle.nfs_server.proofs.Replied.{answer-found, done-header, none-undone, none-unread, none-without}
+use Rattle.nfs_server.proofs.GrantedAnswerLemmas.{answer-found, done-header, none-undone, none-unread, none-without}
 use Rattle.nfs_server.proofs.network.messages.granted_result.Goals as goal
 
 pub returns-in_err-header-clause-garbage : goal.returns-in_err-header-clause-garbage

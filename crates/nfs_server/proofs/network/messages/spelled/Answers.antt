@@ -1,4 +1,4 @@
-use Rattle.nfs_server.proofs.Sizes.{marked-size}
+use Rattle.nfs_server.proofs.MessageSizes.{marked-size}
 use Rattle.nfs_server.proofs.network.messages.spelled.Goals as goal
 
 pub finish_record-requires-clause-size : goal.finish_record-requires-clause-size

@@ -1,8 +1,8 @@
 use Rattle.std.proofs.Common.{◌≡◌, ◌+◌, [], ◌∷◌, ◌++◌, Some, map, slice_get, sym, ◌∙◌, ap, subst}
 use Rattle.nfs_objects.specs.Values.{write_value}
-use Rattle.nfs_stamps.proofs.Adding.{adds_moves, found_adds}
+use Rattle.nfs_stamps.proofs.LogAddLemmas.{adds_moves, found_adds}
 use Rattle.logbook.specs.Pages.{step}
-use Rattle.nfs_stamps.proofs.Prefixes.{get_last}
+use Rattle.nfs_stamps.proofs.PrefixLemmas.{get_last}
 use Rattle.nfs_stamps.proofs.log.Log.try_number.Goals as goal
 
 pub compare_exchange-found-requires : goal.compare_exchange-found-requires

@@ -1,5 +1,5 @@
 use Rattle.std.proofs.Common.{◌≡◌, false, sym, ◌∙◌, ap}
-use Rattle.nfs_stamps.proofs.Looked.{stamp_lookup}
+use Rattle.nfs_stamps.proofs.MarkLookupLemmas.{stamp_lookup}
 use Rattle.nfs_stamps.specs.Marking.{is_large, stamp_at}
 use Rattle.nfs_stamps.proofs.marks.Marks.find.Goals as goal
 

@@ -1,5 +1,5 @@
 use Rattle.std.proofs.Common.{◌≡◌, true, false, None, Some, option_copied, sym, ◌∙◌, ap}
-use Rattle.nfs_stamps.proofs.Looked.{large_kept, marked_as, marked_not, put_large, put_marked}
+use Rattle.nfs_stamps.proofs.MarkLookupLemmas.{large_kept, marked_as, marked_not, put_large, put_marked}
 use Rattle.nfs_stamps.specs.Marking.{is_large, stamp_at}
 use Rattle.nfs_stamps.proofs.marks.Marks.set.Goals as goal
 

@@ -1,5 +1,5 @@
 use Rattle.std.proofs.Common.{◌≡◌, [], ◌∷◌, ◌++◌, length, sym, ◌∙◌, subst}
-use Rattle.nfs_stamps.proofs.Noted.{notes_next, notes_stay}
+use Rattle.nfs_stamps.proofs.NotesLemmas.{notes_next, notes_stay}
 use Rattle.nfs_stamps.specs.Marking.{AreNotes, NotesValue}
 use Rattle.nfs_stamps.proofs.notes.Notes.add.Goals as goal
 

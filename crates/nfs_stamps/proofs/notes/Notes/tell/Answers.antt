@@ -1,5 +1,5 @@
 use Rattle.std.proofs.Common.{sym, ◌∙◌, ap, option_copied}
-use Rattle.nfs_stamps.proofs.Noted.{told_stands}
+use Rattle.nfs_stamps.proofs.NotesLemmas.{told_stands}
 use Rattle.nfs_stamps.proofs.notes.Notes.tell.Goals as goal
 
 pub returns : goal.returns

@@ -1,7 +1,7 @@
 use Rattle.std.proofs.Common.{◌≡◌, [], sym, ◌∙◌, ap, subst, arith, slice_get}
 use Rattle.std.specs.Prelude.{IsSome, unwrap_or}
 use Rattle.std.proofs.lemmas.Bool.Decides.{nat_tests}
-use Rattle.nfs_stamps.proofs.Prefixes.{some_same}
+use Rattle.nfs_stamps.proofs.PrefixLemmas.{some_same}
 use Rattle.nfs_stamps.proofs.stamp.Stamp.agrees.Goals as goal
 
 pub returns : goal.returns

@@ -1,7 +1,7 @@
 use Rattle.std.proofs.Common.{inr, inl}
 use Rattle.std.proofs.lemmas.Result.{err_from_is_err_and}
 use Rattle.nfs_xdr.specs.Types.{Pair}
-use Rattle.nfs_xdr.proofs.Sharing.{HoldsBytes-opaque, HoldsBytes-second}
+use Rattle.nfs_xdr.proofs.SharedBytesLemmas.{HoldsBytes-opaque, HoldsBytes-second}
 use Rattle.nfs_wire.specs.Arguments.{diropargs3, nfspath3, unbounded}
 use Rattle.nfs_wire.specs.Attributes.{sattr3}
 use Rattle.nfs_wire.proofs.calls.names.read_symlink.Goals as goal

@@ -1,6 +1,6 @@
 use Rattle.std.proofs.Common.{◌∙◌, ◌++◌, ap, sym, arith, append_assoc, length, length-append, take}
 use Rattle.std.specs.List.{concat}
-use Rattle.nfs_xdr.proofs.InPieces.{next-fits, next-piece}
+use Rattle.nfs_xdr.proofs.BytesInPiecesLemmas.{next-fits, next-piece}
 use Rattle.nfs_xdr.proofs.pieces.Pieces.append_to.Goals as goal
 
 pub append-requires : goal.append-requires

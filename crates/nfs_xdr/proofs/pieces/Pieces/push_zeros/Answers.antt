@@ -1,7 +1,7 @@
 use Rattle.std.proofs.Common.{◌∙◌, ap, arith, length, length-append, sym, ℕ}
 use Rattle.std.specs.Prelude.{replicate}
 use Rattle.std.proofs.lemmas.List.{length-replicate, take-replicate}
-use Rattle.nfs_xdr.proofs.InPieces.{zeros-more}
+use Rattle.nfs_xdr.proofs.BytesInPiecesLemmas.{zeros-more}
 use Rattle.nfs_xdr.proofs.pieces.Pieces.push_zeros.Goals as goal
 
 pub push-requires : goal.push-requires

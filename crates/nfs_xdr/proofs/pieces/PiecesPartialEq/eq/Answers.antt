@@ -1,6 +1,6 @@
 use Rattle.std.proofs.Common.{◌∙◌, ap, arith, length}
 use Rattle.std.specs.List.{concat}
-use Rattle.nfs_xdr.proofs.InPieces.{same-pieces}
+use Rattle.nfs_xdr.proofs.BytesInPiecesLemmas.{same-pieces}
 use Rattle.nfs_xdr.proofs.pieces.PiecesPartialEq.eq.Goals as goal
 
 pub returns-then-self-other : goal.returns-then-self-other

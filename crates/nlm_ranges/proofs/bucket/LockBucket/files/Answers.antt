@@ -1,5 +1,5 @@
 use Rattle.std.proofs.Common.{subst}
-use Rattle.nlm_ranges.proofs.InParts.{parts-bucket}
+use Rattle.nlm_ranges.proofs.BucketPartsLemmas.{parts-bucket}
 use Rattle.nlm_ranges.proofs.bucket.LockBucket.files.Goals as goal
 use Rattle.nlm_ranges.specs.Buckets.{IsBucket}
 

@@ -1,7 +1,7 @@
 use Rattle.std.proofs.Common.{◌==◌, ap, ◌∙◌, rules, tests}
 use Rattle.std.proofs.lemmas.Iterator.{YieldsList-from_slice}
 use Rattle.std.proofs.lemmas.Iterator.Search.{find_from_yields_List}
-use Rattle.nlm_ranges.proofs.InParts.{found-at}
+use Rattle.nlm_ranges.proofs.BucketPartsLemmas.{found-at}
 use Rattle.nlm_ranges.proofs.bucket.LockBucket.find.Goals as goal
 use Rattle.nlm_ranges.specs.Buckets.{BucketValue, LockedValue, file_in}
 

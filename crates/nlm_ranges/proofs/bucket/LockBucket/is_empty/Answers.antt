@@ -1,5 +1,5 @@
 use Rattle.std.proofs.Common.{◌≡◌, ◌==◌, ◌&&◌, ap, length, rules, sym, true, ◌∙◌}
-use Rattle.nlm_ranges.proofs.InParts.{none-listed}
+use Rattle.nlm_ranges.proofs.BucketPartsLemmas.{none-listed}
 use Rattle.nlm_ranges.proofs.bucket.LockBucket.is_empty.Goals as goal
 use Rattle.nlm_ranges.specs.Buckets.{has_none}
 use Rattle.nlm_ranges.specs.Parts.{files_of}

@@ -1,5 +1,5 @@
 use Rattle.std.proofs.Common.{arith, subst, sym}
-use Rattle.nlm_ranges.proofs.InParts.{no-parts}
+use Rattle.nlm_ranges.proofs.BucketPartsLemmas.{no-parts}
 use Rattle.nlm_ranges.proofs.bucket.LockBucket.new.Goals as goal
 use Rattle.nlm_ranges.specs.Parts.{AreParts}
 

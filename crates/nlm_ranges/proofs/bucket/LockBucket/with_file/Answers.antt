@@ -1,5 +1,5 @@
 use Rattle.std.proofs.Common.{subst, sym}
-use Rattle.nlm_ranges.proofs.InParts.{are-put, put-in-parts, put-parts}
+use Rattle.nlm_ranges.proofs.BucketPartsLemmas.{are-put, put-in-parts, put-parts}
 use Rattle.nlm_ranges.proofs.bucket.LockBucket.with_file.Goals as goal
 use Rattle.nlm_ranges.specs.Buckets.{IsInserted}
 use Rattle.nlm_ranges.specs.Parts.{AreParts, files_of}

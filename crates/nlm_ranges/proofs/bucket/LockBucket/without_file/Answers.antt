@@ -1,5 +1,5 @@
 use Rattle.std.proofs.Common.{ap, subst, sym, ◌∙◌}
-use Rattle.nlm_ranges.proofs.InParts.{are-left, left-in-parts, left-parts}
+use Rattle.nlm_ranges.proofs.BucketPartsLemmas.{are-left, left-in-parts, left-parts}
 use Rattle.nlm_ranges.proofs.bucket.LockBucket.without_file.Goals as goal
 use Rattle.nlm_ranges.specs.Buckets.{without_file}
 use Rattle.nlm_ranges.specs.Parts.{AreParts, files_of}

@@ -2,7 +2,7 @@ use Rattle.std.proofs.Common.{◌++◌, ap, map, refl, subst, ◌∙◌}
 use Rattle.std.specs.Arc.{arc_value}
 use Rattle.std.specs.List.{AllByRecursion}
 use Rattle.nfs_machine.specs.OneFile.{IsHeldUp}
-use Rattle.nlm_ranges.proofs.Granted.{none-pending, settles-file, settles-nothing}
+use Rattle.nlm_ranges.proofs.GrantingLemmas.{none-pending, settles-file, settles-nothing}
 use Rattle.nlm_ranges.proofs.file.OneFile.settle.Goals as goal
 use Rattle.nlm_ranges.specs.Files.{FileValue}
 

@@ -1,5 +1,5 @@
 use Rattle.std.proofs.lemmas.Option.{IfSome_then}
-use Rattle.nlm_ranges.proofs.Widening.{precedes}
+use Rattle.nlm_ranges.proofs.WideningLemmas.{precedes}
 use Rattle.nlm_ranges.proofs.list.LockList.before.Goals as goal
 
 pub returns : goal.returns

@@ -1,5 +1,5 @@
 use Rattle.std.proofs.lemmas.Option.{IfSome_then}
-use Rattle.nlm_ranges.proofs.Widening.{goes-on}
+use Rattle.nlm_ranges.proofs.WideningLemmas.{goes-on}
 use Rattle.nlm_ranges.proofs.list.LockList.behind.Goals as goal
 
 pub returns : goal.returns

@@ -1,6 +1,6 @@
 use Rattle.std.proofs.Common.{ap, ◌∙◌}
 use Rattle.std.specs.List.{list_any}
-use Rattle.nlm_ranges.proofs.Pieces.{any-joined}
+use Rattle.nlm_ranges.proofs.PieceLemmas.{any-joined}
 use Rattle.nlm_ranges.proofs.list.LockList.is_touched.Goals as goal
 use Rattle.nlm_ranges.specs.Cutting.{is_touched, joined}
 

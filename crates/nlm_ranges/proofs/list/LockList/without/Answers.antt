@@ -1,6 +1,6 @@
 use Rattle.std.proofs.Common.{◌+◌, ap, subst, sym, ◌∙◌}
 use Rattle.std.specs.List.{flat_map}
-use Rattle.nlm_ranges.proofs.Parted.{given-anew-as, given-cut}
+use Rattle.nlm_ranges.proofs.CutLocksLemmas.{given-anew-as, given-cut}
 use Rattle.nlm_ranges.proofs.list.LockList.without.Goals as goal
 use Rattle.nlm_ranges.specs.Cutting.{cut, joined}
 use Rattle.nlm_ranges.specs.Held.{IsGivenBack}

@@ -1,6 +1,6 @@
 use Rattle.std.proofs.Common.{◌++◌, None, subst}
 use Rattle.nfs_machine.specs.Locks.{HasModes, modes_with}
-use Rattle.nlm_ranges.proofs.Tables.{cleared-as}
+use Rattle.nlm_ranges.proofs.LockTableLemmas.{cleared-as}
 use Rattle.nlm_ranges.proofs.locks.LockTable.clear.Goals as goal
 
 pub invariant_of-result : goal.invariant_of-result

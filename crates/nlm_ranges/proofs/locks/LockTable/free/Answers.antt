@@ -1,6 +1,6 @@
 use Rattle.std.proofs.Common.{◌++◌, subst}
 use Rattle.nfs_machine.specs.Locks.{HasModes, modes_without}
-use Rattle.nlm_ranges.proofs.Tables.{freed-as}
+use Rattle.nlm_ranges.proofs.LockTableLemmas.{freed-as}
 use Rattle.nlm_ranges.proofs.locks.LockTable.free.Goals as goal
 
 pub invariant_of-result : goal.invariant_of-result

@@ -1,5 +1,5 @@
 use Rattle.std.proofs.Common.{subst, sym, ◌∙◌}
-use Rattle.nlm_ranges.proofs.Tables.{none-alone}
+use Rattle.nlm_ranges.proofs.LockTableLemmas.{none-alone}
 use Rattle.nlm_ranges.proofs.locks.LockTable.has_exclusive.Goals as goal
 use Rattle.nlm_ranges.specs.Held.{HasNoneAlone}
 

@@ -2,7 +2,7 @@ use Rattle.std.proofs.Common.{◌≡◌, ◌==◌, List, ap, false, length, rule
 use Rattle.nfs_machine.specs.Locks.{AreListed}
 use Rattle.nfs_machine.specs.LocksFormed.{NoLocksConflict}
 use Rattle.nfs_machine.specs.State.{Lock}
-use Rattle.nlm_ranges.proofs.Tables.{none-first, some-first}
+use Rattle.nlm_ranges.proofs.LockTableLemmas.{none-first, some-first}
 use Rattle.nlm_ranges.proofs.locks.LockTable.is_empty.Goals as goal
 
 pub returns-then-not-is_empty : goal.returns-then-not-is_empty

@@ -1,5 +1,5 @@
 use Rattle.std.proofs.Common.{[], subst, sym}
-use Rattle.nlm_ranges.proofs.Tables.{none-held}
+use Rattle.nlm_ranges.proofs.LockTableLemmas.{none-held}
 use Rattle.nlm_ranges.proofs.locks.LockTable.new.Goals as goal
 use Rattle.nlm_ranges.specs.Held.{AreHeld}
 

@@ -1,6 +1,6 @@
 use Rattle.std.proofs.Common.{◌++◌, Some, subst, sym}
 use Rattle.nfs_machine.specs.Locks.{Conflicts, HasModes, modes_with}
-use Rattle.nlm_ranges.proofs.Tables.{now-exclusive, now-shared}
+use Rattle.nlm_ranges.proofs.LockTableLemmas.{now-exclusive, now-shared}
 use Rattle.nlm_ranges.proofs.locks.LockTable.set.Goals as goal
 use Rattle.nlm_ranges.specs.Held.{IsWidened}
 

@@ -2,7 +2,7 @@ use Rattle.std.proofs.Common.{◌≡◌, ◌++◌, Some, false, rules, subst}
 use Rattle.std.proofs.lemmas.Option.{IfSome_then}
 use Rattle.std.proofs.lemmas.List.Elements.{Contains-append_left, Contains-append_right}
 use Rattle.nfs_machine.specs.Locks.{Conflicts}
-use Rattle.nlm_ranges.proofs.Tables.{in-way, none-for-shared, none-in-way, none-then}
+use Rattle.nlm_ranges.proofs.LockTableLemmas.{in-way, none-for-shared, none-in-way, none-then}
 use Rattle.nlm_ranges.proofs.locks.LockTable.test.Goals as goal
 use Rattle.nlm_ranges.specs.Held.{IsInTheWay}
 

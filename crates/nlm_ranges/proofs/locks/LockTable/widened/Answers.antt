@@ -1,5 +1,5 @@
 use Rattle.std.proofs.Common.{Some, arith, subst, sym}
-use Rattle.nlm_ranges.proofs.Tables.{widened-from}
+use Rattle.nlm_ranges.proofs.LockTableLemmas.{widened-from}
 use Rattle.nlm_ranges.proofs.locks.LockTable.widened.Goals as goal
 use Rattle.nlm_ranges.specs.Held.{IsWidened}
 

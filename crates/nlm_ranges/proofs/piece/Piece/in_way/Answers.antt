@@ -2,7 +2,7 @@ use Rattle.std.proofs.Common.{◌≡◌, ◌&&◌, Some, ap, false, nat_le, rule
 use Rattle.std.specs.Arc.{arc_value}
 use Rattle.std.specs.List.{list_any}
 use Rattle.nfs_machine.specs.LockLaws.{stands_in_way}
-use Rattle.nlm_ranges.proofs.Pieces.{none-stands}
+use Rattle.nlm_ranges.proofs.PieceLemmas.{none-stands}
 use Rattle.nlm_ranges.proofs.piece.Piece.in_way.Goals as goal
 
 pub returns-then-not-meets-clause-none : goal.returns-then-not-meets-clause-none

@@ -1,7 +1,7 @@
 use Rattle.std.proofs.Common.{◌≡◌, ◌&&◌, ap, false, nat_le, rules, sym, ◌∙◌}
 use Rattle.std.specs.Arc.{arc_value}
 use Rattle.std.specs.List.{list_any}
-use Rattle.nlm_ranges.proofs.Pieces.{none-touched}
+use Rattle.nlm_ranges.proofs.PieceLemmas.{none-touched}
 use Rattle.nlm_ranges.proofs.piece.Piece.is_touched.Goals as goal
 use Rattle.nlm_ranges.specs.Cutting.{is_touched}
 

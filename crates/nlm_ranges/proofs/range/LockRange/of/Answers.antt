@@ -1,5 +1,5 @@
 use Rattle.std.proofs.Common.{◌+◌, ◌≤◌, ◌^◌, arith, refl}
-use Rattle.nlm_ranges.proofs.Asked.{fits-below, fitting, some-range, whole-range}
+use Rattle.nlm_ranges.proofs.CallRangeLemmas.{fits-below, fitting, some-range, whole-range}
 use Rattle.nlm_ranges.proofs.range.LockRange.of.Goals as goal
 
 pub returns-then-length-eq0 : goal.returns-then-length-eq0

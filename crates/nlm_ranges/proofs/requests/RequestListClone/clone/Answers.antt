@@ -1,5 +1,5 @@
 use Rattle.std.proofs.Common.{ap, ◌∙◌}
-use Rattle.nlm_ranges.proofs.Requested.{copies-same}
+use Rattle.nlm_ranges.proofs.RequestListLemmas.{copies-same}
 use Rattle.nlm_ranges.proofs.requests.RequestListClone.clone.Goals as goal
 use Rattle.nlm_ranges.specs.Cutting.{joined}
 

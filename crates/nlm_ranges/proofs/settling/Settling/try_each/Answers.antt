@@ -1,7 +1,7 @@
 use Rattle.std.proofs.Common.{◌+◌, ◌<◌, arith, length, map, subst}
 use Rattle.std.specs.Arc.{arc_value}
 use Rattle.std.proofs.lemmas.List.{take_rest}
-use Rattle.nlm_ranges.proofs.Granted.{each-anew, each-on}
+use Rattle.nlm_ranges.proofs.GrantingLemmas.{each-anew, each-on}
 use Rattle.nlm_ranges.proofs.settling.Settling.try_each.Goals as goal
 use Rattle.nlm_ranges.specs.Granting.{IsEmptied}
 

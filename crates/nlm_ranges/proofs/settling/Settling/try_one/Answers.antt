@@ -1,7 +1,7 @@
 use Rattle.std.proofs.Common.{subst}
 use Rattle.std.specs.Arc.{arc_value}
 use Rattle.nfs_machine.specs.OneFile.{IsHeldUp}
-use Rattle.nlm_ranges.proofs.Granted.{tries-granted}
+use Rattle.nlm_ranges.proofs.GrantingLemmas.{tries-granted}
 use Rattle.nlm_ranges.proofs.settling.Settling.try_one.Goals as goal
 
 pub returns-then-is_free : goal.returns-then-is_free

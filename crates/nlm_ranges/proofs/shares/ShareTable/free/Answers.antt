@@ -2,7 +2,7 @@ use Rattle.std.proofs.Common.{ap, not, subst, sym, ◌∙◌}
 use Rattle.nfs_machine.specs.Bytes.{same_bytes}
 use Rattle.nfs_machine.specs.OneFile.{shares_without}
 use Rattle.nfs_machine.specs.State.{Share}
-use Rattle.nlm_ranges.proofs.Sharing.{shares-kept}
+use Rattle.nlm_ranges.proofs.ShareLemmas.{shares-kept}
 use Rattle.nlm_ranges.proofs.shares.ShareTable.free.Goals as goal
 use Rattle.nlm_ranges.specs.Held.{AreShares}
 

@@ -1,5 +1,5 @@
 use Rattle.std.proofs.Common.{subst, sym}
-use Rattle.nlm_ranges.proofs.Sharing.{no-shares}
+use Rattle.nlm_ranges.proofs.ShareLemmas.{no-shares}
 use Rattle.nlm_ranges.proofs.shares.ShareTable.new.Goals as goal
 use Rattle.nlm_ranges.specs.Held.{AreShares}
 

@@ -1,7 +1,7 @@
 use Rattle.std.proofs.Common.{◌≡◌, [], ◌∷◌, ◌++◌, ap, subst, sym, ◌∙◌}
 use Rattle.nfs_machine.specs.LockSteps.{share_of}
 use Rattle.nfs_machine.specs.OneFile.{is_denied, shared, unshared}
-use Rattle.nlm_ranges.proofs.Sharing.{shares-more}
+use Rattle.nlm_ranges.proofs.ShareLemmas.{shares-more}
 use Rattle.nlm_ranges.proofs.shares.ShareTable.share.Goals as goal
 use Rattle.nlm_ranges.specs.Held.{AreShares}
 

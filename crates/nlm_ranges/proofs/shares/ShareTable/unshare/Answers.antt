@@ -3,7 +3,7 @@ use Rattle.nfs_machine.specs.LockSteps.{share_of}
 use Rattle.nfs_machine.specs.Locks.{same_sharer}
 use Rattle.nfs_machine.specs.OneFile.{unshared}
 use Rattle.nfs_machine.specs.State.{Share}
-use Rattle.nlm_ranges.proofs.Sharing.{shares-kept}
+use Rattle.nlm_ranges.proofs.ShareLemmas.{shares-kept}
 use Rattle.nlm_ranges.proofs.shares.ShareTable.unshare.Goals as goal
 use Rattle.nlm_ranges.specs.Held.{AreShares}
 

@@ -2,7 +2,7 @@
 use denote.Param.{param}
 use denote.Param.Send.{sendable}
 use Rattle.std.proofs.Crossing.{crosses}
-use Rattle.nfs_pool.proofs.Crossing.{pool_sync}
+use Rattle.nfs_pool.proofs.CrossingLemmas.{pool_sync}
 use Rattle.pool_tests.proofs.tests.pools.act_beside.Goals as goal
 
 pub for_each_mut-requires-sync-F : goal.for_each_mut-requires-sync-F

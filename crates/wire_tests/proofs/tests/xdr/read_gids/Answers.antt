@@ -2,7 +2,7 @@ use Rattle.std.proofs.Common.{arith, rules}
 use Rattle.std.proofs.lemmas.Grind.{common_steps}
 use Rattle.nfs_xdr.specs.Reading.{read, read_all}
 use Rattle.nfs_xdr.specs.Types.{Word}
-use Rattle.wire_tests.proofs.Arrays.{read_all-more, read_all-stops}
+use Rattle.wire_tests.proofs.ArrayLoopLemmas.{read_all-more, read_all-stops}
 use Rattle.wire_tests.proofs.tests.xdr.read_gids.Goals as goal
 
 pub loop-i-init : goal.loop-i-init

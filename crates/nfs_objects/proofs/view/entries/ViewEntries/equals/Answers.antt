@@ -2,7 +2,7 @@ use Rattle.std.specs.Prelude.{◌≡◌, ◌+◌, Bool, true, false, not, is_som
 use Rattle.std.specs.Prelude.{refl, Option, Some, None}
 use Rattle.std.proofs.Common.{◌&&◌, ◌∙◌, sym, ap, arith, rules}
 use Rattle.std.specs.Cmp.Lexicographic.{pointwise}
-use Rattle.nfs_objects.proofs.Placed.{compared-from, ended-from, longer-from}
+use Rattle.nfs_objects.proofs.EntryPlaceLemmas.{compared-from, ended-from, longer-from}
 use Rattle.nfs_objects.specs.Same.{same_seen}
 use Rattle.nfs_objects.specs.Values.{Seen, seen_of}
 use Rattle.nfs_objects.proofs.view.entries.ViewEntries.equals.Goals as goal

@@ -3,7 +3,7 @@ use Rattle.std.proofs.Math.ListN.{drop_of_length-le}
 use Rattle.std.specs.Prelude.{Option, Some, None, option_copied, refl}
 use Rattle.std.specs.Arc.{arc_value}
 use Rattle.std.specs.Borrow.{Bor}
-use Rattle.nfs_objects.proofs.Looked.{lookup-shown}
+use Rattle.nfs_objects.proofs.ViewLookupLemmas.{lookup-shown}
 use Rattle.nfs_objects.specs.Rooms.{mapped}
 use Rattle.nfs_objects.specs.Values.{seen_of, shown_at}
 use Rattle.nfs_objects.specs.declared.address.Addr.{Addr}

@@ -1,5 +1,5 @@
 use Rattle.std.proofs.Common.{◌≡◌, ◌∙◌, ap, map, None, rules}
-use Rattle.nfs_objects.proofs.Placed.{unseen-behind}
+use Rattle.nfs_objects.proofs.EntryPlaceLemmas.{unseen-behind}
 use Rattle.nfs_objects.specs.Rooms.{EntriesValue, mapped}
 use Rattle.nfs_objects.specs.Values.{seen_at, seen_of}
 use Rattle.nfs_objects.proofs.view.entries.ViewEntries.push.Goals as goal

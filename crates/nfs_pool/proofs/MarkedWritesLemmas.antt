@@ -1,0 +1,145 @@
+-- Marks of the exports and of the mounts, and marks after a commit.
+use Rattle.std.proofs.Common.{◌≡◌, ◌≢◌, ℕ, zero, suc, ◌==◌, ◌&&◌, true, false, cond, List, [], ◌∷◌, ◌++◌, map, Option, Some, None}
+use Rattle.std.proofs.Common.{slice_get, refl, sym, ◌∙◌, ap, subst}
+use Rattle.std.specs.Prelude.{IfSome}
+use Rattle.std.specs.Cmp.{unsigned_Decides}
+use Rattle.std.specs.List.{AllByRecursion}
+use Rattle.nfs_objects.proofs.SeenLemmas.{is_addr-same}
+use Rattle.nfs_objects.specs.Store.{Store, with_writes}
+use Rattle.nfs_objects.specs.Values.{is_addr, written_at}
+use Rattle.nfs_objects.specs.declared.address.Addr.{Addr}
+use Rattle.nfs_objects.specs.declared.address.Addr.TheVariants.{Exports, Inode, Map, Block, Page, Part, Mounts, Usage}
+use Rattle.nfs_objects.specs.declared.address.Addr.TheVariants.{Locks}
+use Rattle.nfs_objects.specs.declared.object.Object.{Object}
+use Rattle.nfs_engine.proofs.ShardsFilledLemmas.{written_over}
+use Rattle.nfs_engine.specs.Settling.{spent_in}
+use Rattle.nfs_engine.specs.Shards.{shard_of}
+use Rattle.nfs_stamps.proofs.MarksWrittenLemmas.{IsAfter, after_more, after_other}
+use Rattle.nfs_stamps.specs.Marking.{AreMarks, IsMarked, MarksValue, Puts, Writes, stamp_at}
+use Rattle.nfs_pool.specs.Marked.{AreStampsOf, IsMarkedAmong, MakesAmong, OpensMarked, is_among, opening_mark}
+
+-- the marks that were set, one after the other
+pub opens-marked : (none first marks : MarksValue) (exports mounts : Option Writes) → none ≡ []
+    → IsMarked none first Exports exports → IsMarked first marks Mounts mounts → OpensMarked marks exports mounts
+opens-marked none first marks exports mounts empty one two a s is =
+    go a is where
+      nothing : (b : Addr) → stamp_at none b ≡ None
+      nothing b = ap (λ m. stamp_at m b) empty
+
+      absent : (b : Addr) → stamp_at none b ≡ Some s → opening_mark exports mounts b ≡ Some s
+      absent b is = absurd (cc (sym (nothing b), is))
+
+      go : (b : Addr) → stamp_at marks b ≡ Some s → opening_mark exports mounts b ≡ Some s
+      go Exports is = one Exports s (two Exports s is)
+      go (Inode n) is = absent (Inode n) (one (Inode n) s (two (Inode n) s is))
+      go (Map n p) is = absent (Map n p) (one (Map n p) s (two (Map n p) s is))
+      go (Block n i) is = absent (Block n i) (one (Block n i) s (two (Block n i) s is))
+      go (Page n p) is = absent (Page n p) (one (Page n p) s (two (Page n p) s is))
+      go (Part n b p) is = absent (Part n b p) (one (Part n b p) s (two (Part n b p) s is))
+      go Mounts is = two Mounts s is
+      go (Usage e g) is = absent (Usage e g) (one (Usage e g) s (two (Usage e g) s is))
+      go (Locks b) is = absent (Locks b) (one (Locks b) s (two (Locks b) s is))
+
+-- they are those of what stands there
+pub opening-marks : (marks : MarksValue) (exports mounts : Option Writes) (at : Addr → Option Object)
+    → OpensMarked marks exports mounts → IfSome exports (λ s. Puts s Exports (at Exports))
+    → IfSome mounts (λ s. Puts s Mounts (at Mounts)) → AreMarks marks at
+opening-marks marks exports mounts at opens put_exports put_mounts a s is = go a (opens a s is) where
+  put : (m : Option Writes) (b : Addr) → m ≡ Some s → IfSome m (λ x. Puts x b (at b)) → Puts s b (at b)
+  put None b same puts = absurd (cc same)
+  put (Some x) b same puts = subst (λ w. Puts w b (at b)) (one same) puts where
+    one : Some x ≡ Some s → x ≡ s
+    one y = cc y
+
+  go : (b : Addr) → opening_mark exports mounts b ≡ Some s → Puts s b (at b)
+  go Exports is = put exports Exports is put_exports
+  go (Inode n) is = absurd (cc is)
+  go (Map n p) is = absurd (cc is)
+  go (Block n i) is = absurd (cc is)
+  go (Page n p) is = absurd (cc is)
+  go (Part n b p) is = absurd (cc is)
+  go Mounts is = put mounts Mounts is put_mounts
+  go (Usage e g) is = absurd (cc is)
+  go (Locks b) is = absurd (cc is)
+
+-- the same of what stands elsewhere alike
+pub puts-same : (m : Option Writes) (a : Addr) (x y : Option Object) → IfSome m (λ s. Puts s a x) → y ≡ x →
+    IfSome m (λ s. Puts s a y)
+puts-same None a x y puts same = tt
+puts-same (Some s) a x y puts same = puts ∙ ap (λ o. Some o) (sym same)
+
+-- what is so of all entries is so of each
+pub each-at : {X : Type 0} (P : X → Type 0) (xs : List X) (k : ℕ) → AllByRecursion P xs → IfSome (slice_get xs k) P
+each-at P [] k all = tt
+each-at P (x ∷ xs) zero all = all.0
+each-at P (x ∷ xs) (suc k) all = each-at P xs k all.1
+
+-- ---- after a commit
+-- writes in one shard are spent, and others stay as they were
+unspent : (which : ℕ) (w : Addr × Option Object) (a : Addr) → is_addr w.0 a ≡ true → shard_of a ≢ which
+    → (spent_in which w).1 ≡ w.1
+unspent which w a same apart = elim (shard_of w.0 == which) as (λ t. (shard_of w.0 == which) ≡ t → cond t None w.1 ≡ w.1) [
+  | true ↦ λ here. absurd (apart (sym (ap shard_of (is_addr-same w.0 a same)) ∙ (unsigned_Decides (shard_of w.0) which).0 here))
+  | false ↦ λ other. refl
+] refl
+
+pub spent-apart : (which : ℕ) (ws : Writes) (known : Option (Option Object)) (a : Addr) → shard_of a ≢ which
+    → written_at known (map (spent_in which) ws) a ≡ written_at known ws a
+spent-apart which [] known a apart = refl
+spent-apart which (w ∷ ws) known a apart =
+    spent-apart which ws (cond (is_addr w.0 a) (Some (spent_in which w).1) known) a apart
+    ∙ elim (is_addr w.0 a) as (λ t. is_addr w.0 a ≡ t
+    → written_at (cond t (Some (spent_in which w).1) known) ws a ≡ written_at (cond t (Some w.1) known) ws a) [
+      | true ↦ λ same. ap (λ o. written_at (Some o) ws a) (unspent which w a same apart)
+      | false ↦ λ other. refl
+    ] refl
+
+-- the stamp of a commit is that of what is left of its writes, where none of these is spent
+pub stamps-of : (among : Option ℕ) (stamp : Option Writes) (all left : Writes) → IfSome stamp (λ s. s ≡ all)
+    → ((a : Addr) → is_among among a ≡ true → written_at None left a ≡ written_at None all a)
+    → AreStampsOf among stamp left
+stamps-of among None all left is same = tt
+stamps-of among (Some s) all left is same = λ a here. ap (λ ws. written_at None ws a) is ∙ sym (same a here)
+
+-- the store after a commit
+pub makes-store : (old new : Store) (writes : Writes) → new ≡ with_writes old writes
+    → MakesAmong None old.at new.at writes
+makes-store old new writes is a = ap (λ s. Some (s.at a)) is ∙ written_over writes old a
+
+-- one write more is marked
+pub marked-more : (among : Option ℕ) (stamp : Option Writes) (old now new : MarksValue) (made : Writes) (a : Addr)
+    (o : Option Object) → IsAfter (is_among among) stamp old now made → IsMarkedAmong among stamp now new a
+    → IsAfter (is_among among) stamp old new (made ++ (a, o) ∷ [])
+marked-more among stamp old now new made a o after marks =
+    elim (is_among among a) as (λ t. is_among among a ≡ t
+    → ((b : Addr) (s : Writes) → stamp_at new b ≡ Some s → cond (t && is_addr a b) stamp (stamp_at now b) ≡ Some s)
+    → IsAfter (is_among among) stamp old new (made ++ (a, o) ∷ [])) [
+      | true ↦ λ here marked. after_more (is_among among) stamp old now made a o new stamp here after
+          (λ s same. same) marked
+      | false ↦ λ apart marked. after_other (is_among among) stamp old new made a o apart
+          (λ b s is. after b s (marked b s is))
+    ] refl marks
+
+-- it has this mark, or none, which is as good
+pub marked-here : (among : Option ℕ) (stamp mark : Option Writes) (old new : MarksValue) (a : Addr)
+    → is_among among a ≡ true → ((s : Writes) → mark ≡ Some s → stamp ≡ Some s) → IsMarked old new a mark
+    → IsMarkedAmong among stamp old new a
+marked-here among stamp mark old new a here same marked b s is =
+    ap (λ t. cond (t && is_addr a b) stamp (stamp_at old b)) here
+    ∙ elim (is_addr a b) as (λ t. cond t mark (stamp_at old b) ≡ Some s
+    → cond t stamp (stamp_at old b) ≡ Some s) [
+      | true ↦ λ one. same s one
+      | false ↦ λ other. other
+    ] (marked b s is)
+
+-- it is elsewhere
+pub marked-apart : (among : Option ℕ) (stamp : Option Writes) (marks : MarksValue) (a : Addr)
+    → is_among among a ≡ false → IsMarkedAmong among stamp marks marks a
+marked-apart among stamp marks a apart b s is =
+    ap (λ t. cond (t && is_addr a b) stamp (stamp_at marks b)) apart ∙ is
+
+-- the same shard by another name
+pub made-among : (index which : ℕ) (old new : Addr → Option Object) (writes : Writes) → index ≡ which
+    → MakesAmong (Some which) old new writes → MakesAmong (Some index) old new writes
+made-among index which old new writes same makes =
+    subst (λ (k : ℕ). MakesAmong (Some k) old new writes) (sym same) makes

@@ -1,0 +1,209 @@
+-- The map of hosts: one cache written is one event, and no other host's list changes.
+use Rattle.std.proofs.Common.{◌≡◌, ℕ, true, false, cond, List, [], ◌∷◌, Option, Some, None, IfSome}
+use Rattle.std.proofs.Common.{IsSome, option_map, map, find, refl, sym, ap, ◌∙◌, subst}
+use Rattle.indexmap.specs.IndexMap.{IndexMap, Updates, WritesThrough}
+use Rattle.std.proofs.lemmas.Map.Steps.{set_value_same}
+use Rattle.std.specs.Cmp.Lexicographic.{bytes_decides}
+use Rattle.std.specs.Map.{lookup}
+use Rattle.std.specs.Option.{option_map_or}
+use Rattle.nfs_replies.specs.Kept.{ReplyEvent, KeptReply, KeptLists, after, host_of, lists_after, reply_for, same_bytes}
+use Rattle.nfs_replies.specs.Kept.ReplyEvent.{Repeated}
+use Rattle.nfs_replies.proofs.CacheLemmas.{reply_for-kept}
+use Rattle.nfs_replies.proofs.KeptListLemmas.{after-unkept}
+use Rattle.nfs_replies.specs.Replies.{AreListed, Cache, IsAfter, HostReplies, IsListed, RepliesValue, host_replies}
+use Rattle.nfs_replies.specs.Replies.{kept_in, kept_of, list_of}
+
+abbrev Hosts : Type 0
+Hosts = List (List ℕ × Cache)
+
+-- the replies of these caches
+abbrev pub shown : ℕ → Hosts → RepliesValue
+shown capacity hosts = record { capacity = capacity; hosts = map host_replies hosts }
+
+-- the list that stands at a host, or does not
+abbrev pub listed : Option Cache → List KeptReply
+listed o = option_map_or kept_in o []
+
+pub list_of-shown : (capacity : ℕ) (hosts : Hosts) (host : List ℕ) →
+    option_map (λ (h : HostReplies). h.list) (list_of (shown capacity hosts) host) ≡
+    option_map kept_in (lookup (same_bytes host) hosts)
+list_of-shown capacity [] host = refl
+list_of-shown capacity (h ∷ hosts) host = elim (same_bytes host h.0) as
+    (λ b. option_map (λ (h : HostReplies). h.list) (cond b (Some (host_replies h))
+    (find (λ (h : HostReplies). same_bytes host h.host) (map host_replies hosts))) ≡
+    option_map kept_in (cond b (Some h.1) (lookup (same_bytes host) hosts))) [
+      | true ↦ refl
+      | false ↦ list_of-shown capacity hosts host
+    ]
+
+abbrev value : Option (List KeptReply) → List KeptReply
+value o = option_map_or (λ list. list) o []
+
+value-list : (o : Option HostReplies) → option_map_or (λ (h : HostReplies). h.list) o [] ≡
+    value (option_map (λ (h : HostReplies). h.list) o)
+value-list None = refl
+value-list (Some h) = refl
+
+value-cache : (o : Option Cache) → value (option_map kept_in o) ≡ listed o
+value-cache None = refl
+value-cache (Some cache) = refl
+
+-- what is kept of a host is what its cache keeps
+pub kept_of-shown : (capacity : ℕ) (hosts : Hosts) (host : List ℕ) →
+    kept_of (shown capacity hosts) host ≡ listed (lookup (same_bytes host) hosts)
+kept_of-shown capacity hosts host =
+    value-list (list_of (shown capacity hosts) host) ∙ ap value (list_of-shown capacity hosts host)
+    ∙ value-cache (lookup (same_bytes host) hosts)
+
+-- a host without a list stands nowhere
+pub none-stands : (capacity : ℕ) (hosts : Hosts) (host : List ℕ) →
+    list_of (shown capacity hosts) host ≡ None → lookup (same_bytes host) hosts ≡ None
+none-stands capacity hosts host none = by (lookup (same_bytes host) hosts)
+    (sym (list_of-shown capacity hosts host) ∙ ap (option_map (λ (h : HostReplies). h.list)) none)
+  where
+    by : (o : Option Cache) → option_map kept_in o ≡ None → o ≡ None
+    by None e = refl
+    by (Some cache) e = cc
+
+-- an event changes its host's list alone: what is left of it is what the event leaves
+module _ (capacity : ℕ) (event : ReplyEvent) (lists : KeptLists) (left : List KeptReply)
+    (is-left : left ≡ after capacity event (lists (host_of event))) where
+  at-event : (q : List ℕ) →
+      cond (same_bytes (host_of event) q) left (lists q) ≡ lists_after capacity event lists q
+  at-event q = (elim (same_bytes (host_of event) q) as (λ b. same_bytes (host_of event) q ≡ b →
+      cond b left (lists q) ≡ cond b (after capacity event (lists q)) (lists q)) [
+        | true ↦ λ same. (let is = (bytes_decides (host_of event) q).0 same in
+            is-left ∙ ap (λ h. after capacity event (lists h)) is)
+        | false ↦ λ same. refl
+      ]) refl
+
+-- a repeat of what is not kept changes nothing
+pub is-after-unkept : (replies : RepliesValue) (host bytes : List ℕ) →
+    reply_for bytes (kept_of replies host) ≡ None → IsAfter (Repeated host bytes) replies replies
+is-after-unkept replies host bytes none = record {
+  lists = λ i q. (same q ∙ at-event capacity event lists (lists host) unchanged q) i;
+  capacity = refl;
+}
+  where
+    capacity : ℕ
+    capacity = replies.capacity
+
+    event : ReplyEvent
+    event = Repeated host bytes
+
+    lists : KeptLists
+    lists = kept_of replies
+
+    unchanged : lists host ≡ after capacity event (lists host)
+    unchanged = sym (after-unkept capacity host bytes (lists host) none)
+
+    same : (q : List ℕ) → kept_of replies q ≡ cond (same_bytes host q) (kept_of replies host) (kept_of replies q)
+    same q = (elim (same_bytes host q) as (λ b. same_bytes host q ≡ b →
+        kept_of replies q ≡ cond b (kept_of replies host) (kept_of replies q)) [
+          | true ↦ λ is. ap (kept_of replies) (sym ((bytes_decides host q).0 is))
+          | false ↦ λ is. refl
+        ]) refl
+
+module _ (capacity : ℕ) (event : ReplyEvent) (old new : Hosts) (cache : Cache)
+    (writes : (q : List ℕ) → lookup (same_bytes q) new ≡
+    cond (same_bytes (host_of event) q) (Some cache) (lookup (same_bytes q) old)) where
+  -- a cache at the event's host that keeps what the event leaves is all that the event does
+  pub is-after-written : kept_in cache ≡ after capacity event (listed (lookup (same_bytes (host_of event)) old)) →
+      IsAfter event (shown capacity old) (shown capacity new)
+  is-after-written left = record { lists = λ i q. at q i; capacity = refl }
+    where
+      lists : KeptLists
+      lists = kept_of (shown capacity old)
+
+      at : (q : List ℕ) → kept_of (shown capacity new) q ≡ lists_after capacity event lists q
+      at q =
+          kept_of-shown capacity new q ∙ ap listed (writes q)
+          ∙ elim (same_bytes (host_of event) q) as (λ b. listed (cond b (Some cache) (lookup (same_bytes q) old)) ≡
+          cond b (kept_in cache) (lists q)) [
+            | true ↦ refl
+            | false ↦ sym (kept_of-shown capacity old q)
+          ]
+          ∙ at-event capacity event lists (kept_in cache)
+          (left ∙ ap (after capacity event) (sym (kept_of-shown capacity old (host_of event)))) q
+
+  -- and what is true of every cache stays so
+  pub listed-written : AreListed capacity old → IsListed capacity cache → AreListed capacity new
+  listed-written each one q = subst (λ o. IfSome o (IsListed capacity)) (sym (writes q))
+      (elim (same_bytes (host_of event) q) as
+      (λ b. IfSome (cond b (Some cache) (lookup (same_bytes q) old)) (IsListed capacity)) [
+        | true ↦ one
+        | false ↦ each q
+      ])
+
+-- what a host's cache has for a record
+abbrev pub reply_in : List ℕ → Option Cache → Option (List ℕ)
+reply_in bytes None = None
+reply_in bytes (Some cache) = lookup (same_bytes bytes) cache.entries
+
+reply_in-listed : (bytes : List ℕ) (o : Option Cache) → reply_for bytes (listed o) ≡ reply_in bytes o
+reply_in-listed bytes None = refl
+reply_in-listed bytes (Some cache) = reply_for-kept bytes cache.entries
+
+-- the reply that is kept is the one that the host's cache has
+pub reply-at : (capacity : ℕ) (hosts : Hosts) (host bytes : List ℕ) (o : Option Cache) →
+    o ≡ lookup (same_bytes host) hosts →
+    reply_for bytes (kept_of (shown capacity hosts) host) ≡ reply_in bytes o
+reply-at capacity hosts host bytes o found =
+    ap (reply_for bytes) (kept_of-shown capacity hosts host ∙ ap listed (sym found)) ∙ reply_in-listed bytes o
+
+no-list : (o : Option HostReplies) → option_map (λ (h : HostReplies). h.list) o ≡ None → o ≡ None
+no-list None e = refl
+no-list (Some h) e = cc
+
+-- a host without a cache has no list
+pub no-list-at : (capacity : ℕ) (hosts : Hosts) (host : List ℕ) → None ≡ lookup (same_bytes host) hosts →
+    list_of (shown capacity hosts) host ≡ None
+no-list-at capacity hosts host found = no-list (list_of (shown capacity hosts) host)
+    (list_of-shown capacity hosts host ∙ ap (option_map kept_in) (sym found))
+
+-- a cache that was lent is left by an event
+module _ {S : Type 0} (capacity : ℕ) (event : ReplyEvent) (old new : IndexMap (List ℕ) Cache S) (was cache : Cache)
+    (found : Some was ≡ lookup (same_bytes (host_of event)) old.entries)
+    (through : WritesThrough same_bytes (same_bytes (host_of event)) old cache new) where
+  writes : (q : List ℕ) → lookup (same_bytes q) new.entries ≡
+      cond (same_bytes (host_of event) q) (Some cache) (lookup (same_bytes q) old.entries)
+  writes = (through.3 (subst IsSome found refl)).0
+
+  pub is-after-lent : kept_in cache ≡ after capacity event (kept_in was) →
+      IsAfter event (shown capacity old.entries) (shown capacity new.entries)
+  is-after-lent left = is-after-written capacity event old.entries new.entries cache writes
+      (left ∙ ap (λ o. after capacity event (listed o)) found)
+
+  pub listed-lent : AreListed capacity old.entries → IsListed capacity cache → AreListed capacity new.entries
+  listed-lent = listed-written capacity event old.entries new.entries cache writes
+
+-- one that stays as it was leaves all as it was
+pub same-lent : {S : Type 0} (host : List ℕ) (old new : IndexMap (List ℕ) Cache S) (was cache : Cache) →
+    Some was ≡ lookup (same_bytes host) old.entries → WritesThrough same_bytes (same_bytes host) old cache new →
+    cache ≡ was → new.entries ≡ old.entries
+same-lent host old new was cache found through same =
+    through.0 ∙ set_value_same (same_bytes host) old.entries cache (sym found ∙ ap Some (sym same))
+
+-- what is true of the cache that stands at a host
+pub listed-at : (capacity : ℕ) (hosts : Hosts) (host : List ℕ) (cache : Cache) → AreListed capacity hosts →
+    Some cache ≡ lookup (same_bytes host) hosts → IsListed capacity cache
+listed-at capacity hosts host cache each found = subst (λ o. IfSome o (IsListed capacity)) (sym found) (each host)
+
+-- a cache comes for a host that has none
+module _ {S : Type 0} (capacity : ℕ) (event : ReplyEvent) (host : List ℕ) (old : Hosts)
+    (roomy new : IndexMap (List ℕ) Cache S) (cache : Cache) (is : host ≡ host_of event)
+    (same : roomy.entries ≡ old)
+    (updates : Updates same_bytes roomy new host (Some cache)) where
+  comes : (q : List ℕ) → lookup (same_bytes q) new.entries ≡
+      cond (same_bytes (host_of event) q) (Some cache) (lookup (same_bytes q) old)
+  comes q = updates.0 q
+      ∙ ap (λ h. cond (same_bytes h q) (Some cache) (lookup (same_bytes q) roomy.entries)) is
+      ∙ ap (λ es. cond (same_bytes (host_of event) q) (Some cache) (lookup (same_bytes q) es)) same
+
+  pub is-after-new : lookup (same_bytes (host_of event)) old ≡ None → kept_in cache ≡ after capacity event [] →
+      IsAfter event (shown capacity old) (shown capacity new.entries)
+  is-after-new none left = is-after-written capacity event old new.entries cache comes
+      (left ∙ ap (λ o. after capacity event (listed o)) (sym none))
+
+  pub listed-new : AreListed capacity old → IsListed capacity cache → AreListed capacity new.entries
+  listed-new = listed-written capacity event old new.entries cache comes
