@@ -34,8 +34,8 @@ abbrev pub StopsReplacing : DraftValue → List ExportValue → Halt → Type 0
 StopsReplacing d exports halt = StopsCall d.modes (named_by (calls.Replace exports) d.view)
     (new_numbers (calls.Replace exports) d.view) d.view halt
 
--- The draft has the table with the exports that are numbered behind the last, and their roots may be made: their numbers
--- are reserved and apart, and nothing stands there.
+-- The draft has the table with the exports that are numbered behind the last, and their roots may be made: their
+-- numbers are reserved and apart, and nothing stands there.
 pub record AwaitsRoots (d : DraftValue) (last : ℕ) (roots : List Reserved) : Type 0 where
   pub modes : d.modes ≡ replacing
   pub table : ExportTableValue

@@ -138,7 +138,8 @@ directory_same a b e =
 
 pub directory_decides : (a b : Directory) → Decides (same_directory a b) (a ≡ b)
 directory_decides = from_self same_directory directory_same
-    (λ a. both _ _ (nat_own a.parent) (both _ _ (nat_own a.last_cookie) ((entry_map_decides a.entries a.entries).1 refl)))
+    (λ a. both _ _ (nat_own a.parent) (both _ _ (nat_own a.last_cookie)
+    ((entry_map_decides a.entries a.entries).1 refl)))
 
 -- ---- contents and inodes
 pub bits_decides : (a b : Bits) → Decides (same_bits a b) (a ≡ b)

@@ -90,7 +90,8 @@ impl<L: Naming> Placed<L> {
     /// one.
     pub(crate) fn settle(&mut self, committed: Committed, stamp: Option<&Stamp<L>>) -> Committed
         requires held { AreHeldIn self.old.shard self.old.shard.index (map write_value committed.writes.items) }
-        requires stamp { AreStampsOf (Some self.old.shard.index) (option_copied stamp) (map write_value committed.writes.items) }
+        requires stamp { AreStampsOf (Some self.old.shard.index) (option_copied stamp)
+            (map write_value committed.writes.items) }
         ensures receipt { result.receipt ≡ committed.receipt }
         ensures release { result.release ≡ freed_more committed.release self.old.shard.index }
         ensures left { map write_value result.writes.items

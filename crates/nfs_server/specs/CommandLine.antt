@@ -268,7 +268,7 @@ IsLimitRefusal rows (CommandLine e) = (limit : Limit) × (value : ℕ) × NamesL
 IsLimitRefusal rows Memory = Unit {0}
 IsLimitRefusal rows _ = ⊥
 
--- standard streams are asked for beside an address or beside lines on standard input; or neither they nor an address are
+-- standard streams are asked for beside an address or beside lines on standard input; or neither is asked for
 abbrev pub IsTransportRefusal : List Row → Exit → Type 0
 IsTransportRefusal rows (CommandLine e) =
     AsksStdio rows true × (NamesAddress rows ⊎ AsksControl rows true) × (kind_of e ≡ ArgumentConflict)

@@ -2,7 +2,8 @@
 
 ghost use Rattle.std.specs.Prelude.{◌≡◌, IfErr, IfOk, map};
 ghost use Rattle.std.specs.Option.{MatchOption, option_copied};
-ghost use Rattle.nfs_server.specs.Callbacks.{AreCallbacks, IsCallback, IsNoCallback, RefusesCallbacks, behind_host, callback_of};
+ghost use Rattle.nfs_server.specs.Callbacks.{AreCallbacks, IsCallback, IsNoCallback, RefusesCallbacks};
+ghost use Rattle.nfs_server.specs.Callbacks.{behind_host, callback_of};
 
 use bytes::Bytes;
 use nfs_engine::Host;

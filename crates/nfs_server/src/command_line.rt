@@ -238,8 +238,8 @@ fn conflict(command: &mut Command<'_>, message: &str) -> Result<Exit, AllocError
 ///
 /// Faults are looked for in this order: `CommandLine` where the words are none that the program takes, ask for its help
 /// or its version, give a host of no byte or of more than 255 or a number that is out of its bounds, or ask for
-/// standard streams beside an address or beside lines on standard input; `NoTransport`; `Exports` where these are refused. `Memory` where memory was
-/// refused.
+/// standard streams beside an address or beside lines on standard input; `NoTransport`; `Exports` where these are
+/// refused. `Memory` where memory was refused.
 pub fn configure<S: AsStr>(alloc: Global, words: &[S]) -> Result<Options, Exit>
     ensures asked { MatchResult result (Configures (map S.text words.now)) (Refuses (map S.text words.now)) }
     ensures limits { IfOk result AreWithin }

@@ -10,13 +10,13 @@
 //! pieces, a count and two numbers for each, and of the locks those of the pieces in which one changes, and sometimes
 //! of a neighbour, as counts of their owners.
 //!
-//! Requests stand in order of arrival, in batches of at most `BATCH_LIMIT`; two neighbouring batches have more than that
-//! together. Each is kept with its number, its process and its first offset, by which most are told apart before the
-//! request is looked at. One more copies the list of batches, a count for each, and at most one batch, as counts of its
-//! requests.
+//! Requests stand in order of arrival, in batches of at most `BATCH_LIMIT`; two neighbouring batches have more than
+//! that together. Each is kept with its number, its process and its first offset, by which most are told apart before
+//! the request is looked at. One more copies the list of batches, a count for each, and at most one batch, as counts of
+//! its requests.
 //!
-//! What waits is tried behind each change of the locks (`OneFile::set`, `clear`, `settle`), each request once, and again
-//! only behind a grant that makes its owner's exclusive lock a shared one.
+//! What waits is tried behind each change of the locks (`OneFile::set`, `clear`, `settle`), each request once, and
+//! again only behind a grant that makes its owner's exclusive lock a shared one.
 //!
 //! Files with the same number modulo 64 share a `LockBucket`, in which those with the same number modulo 4,096 share a
 //! part.

@@ -61,8 +61,8 @@ pub(crate) struct Clerk<L: Ledger + Naming, C> {
 
 impl<L: Ledger + Naming, C: Clock> Clerk<L, C> {
     /// Answers a record of a connection and those behind it, one after the other and so many at most, and sends the
-    /// answers. The place is given back behind the last one, and whenever the answers that wait are to be sent before the
-    /// next one. Whether a call was refused.
+    /// answers. The place is given back behind the last one, and whenever the answers that wait are to be sent before
+    /// the next one. Whether a call was refused.
     ///
     /// # Errors
     ///
@@ -95,8 +95,8 @@ impl<L: Ledger + Naming, C: Clock> Clerk<L, C> {
         Ok(is_refused)
     }
 
-    /// Answers the next record of a connection, and sends the answers that wait, where they are to be sent before the one
-    /// behind it. The place that is handed back may be another one. Whether the call was refused.
+    /// Answers the next record of a connection, and sends the answers that wait, where they are to be sent before the
+    /// one behind it. The place that is handed back may be another one. Whether the call was refused.
     ///
     /// # Errors
     ///

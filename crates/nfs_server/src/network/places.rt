@@ -215,8 +215,8 @@ impl<L: Ledger + Naming> Keeper<L> {
         }
     }
 
-    /// Ends the era, hands out the places of the next one, and lets go what was recorded. The room of the seats is left,
-    /// that of the era, and what was found of it. Where a seat is missing the era stays, and nothing is found.
+    /// Ends the era, hands out the places of the next one, and lets go what was recorded. The room of the seats is
+    /// left, that of the era, and what was found of it. Where a seat is missing the era stays, and nothing is found.
     fn turn<R: Wait + Clock>(
         &self,
         rt: &R,
@@ -254,8 +254,8 @@ impl<L: Ledger + Naming> Keeper<L> {
     }
 }
 
-/// Ends the era of a pool that nobody else has, and begins the next: what is left of it, and the next seats. It takes no
-/// memory.
+/// Ends the era of a pool that nobody else has, and begins the next: what is left of it, and the next seats. It takes
+/// no memory.
 ///
 /// # Errors
 ///

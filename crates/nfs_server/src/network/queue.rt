@@ -59,8 +59,8 @@ impl Queue {
         self.list.is_empty()
     }
 
-    /// Puts a message behind those that wait. Where so many wait already a result of a call is dropped: this message, or
-    /// for a grant the oldest one that waits. Where grants alone wait it is dropped too.
+    /// Puts a message behind those that wait. Where so many wait already a result of a call is dropped: this message,
+    /// or for a grant the oldest one that waits. Where grants alone wait it is dropped too.
     pub(crate) fn put(&mut self, posted: Posted)
         ensures puts { self.new ≡ put self.old posted }
         ensures bounded { length self.new ≤ MOST_WAITING }

@@ -226,8 +226,8 @@ fn is_before(clock: &impl Clock, until: Duration) -> bool {
     }
 }
 
-/// Names were made, removed and made again, first a few of them where memory was there, so that the stack was as deep as
-/// it gets before the address space was taken; then where it was full: each was removed, so many tenths came again.
+/// Names were made, removed and made again, first a few of them where memory was there, so that the stack was as deep
+/// as it gets before the address space was taken; then where it was full: each was removed, so many tenths came again.
 fn is_emptied(rt: &impl Abort, few: Progress, full: Progress, tenths: u32) -> Result<(), Fail> {
     assert_eq!(rt; (few.made, few.removed, few.made_again), (FEW, FEW, FEW));
     assert!(rt;
