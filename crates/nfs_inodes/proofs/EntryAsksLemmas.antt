@@ -137,6 +137,15 @@ module _ (d : DraftValue) (n : ℕ) where
       (inl (ap (λ (x : Share). addresses.Usage x.export (group_of n)) (sym shares) ∙ is-it)))
       (λ a none. none) (one-asks d (addresses.Usage share.export (group_of n)) same old new is)
 
+-- ---- of a directory alone
+pub entering-asking : (d : DraftValue) (named all : List Addr) (start asked : List (Addr × Mode)) → start ≡ [] →
+    AsksFor d (MayEnter d named) (λ a. ⊥) start asked → ((a : Addr) → IsAmong named a → IsAmong all a) →
+    IsAsking d all asked
+entering-asking d named all start asked empty asks front =
+    asking-all d (MayEnter d named) (λ a. ⊥) asked
+    (subst (λ l. AsksFor d (MayEnter d named) (λ a. ⊥) l asked) empty asks) all
+    (λ a may unknown. elim may.bounded [ inl among ↦ inl (front a among) | inr there ↦ inr there ])
+
 -- ---- both at once
 -- of a directory, and then of a group: each is an address of its own, and all are named
 pub both-asking : (d : DraftValue) (named few all : List Addr) (start mid asked : List (Addr × Mode)) → start ≡ [] →

@@ -50,5 +50,6 @@ pub mod ListFrontLemmas
 pub mod UsageTotalsLemmas
 pub mod BucketWidthLemmas
 pub mod WishesLemmas
+pub mod NextWishLemmas
 pub mod WriteAsksLemmas
 pub mod WrittenBlocksLemmas

@@ -174,3 +174,14 @@ any-stops d asked halt stops = stops-wider d.modes [] asked 0 d.view halt tt sto
 pub makes-stops : (d : DraftValue) (asked : List Addr) (halt : Halt) → StopsAt d asked halt → StopsMaking d asked halt
 makes-stops d asked halt stops =
     stops-wider d.modes asked asked 1 d.view halt (covers-among asked asked d.view (λ a among. among)) stops
+
+-- how it halts, if it does
+pub halts-only : {A : Type 0} (P : A → Type 0) (Q : Halt → Type 0) (r : Result A Halt) → MatchResult r P Q → IfErr r Q
+halts-only P Q (Ok x) is = tt
+halts-only P Q (Err halt) is = is
+
+-- who halts so halts as others may who may ask for as much
+pub halts-as : {A : Type 0} (P Q : Halt → Type 0) (r : Result A Halt) → ((halt : Halt) → P halt → Q halt) → IfErr r P →
+    IfErr r Q
+halts-as P Q (Ok x) on stops = tt
+halts-as P Q (Err halt) on stops = on halt stops

@@ -17,3 +17,4 @@ pub mod Rights
 pub mod Roots
 pub mod Sets
 pub mod Stops
+pub mod Wants

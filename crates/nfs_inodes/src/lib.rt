@@ -25,6 +25,7 @@ pub mod setting;
 pub mod times;
 pub mod tree;
 mod usage;
+pub mod wishes;
 
 pub use asked::{directory_wanted, file_wanted, link_wanted, special_wanted};
 pub use checks::{changeable, directory, is_writable, no_directory, permitted, regular};
@@ -32,7 +33,7 @@ pub use content::asking::Asking;
 pub use content::entries::{entry, is_empty, leads_to, new_cookie};
 pub use content::file::{read, resize, text, write};
 pub use content::listing::{EntriesLeft, EntryName, Left, Listed, entries_left};
-pub use content::naming::{add_entry, give_name, leave, rehome, take_entry};
+pub use content::naming::{add_entry, ask_given, ask_left, give_name, leave, rehome, take_entry};
 pub use content::shape::BLOCK;
 pub use data::{SIZE_LIMIT, TRANSFER_LIMIT, verifier};
 pub use found::{
@@ -42,13 +43,13 @@ pub use gather::read_objects;
 pub use kinds::{Directory, File};
 pub use linking::add_link;
 pub use locks::{lives, locks_of, next_number, set_bucket, set_locks, set_locks_spending};
-pub use makers::{lose_link, make_object};
+pub use makers::{ask_made, lose_link, make_object};
 pub use making::{
     LINK_LIMIT, MAX_TEXT, MODE_LIMIT, NewContent, Wanted, given_attributes, kind_checked,
 };
 pub use names::{name_checked, plain_name_checked};
 pub use permission::{Right, class_bits, is_member, may, reads, runs};
-pub use removing::take_name;
+pub use removing::{ask_lost, take_name};
 pub use roots::{ask_roots, make_root, put_table};
 pub use setting::{Settings, set_attributes};
 pub use times::{is_client_time, is_server_time, is_time, now, time_set, touch};

@@ -1,6 +1,6 @@
 //! Changes of objects (RFC 1813, 2.5: mtime, ctime). Each is a change of what the store stands for.
 
-ghost use Rattle.std.specs.Prelude.{◌≡◌, ◌++◌, ◌-◌, [], IfOk, IsSome, MatchResult, OnOk};
+ghost use Rattle.std.specs.Prelude.{◌≡◌, ◌++◌, ◌-◌, [], IfErr, IfOk, IsSome, MatchResult, OnOk};
 ghost use Rattle.nfs_machine.specs.Making.{new_object};
 ghost use Rattle.nfs_machine.specs.Shown.{touched};
 ghost use Rattle.nfs_machine.specs.Times.{time_of};
@@ -78,6 +78,39 @@ fn unlink(draft: &mut Draft<'_>, number: u64) -> Result<(), Halt>
     new.links = new.links.saturating_sub(1);
     new.changed = touch(new.changed, now(draft.ctx()));
     Ok(draft.put(number, new)?)
+}
+
+/// Asks for what has to be held to make an object under a new name of a directory with this cookie.
+///
+/// # Errors
+///
+/// `Fresh` where no number is reserved; `Need` of all else at once, and `Memory`.
+pub fn ask_made(
+    draft: &Draft<'_>,
+    directory: &Directory,
+    name: &[u8],
+    cookie: u64,
+) -> Result<(), Halt>
+    requires none { draft.now.writes ≡ [] }
+    requires shown { IsShown draft.now directory.now.known }
+    ensures { IfErr result (StopsMaking draft.now (grown_at draft.now directory.now.known.number name.now cookie
+        ++ usages_of directory.now.known.export 64)) }
+{
+    let reserved = draft.fresh()?;
+    let nothing = Share {
+        export: directory.known.export,
+        usage: Usage::none(),
+    };
+    let mut asking = Asking::new(draft.alloc());
+    ask_entry(draft, directory, name, cookie, &mut asking)?;
+    ask_counted(
+        draft,
+        reserved.number,
+        nothing,
+        Usage::of_one(0),
+        &mut asking,
+    )?;
+    asking.ask()
 }
 
 /// Makes what is asked for, under a new name of a directory: its number and generation are those that the view

@@ -59,14 +59,14 @@ fn has_separator(name: &[u8]) -> bool
 }
 
 /// Whether it is the name of the directory itself.
-pub(crate) fn is_self(name: &[u8]) -> bool
+pub fn is_self(name: &[u8]) -> bool
     ensures { result ≡ same_bytes (codes ".") name.now }
 {
     b".".as_slice() == name
 }
 
 /// Whether it is the name of the directory above.
-pub(crate) fn is_above(name: &[u8]) -> bool
+pub fn is_above(name: &[u8]) -> bool
     ensures { result ≡ same_bytes (codes "..") name.now }
 {
     b"..".as_slice() == name

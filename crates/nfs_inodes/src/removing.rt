@@ -51,7 +51,11 @@ pub fn take_name(
 
 /// Asks at once for what has to be held to take the name away, and where the object goes with it, to count it no more
 /// and to take its locks.
-fn ask_lost(
+///
+/// # Errors
+///
+/// `Need` of that, and `Memory`.
+pub fn ask_lost(
     draft: &Draft<'_>,
     directory: &Directory,
     name: &[u8],

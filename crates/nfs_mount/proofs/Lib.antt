@@ -2,6 +2,7 @@ pub mod BestMatchLemmas
 pub mod NameFrontLemmas
 pub mod MountListLemmas
 pub mod MntLemmas
+pub mod MountPlanLemmas
 pub mod NewExportsLemmas
 pub mod PathPartLemmas
 pub mod ReplaceLemmas

@@ -18,6 +18,7 @@ mod choice;
 mod lists;
 mod mount;
 mod paths;
+pub mod plan;
 mod replace;
 mod unmount;
 

@@ -35,6 +35,14 @@ impl<'a> Names<'a> {
     {
         Names { rest: Some(path) }
     }
+
+    /// How many bytes of the path are left.
+    pub fn left(&self) -> usize {
+        match self.rest {
+            Some(text) => text.len(),
+            None => 0,
+        }
+    }
 }
 
 impl<'a> Iterator for Names<'a> {

@@ -10,3 +10,4 @@ pub mod FittingPageLemmas
 pub mod RemoveLemmas
 pub mod RenameLemmas
 pub mod NamedLocksLemmas
+pub mod NamePlanLemmas

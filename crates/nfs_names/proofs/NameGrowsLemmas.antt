@@ -1,6 +1,5 @@
 -- Where a name more goes: what its maker may ask for is what the call names, by the header that the view shows.
 use Rattle.std.proofs.Common.{◌≡◌, ℕ, suc, List, [], ◌∷◌, ◌++◌, Option, Some, None, option_map, inl, inr, refl, sym, ◌∙◌, ap, subst}
-use Rattle.std.specs.Prelude.{IfSome}
 use Rattle.nfs_wire.specs.declared.attributes.FileType.{FileType}
 use Rattle.nfs_wire.specs.declared.calls.Place.{Place}
 use Rattle.nfs_machine.specs.Handles.{handle_of}
@@ -8,21 +7,19 @@ use Rattle.nfs_machine.specs.declared.handle.Handle.{Handle}
 use Rattle.nfs_objects.proofs.StandsInExportLemmas.{inode-stands}
 use Rattle.nfs_objects.proofs.KnowsLemmas.{Covers, among-behind, among-front, covers-among, covers-both, stops-wider}
 use Rattle.nfs_objects.proofs.KnowsLemmas.{stops-within, turned-stops}
-use Rattle.nfs_objects.specs.Asks.{IsThere, MayAsk}
+use Rattle.nfs_objects.specs.Asks.{IsThere}
 use Rattle.nfs_objects.specs.Calls.{IsAmong, added_at, addresses_of, header_shown, next_places, places_for, usages_of}
 use Rattle.nfs_objects.specs.Knows.{Turns}
 use Rattle.nfs_objects.specs.Stands.{Kept, exports_of, header_in, header_of, inode_in}
-use Rattle.nfs_objects.specs.Values.{DraftValue, ModesValue, ViewValue, known_at, shown_at, written_at}
+use Rattle.nfs_objects.specs.Values.{DraftValue, ViewValue, known_at, shown_at, written_at}
 use Rattle.nfs_objects.specs.declared.address.Addr.{Addr}
 use Rattle.nfs_objects.specs.declared.address.Addr.TheVariants as addresses
 use Rattle.nfs_objects.specs.declared.change.Halt.{Halt}
 use Rattle.nfs_objects.specs.declared.directory.Directory.{Directory}
-use Rattle.nfs_objects.specs.declared.modes.Mode.{Mode}
 use Rattle.nfs_objects.specs.declared.object.Inode.{Inode}
 use Rattle.nfs_objects.specs.declared.object.Object.{Object}
 use Rattle.nfs_objects.specs.declared.object.Object.TheVariants as objects
 use Rattle.nfs_inodes.specs.Entered.{IsNextCookie, grown_at, header_at}
-use Rattle.nfs_inodes.specs.Gathers.{MayWish}
 use Rattle.nfs_inodes.specs.Kinds.{IsShown, kind_at, kind_of}
 use Rattle.nfs_inodes.specs.Known.{HasNumber}
 use Rattle.nfs_inodes.specs.Stops.{StopsAt, StopsMaking, inode_at}
@@ -183,12 +180,3 @@ giving-stops d mid op place n kind cookie halt turns none shown stays has next l
     (covers-added d.view place n (grown_at mid n place.name cookie) has
     (grown-covers d mid n kind place.name cookie none shown stays next lives))
     (turned-stops d mid op (grown_at mid n place.name cookie) 0 halt turns stops)
-
--- ---- what a walk up wishes for
--- may be asked for, whatever is named
-pub wish-asks : (d : DraftValue) (modes : ModesValue) (view : ViewValue) (named : List Addr) (r : Option (Addr × Mode)) →
-    d.modes ≡ modes → d.view ≡ view → IfSome r (MayWish d) → IfSome r (MayAsk modes named view)
-wish-asks d modes view named None held same wish = tt
-wish-asks d modes view named (Some a) held same wish =
-    subst (λ m. MayAsk m named view a) held (subst (λ v. MayAsk d.modes named v a) same
-    (record { unseen = wish.unseen; mode = wish.mode; bounded = inr wish.lives }))

@@ -5,5 +5,6 @@ pub mod Links
 pub mod Lookup
 pub mod Making
 pub mod Pages
+pub mod Plans
 pub mod Removes
 pub mod Renames

@@ -3,8 +3,6 @@ use Rattle.std.specs.Prelude.{◌≡◌, ◌==◌, ◌&&◌, ◌+◌, ◌-◌, �
 use Rattle.std.specs.Prelude.{List, [], Option}
 use Rattle.std.specs.Prelude.{Some, None, IfSome, min, option_map, Result, Ok, Err, if◌then◌else◌}
 use Rattle.nfs_wire.specs.declared.attributes.Time.{Time}
-use Rattle.nfs_wire.specs.declared.calls.NfsCall.{NfsCall}
-use Rattle.nfs_wire.specs.declared.calls.NfsCall.TheVariants as nfs
 use Rattle.nfs_wire.specs.declared.calls.RenameArguments.{RenameArguments}
 use Rattle.nfs_wire.specs.declared.status.NfsStatus.{NfsStatus}
 use Rattle.nfs_wire.specs.declared.status.NfsStatus.TheVariants as status
@@ -16,18 +14,14 @@ use Rattle.nfs_machine.specs.Permission.{ToChange}
 use Rattle.nfs_machine.specs.RemoveSteps.{object_under}
 use Rattle.nfs_machine.specs.RenameSteps.{TellsWithin, rename_end}
 use Rattle.nfs_machine.specs.State.{Content, Living, State}
-use Rattle.nfs_machine.specs.declared.calls.Call.TheVariants as calls
 use Rattle.nfs_machine.specs.declared.context.Ctx.{Ctx}
 use Rattle.nfs_objects.specs.Calls.{locks_at}
 use Rattle.nfs_objects.specs.Drafts.{MayChange}
-use Rattle.nfs_objects.specs.Modes.{modes_of}
 use Rattle.nfs_objects.specs.Stands.{Kept}
-use Rattle.nfs_objects.specs.Values.{DraftValue, ViewValue, new_draft}
+use Rattle.nfs_objects.specs.Values.{DraftValue}
 use Rattle.nfs_objects.specs.declared.address.Addr.{Addr}
 use Rattle.nfs_objects.specs.declared.address.Addr.TheVariants as addresses
-use Rattle.nfs_objects.specs.declared.modes.Mode.{Mode}
 use Rattle.nfs_objects.specs.declared.modes.Mode.TheVariants.{Exclusive}
-use Rattle.nfs_inodes.specs.Gathers.{wish_above}
 use Rattle.nfs_inodes.specs.Kinds.{IsShown}
 use Rattle.nfs_inodes.specs.Known.{IsKnown, Names, content_at, listed, shell, target}
 use Rattle.nfs_inodes.specs.Makes.{link_lost}
@@ -41,12 +35,6 @@ use Rattle.nfs_names.specs.declared.rename.Renaming.{Renaming}
 abbrev pub IsRenameEnd : Ctx → RenameArguments → State → Result (Unit {0} × State) NfsStatus → Type 0
 IsRenameEnd ctx a m end = (is_within : (upper lower : ℕ) → Bool) × TellsWithin m is_within ×
     (rename_end m ctx a is_within ≡ end)
-
--- what a call asks for next on its way up from the directory at a number, of what its view shows: RENAME alone goes up
-abbrev pub wish_next : NfsCall → Ctx → ViewValue → (number : ℕ) → Option (Addr × Mode)
-wish_next (nfs.Rename arguments) ctx view number =
-    wish_above (new_draft ctx view (modes_of (calls.Nfs (nfs.Rename arguments)))) number
-wish_next call ctx view number = None
 
 -- ---- the checks
 -- of both directories, whose entries the rest goes on from

@@ -12,7 +12,6 @@ ghost use Rattle.nfs_objects.specs.Modes.{Suits, modes_of};
 ghost use Rattle.nfs_names.specs.Calls.{is_name_call};
 
 mod checking;
-pub mod climbing;
 mod create;
 mod link;
 mod lookup;
@@ -21,6 +20,7 @@ mod mkdir;
 mod mknod;
 mod over;
 mod page;
+pub mod plan;
 mod readdir;
 mod readdirplus;
 mod remove;

@@ -88,7 +88,7 @@ pub(crate) fn page_in<'d>(
 }
 
 /// The checks of READDIR and READDIRPLUS: where they pass, the rest decides.
-fn listable(ctx: &Ctx, known: &Known, asked: &PageAsked) -> Result<Directory, NfsStatus>
+pub(crate) fn listable(ctx: &Ctx, known: &Known, asked: &PageAsked) -> Result<Directory, NfsStatus>
     ensures known { IfOk result (λ directory. directory.known ≡ known.now) }
     ensures checks { ComesTo (list_checked ctx.now asked.now) known.now result }
 {
@@ -146,7 +146,7 @@ fn cut(entries: Vec<Listed<'_>>) -> Result<Front<'_>, NfsStatus>
 
 impl Budget {
     /// So many entries never fit.
-    fn too_many(&self) -> usize
+    pub(crate) fn too_many(&self) -> usize
         ensures { (entries : List Entry) → result ≤ length entries → fit_of self.now entries ≡ false }
     {
         match *self {

@@ -36,7 +36,7 @@ pub(crate) fn attempt(draft: Draft<'_>, arguments: &ReaddirArguments) -> Result<
     }
 }
 
-fn asked(arguments: &ReaddirArguments) -> PageAsked
+pub(crate) fn asked(arguments: &ReaddirArguments) -> PageAsked
     ensures { result ≡ names_asked arguments.now }
 {
     PageAsked {

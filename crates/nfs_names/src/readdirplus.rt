@@ -38,7 +38,7 @@ pub(crate) fn attempt(draft: Draft<'_>, arguments: &ReaddirplusArguments) -> Res
     }
 }
 
-fn asked(arguments: &ReaddirplusArguments) -> PageAsked
+pub(crate) fn asked(arguments: &ReaddirplusArguments) -> PageAsked
     ensures { result ≡ full_asked arguments.now }
 {
     PageAsked {

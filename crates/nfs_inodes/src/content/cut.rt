@@ -1,6 +1,6 @@
 //! The blocks that go where a file is cut off.
 
-ghost use Rattle.std.specs.Prelude.{◌≡◌, ◌/◌, ◌<◌, ◌≤◌, ◌&&◌, ℕ, [], IsSome, MatchResult};
+ghost use Rattle.std.specs.Prelude.{◌≡◌, ◌/◌, ◌<◌, ◌≤◌, ◌&&◌, ℕ, [], IfErr, IsSome, MatchResult};
 ghost use Rattle.std.specs.Prelude.{OnOk, nat_lt, true};
 ghost use Rattle.nfs_objects.specs.Bits.{has, no_bits};
 ghost use Rattle.nfs_objects.specs.Drafts.{MayChange};
@@ -98,6 +98,20 @@ fn cut_next(
     } else {
         Ok(left)
     }
+}
+
+/// Asks for all data of a file with these map pages: for all of them at once, and then for all blocks.
+///
+/// # Errors
+///
+/// `Need` of that, and `Memory`.
+pub(crate) fn ask_data(draft: &Draft<'_>, number: u64, pages: Bits) -> Result<(), Halt>
+    requires pages { HasPages draft.now number pages }
+    requires stands { StillStands draft.now }
+    ensures { IfErr result (StopsAt draft.now []) }
+{
+    let maps = read_maps(draft, number, pages, 0, pages.end())?;
+    ask_blocks(draft, number, &maps, 0, pages.end(), 0)
 }
 
 /// What the map pages from one on tell, up to another; of one that is not there, of no block.

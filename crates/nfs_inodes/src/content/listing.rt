@@ -244,7 +244,7 @@ fn page_at<'d>(
 }
 
 /// Asks for so many pages of a directory, from this one on.
-fn ask_pages(
+pub(crate) fn ask_pages(
     draft: &Draft<'_>,
     number: u64,
     pages: &PageList,

@@ -1,6 +1,6 @@
 //! Names that come, move and go (RFC 1813, 3.3.8 to 3.3.15). A directory changes once with each maker, so its times do.
 
-ghost use Rattle.std.specs.Prelude.{◌≡◌, [], IfOk, IsSome, MatchResult, OnOk, if◌then◌else◌, option_copied};
+ghost use Rattle.std.specs.Prelude.{◌≡◌, [], IfErr, IfOk, IsSome, MatchResult, OnOk, if◌then◌else◌, option_copied};
 ghost use Rattle.nfs_machine.specs.Attributes.{is_directory};
 ghost use Rattle.nfs_machine.specs.Times.{time_of, touch};
 ghost use Rattle.nfs_objects.specs.Calls.{addresses_of};
@@ -71,6 +71,41 @@ pub(crate) fn ask_loss(
         Some(leaf) => Ok(ask_taken(draft, number, &kept.header.entries, place, leaf, asking)?),
         None => Ok(()),
     }
+}
+
+/// Asks at once for what a directory has to hold besides to lose a name.
+///
+/// # Errors
+///
+/// `Need` of that, and `Memory`.
+pub fn ask_left(draft: &Draft<'_>, directory: &Directory, name: &[u8]) -> Result<(), Halt>
+    requires none { draft.now.writes ≡ [] }
+    requires shown { IsShown draft.now directory.now.known }
+    ensures { IfErr result (StopsAt draft.now (addresses_of draft.now.view directory.now.known.number)) }
+{
+    let mut asking = Asking::new(draft.alloc());
+    ask_loss(draft, directory, name, &mut asking)?;
+    asking.ask()
+}
+
+/// Asks at once for what a directory has to hold to get a name with this cookie.
+///
+/// # Errors
+///
+/// `Need` of that, and `Memory`.
+pub fn ask_given(
+    draft: &Draft<'_>,
+    directory: &Directory,
+    name: &[u8],
+    cookie: u64,
+) -> Result<(), Halt>
+    requires none { draft.now.writes ≡ [] }
+    requires shown { IsShown draft.now directory.now.known }
+    ensures { IfErr result (StopsAt draft.now (grown_at draft.now directory.now.known.number name.now cookie)) }
+{
+    let mut asking = Asking::new(draft.alloc());
+    ask_entry(draft, directory, name, cookie, &mut asking)?;
+    asking.ask()
 }
 
 /// Adds a name to a directory that has it not, last and with this cookie; the directory has so many links then. The
