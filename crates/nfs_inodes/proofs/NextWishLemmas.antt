@@ -1,6 +1,6 @@
 -- What a draft shows tells of what is wanted next: it stands in each store that the draft's view fits.
-use Rattle.std.proofs.Common.{◌≡◌, ◌⊎◌, ℕ, true, List, [], Option, Some, None, IsSome, option_map, inl, inr, refl, sym, ◌∙◌}
-use Rattle.std.proofs.Common.{ap, subst}
+use Rattle.std.proofs.Common.{◌≡◌, ◌⊎◌, ℕ, true, List, [], Option, Some, None, IsSome, option_map, inl, inr, refl}
+use Rattle.std.proofs.Common.{sym, ◌∙◌, ap, subst}
 use Rattle.std.specs.Prelude.{IfSome, MatchOption}
 use Rattle.std.specs.FinMap.{get}
 use Rattle.nfs_machine.proofs.MapChangeLemmas.{find-all}

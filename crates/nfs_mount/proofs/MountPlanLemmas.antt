@@ -30,8 +30,8 @@ table-wanted d a among w lacked = subst (MayAsk d.modes tables d.view) (sym lack
     (record { unseen = unknown-unseen d a lacked.0; mode = refl; bounded = inl among })
 
 -- ---- the draft of a call
-module _ (call : Call) (mount : MountCall) (ctx : Ctx) (view : ViewValue) (d : DraftValue) (is : call ≡ calls.Mount mount)
-    (made : d ≡ new_draft ctx view (modes_of call)) where
+module _ (call : Call) (mount : MountCall) (ctx : Ctx) (view : ViewValue) (d : DraftValue)
+    (is : call ≡ calls.Mount mount) (made : d ≡ new_draft ctx view (modes_of call)) where
   pub begun : d.writes ≡ []
   begun = subst (λ (e : DraftValue). e.writes ≡ []) (sym made) refl
 

@@ -6,7 +6,6 @@
 //! itself or below). A call that lists a directory goes through its pages.
 
 ghost use Rattle.std.specs.Prelude.{◌≡◌, [], IfSome, option_copied, slice_get};
-ghost use Rattle.nfs_wire.specs.declared.calls.NfsCall.{NfsCall as AnyCall};
 ghost use Rattle.nfs_machine.specs.declared.calls.Call.TheVariants as calls;
 ghost use Rattle.nfs_objects.specs.Asks.{IsThere};
 ghost use Rattle.nfs_objects.specs.Begins.{Begins};
