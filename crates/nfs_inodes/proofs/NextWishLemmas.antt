@@ -53,7 +53,7 @@ wished-beside : (d : DraftValue) (a : Addr) → IsSome (known_at d a) ⊎ IsTher
     Lacking d a wish → IfSome wish (MayWish d)
 wished-beside d a (inr there) wish lacking = wished-there d a there wish lacking
 wished-beside d a (inl known) None lacking = tt
-wished-beside d a (inl known) (Some w) lacking = (let no = subst (λ o. IsSome o) lacking.0 known in cc)
+wished-beside d a (inl known) (Some w) lacking = (let never = subst (λ o. IsSome o) lacking.0 known in cc)
 
 -- ---- the part of a name
 module _ (d : DraftValue) (n : ℕ) (i : Inode) (h : Header) (none : d.writes ≡ []) (has : HasInode d n (Some i))
@@ -92,14 +92,14 @@ module _ (d : DraftValue) (n : ℕ) (i : Inode) (h : Header) (none : d.writes �
 
       found : (e : Option Entry) → option_map (λ (f : Entry). f.number) e ≡ Some number →
           (f : Entry) × (e ≡ Some f) × (f.number ≡ number)
-      found None no = cc
+      found None never = cc
       found (Some e) at = (e, refl, (let same : e.number ≡ number = cc in same))
 
       by : (o : Option Living) → get k.state.objects n ≡ o → IsSome (s.at (addresses.Inode number))
       by None none-there =
           let bare : content_at k.state n ≡ Socket =
           ap (λ (x : Option Living). elim x [ None ↦ Socket | Some o ↦ o.content ]) none-there in
-          let no : None ≡ Some number = ap (λ c. under c name) (sym bare) ∙ knows s k w in
+          let never : None ≡ Some number = ap (λ c. under c name) (sym bare) ∙ knows s k w in
           cc
       by (Some o) there =
           let content : content_at k.state n ≡ o.content =

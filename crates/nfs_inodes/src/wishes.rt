@@ -3,7 +3,7 @@
 //! A wish is for an address that the draft lacks, and at which something stands in every store that its view fits.
 //! Where the draft does not show what tells of one, there is none.
 
-ghost use Rattle.std.specs.Prelude.{◌≡◌, ◌⊎◌, ℕ, [], IfSome, IsSome, Some, true};
+ghost use Rattle.std.specs.Prelude.{◌≡◌, [], IfSome, Some};
 ghost use Rattle.nfs_objects.specs.Asks.{Asks, IsThere};
 ghost use Rattle.nfs_objects.specs.Modes.{led_at};
 ghost use Rattle.nfs_inodes.specs.Gathers.{MayWish};
@@ -66,10 +66,10 @@ pub fn leaf_shown(draft: &Draft<'_>, directory: u64, name: &[u8]) -> Option<Leaf
         return None;
     };
     let header = inode.directory()?;
-    match leaf_of(draft, directory, &header.entries, name) {
-        Ok(leaf) => leaf,
-        Err(_) => None,
-    }
+    let Ok(leaf) = leaf_of(draft, directory, &header.entries, name) else {
+        return None;
+    };
+    leaf
 }
 
 /// What stands at an address, where something does.

@@ -36,14 +36,14 @@ wish-wanted call d a wish = record { unseen = wish.unseen; mode = wish.mode; bou
 named-at : (view : ViewValue) (handles : List (List ℕ)) (place n : ℕ) →
     Some n ≡ option_map (λ (h : Handle). h.fileid) (option_and_then handle_of (slice_get handles place)) →
     IsAmong (objects_at view handles) (addresses.Inode n)
-named-at view [] place n is = absurd (let no : Some n ≡ None = is in cc)
+named-at view [] place n is = absurd (let never : Some n ≡ None = is in cc)
 named-at view (other ∷ handles) 0 n is =
     elim (handle_of other) as (λ (o : Option Handle). Some n ≡ option_map (λ (h : Handle). h.fileid) o →
     IsAmong (elim o [
       | None ↦ objects_at view handles
       | Some h ↦ addresses_of view h.fileid ++ usages_of h.export 64 ++ objects_at view handles
     ]) (addresses.Inode n)) [
-      | None ↦ λ e. absurd (let no : Some n ≡ None = e in cc)
+      | None ↦ λ e. absurd (let never : Some n ≡ None = e in cc)
       | Some h ↦ λ e. (let same : n ≡ h.fileid = cc in inl (ap addresses.Inode (sym same)))
     ] is
 named-at view (other ∷ handles) (suc place) n is =

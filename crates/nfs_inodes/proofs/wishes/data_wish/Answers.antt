@@ -8,7 +8,7 @@ use Rattle.nfs_inodes.proofs.wishes.data_wish.Goals as goal
 
 pub ask_data-requires-clause-pages : goal.ask_data-requires-clause-pages
 ask_data-requires-clause-pages c =
-    rw c.pages.ensures (has-pages c.args.draft.now c.args.number c.in-Regular.map.now (record {
+    rw c.pages.ensures (has-pages c.args.draft.now c.args.number c.in-Regular.map (record {
       inode = c.in-Ok-Some.inode.now;
       stands = subst (λ o. HasInode c.args.draft.now c.args.number (option_copied o)) c.in-Ok-Some.field-0-is
           c.in-Ok-Some.ensures.inode;

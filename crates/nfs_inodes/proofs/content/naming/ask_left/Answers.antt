@@ -1,5 +1,4 @@
 use Rattle.std.proofs.Common.{[]}
-use Rattle.std.proofs.lemmas.Result.{err_from_is_err_and}
 use Rattle.nfs_objects.specs.Calls.{addresses_of}
 use Rattle.nfs_inodes.proofs.EntryAsksLemmas.{entering-asking}
 use Rattle.nfs_inodes.proofs.UsageChangeLemmas.{stands-first}
