@@ -1,6 +1,6 @@
 -- What a plan wants next may be asked for.
 use Rattle.std.proofs.Common.{◌≡◌, ℕ, List, [], ◌∷◌, ◌++◌, Option, Some, None, IsSome, inl, inr, refl, sym, ap, subst}
-use Rattle.std.proofs.Common.{option_map, slice_get}
+use Rattle.std.proofs.Common.{option_map, slice_get, suc, zero}
 use Rattle.std.specs.Option.{option_and_then}
 use Rattle.std.specs.Prelude.{IfSome, MatchOption}
 use Rattle.std.specs.declared.alloc.Global.{Global}
@@ -37,7 +37,7 @@ named-at : (view : ViewValue) (handles : List (List ℕ)) (place n : ℕ) →
     Some n ≡ option_map (λ (h : Handle). h.fileid) (option_and_then handle_of (slice_get handles place)) →
     IsAmong (objects_at view handles) (addresses.Inode n)
 named-at view [] place n is = absurd (let never : Some n ≡ None = is in cc)
-named-at view (other ∷ handles) 0 n is =
+named-at view (other ∷ handles) zero n is =
     elim (handle_of other) as (λ (o : Option Handle). Some n ≡ option_map (λ (h : Handle). h.fileid) o →
     IsAmong (elim o [
       | None ↦ objects_at view handles
