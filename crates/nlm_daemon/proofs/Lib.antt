@@ -18,3 +18,4 @@ pub mod NlmStepLemmas
 pub mod NlmAnswerLemmas
 pub mod LockChangeLemmas
 pub mod BucketWishLemmas
+pub mod NlmPlanLemmas

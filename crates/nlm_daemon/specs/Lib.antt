@@ -4,3 +4,4 @@ pub mod Comes
 pub mod Freeing
 pub mod Granted
 pub mod Holders
+pub mod Plans

@@ -103,7 +103,7 @@ fn of_bucket(alloc: Global, index: u8, files: &[LockedFile]) -> Result<Vec<Locke
 }
 
 /// Asks for all buckets that the draft lacks, at once.
-fn ask_buckets(draft: &Draft<'_>) -> Result<(), Halt>
+pub(crate) fn ask_buckets(draft: &Draft<'_>) -> Result<(), Halt>
     ensures { MatchResult result
         (λ _. (index : ℕ) → index < bucket_count → IsSome (known_at draft.now (Addr.Locks index)))
         (StopsAt draft.now (buckets_below bucket_count)) }

@@ -101,7 +101,7 @@ fn answered(draft: &Draft<'_>, cookie: &Bytes) -> Result<Option<Pending>, Halt>
 }
 
 /// The number of the grant whose cookie this is, which has 8 bytes.
-fn number_in(cookie: &Bytes) -> Option<u64>
+pub(crate) fn number_in(cookie: &Bytes) -> Option<u64>
     ensures { MatchOption result (length cookie.now ≡ 8 → ⊥)
         (λ number. (length cookie.now ≡ 8) × (number ≡ from_be_bytes w64 cookie.now) ×
         (grant_cookie number ≡ cookie.now)) }

@@ -21,6 +21,7 @@ mod freeing;
 mod granting;
 mod locking;
 mod passing;
+pub mod plan;
 mod sharing;
 mod testing;
 mod unlocking;

@@ -55,7 +55,7 @@ fn shared(draft: &mut Draft<'_>, arguments: &ShareArguments) -> Result<NlmStatus
 }
 
 /// Whether the access is to write, among other things perhaps.
-fn is_writing(access: ShareAccess) -> bool
+pub(crate) fn is_writing(access: ShareAccess) -> bool
     ensures { result ≡ denies ShareMode.DenyWrite access }
 {
     matches!(access, ShareAccess::Write | ShareAccess::ReadWrite)
