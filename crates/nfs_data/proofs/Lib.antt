@@ -9,3 +9,4 @@ pub mod SetattrLemmas
 pub mod FsstatLemmas
 pub mod AttributeStepLemmas
 pub mod WriteLemmas
+pub mod DataPlanLemmas

@@ -18,6 +18,7 @@ mod commit;
 mod file_systems;
 mod fsstat;
 mod getattr;
+pub mod plan;
 mod read;
 mod readlink;
 mod setattr;

@@ -1,6 +1,6 @@
 //! READ: bytes of a file (RFC 1813, 3.3.6).
 
-ghost use Rattle.std.specs.Prelude.{◌≡◌, IfOk, MatchResult};
+ghost use Rattle.std.specs.Prelude.{◌≡◌, IfErr, IfOk, MatchResult};
 ghost use Rattle.nfs_machine.specs.Attributes.{type_of};
 ghost use Rattle.nfs_machine.specs.DataSteps.{read_object};
 ghost use Rattle.nfs_machine.specs.State.{Content};
@@ -11,6 +11,7 @@ ghost use Rattle.nfs_objects.specs.Knows.{Knows};
 ghost use Rattle.nfs_inodes.specs.Blocks.{read_from};
 ghost use Rattle.nfs_inodes.specs.Known.{IsKnown, object_at, shell};
 ghost use Rattle.nfs_inodes.specs.Stops.{StopsAt};
+ghost use Rattle.nfs_data.specs.Plans.{MayHalt};
 ghost use Rattle.nfs_data.specs.Reads.{read_found};
 
 use nfs_inodes::{File, Known, Right, named, permitted, read, regular};
@@ -30,6 +31,21 @@ pub(crate) fn attempt(draft: Draft<'_>, arguments: &ReadArguments) -> Result<Cha
     };
     let reply = ReadReply { attributes, result };
     Ok(draft.answer(Reply::Nfs(NfsReply::Read(reply))))
+}
+
+/// Asks for the blocks that READ reads, where its checks pass.
+///
+/// # Errors
+///
+/// `Need` of what it lacks, and `Memory`.
+pub(crate) fn ask(draft: &Draft<'_>, arguments: &ReadArguments) -> Result<(), Halt>
+    requires { Begins (calls.Nfs (NfsCall.Read arguments.now)) draft.now }
+    ensures { IfErr result (MayHalt (NfsCall.Read arguments.now) draft.now) }
+{
+    if let Ok(known) = named(draft, arguments.file.as_slice())? {
+        let _found = read_of(draft, &known, arguments)?;
+    }
+    Ok(())
 }
 
 /// What is read of an object, or why nothing is.

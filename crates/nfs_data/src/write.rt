@@ -1,6 +1,6 @@
 //! WRITE: bytes into a file (RFC 1813, 3.3.7).
 
-ghost use Rattle.std.specs.Prelude.{◌≡◌, ◌+◌, ◌==◌, ◌||◌, IfOk, MatchResult, nat_le};
+ghost use Rattle.std.specs.Prelude.{◌≡◌, ◌+◌, ◌==◌, ◌||◌, IfErr, IfOk, MatchResult, nat_le};
 ghost use Rattle.nfs_machine.specs.Attributes.{type_of};
 ghost use Rattle.nfs_machine.specs.Data.{size_limit};
 ghost use Rattle.nfs_machine.specs.DataSteps.{write_count, write_object};
@@ -13,6 +13,7 @@ ghost use Rattle.nfs_objects.specs.Knows.{Does, Knows};
 ghost use Rattle.nfs_inodes.specs.Kinds.{IsShown};
 ghost use Rattle.nfs_inodes.specs.Known.{HasNumber, Names, shell};
 ghost use Rattle.nfs_inodes.specs.Stops.{StopsAt};
+ghost use Rattle.nfs_data.specs.Plans.{MayHalt};
 ghost use Rattle.nfs_data.specs.Writes.{HasRoom, IsWriteEnd, answer_to, write_found};
 
 use nfs_inodes::{
@@ -38,6 +39,21 @@ pub(crate) fn attempt(mut draft: Draft<'_>, arguments: &WriteArguments) -> Resul
     };
     let reply = WriteReply { wcc, result };
     Ok(draft.answer(Reply::Nfs(NfsReply::Write(reply))))
+}
+
+/// Asks for what WRITE has to hold, where its checks pass.
+///
+/// # Errors
+///
+/// `Need` of what it lacks, and `Memory`. The draft is of no use then.
+pub(crate) fn ask(draft: &mut Draft<'_>, arguments: &WriteArguments) -> Result<(), Halt>
+    requires { Begins (calls.Nfs (NfsCall.Write arguments.now)) draft.old }
+    ensures { IfErr result (MayHalt (NfsCall.Write arguments.now) draft.old) }
+{
+    if let Ok(known) = named(draft, arguments.file.as_slice())? {
+        let _written = store(draft, &known, arguments)?;
+    }
+    Ok(())
 }
 
 /// What WRITE answers, and the file after it.

@@ -1,0 +1,84 @@
+//! What READ and WRITE read ahead of their attempts (RFC 1813, 3.3.6 and 3.3.7): their plan, as far as the view tells.
+//!
+//! Behind what its handle names, where its checks pass, READ goes to the blocks of its range, and WRITE to these and to
+//! what it changes with them: all that the attempt asks for there.
+
+ghost use Rattle.std.specs.Prelude.{IfErr, IfSome};
+ghost use Rattle.nfs_machine.specs.declared.calls.Call.TheVariants as calls;
+ghost use Rattle.nfs_objects.specs.Begins.{Begins};
+ghost use Rattle.nfs_objects.specs.Calls.{named_by, new_numbers};
+ghost use Rattle.nfs_objects.specs.Modes.{Suits, modes_of};
+ghost use Rattle.nfs_inodes.specs.Wants.{IsWanted};
+ghost use Rattle.nfs_data.specs.Plans.{MayGoOn, MayHalt};
+
+use crate::{read, write};
+use nfs_inodes::wishes::Want;
+use nfs_machine::{Call, Ctx};
+use nfs_objects::{Draft, Halt, Modes, View};
+use nfs_wire::NfsCall;
+use std::alloc::Global;
+
+/// How far a call is in its plan: what it wants next, if it lacks that.
+#[derive(Clone, Copy)]
+pub enum Plan {
+    /// What its data is in.
+    Data,
+    /// Nothing.
+    Over,
+}
+
+/// What is wanted, and where the plan is once it is taken. None where the plan is over, as far as the view tells.
+type Next = Option<(Want, Plan)>;
+
+/// The plan of a call that takes what its handle names.
+pub fn behind_first(call: &NfsCall) -> Plan {
+    match call {
+        NfsCall::Read(_) | NfsCall::Write(_) => Plan::Data,
+        _ => Plan::Over,
+    }
+}
+
+/// What a call that is there in its plan wants next.
+pub fn next(alloc: Global, call: &Call, ctx: &Ctx, view: &View, plan: Plan) -> Next
+    requires { Suits (modes_of call.now) view.now }
+    ensures { IfSome result (λ next. IsWanted (modes_of call.now) (named_by call.now view.now)
+        (new_numbers call.now view.now) view.now next.0) }
+{
+    let Call::Nfs(nfs) = call else {
+        return None;
+    };
+    match plan {
+        Plan::Data => {
+            let mut draft = Draft::new(alloc, ctx, view, Modes::of(call));
+            go_on(&mut draft, nfs)
+        }
+        Plan::Over => None,
+    }
+}
+
+/// The same of its draft, which is of no use then.
+fn go_on(draft: &mut Draft<'_>, call: &NfsCall) -> Next
+    requires { Begins (calls.Nfs call.now) draft.old }
+    ensures { MayGoOn call.now draft.old result }
+{
+    match ask(draft, call) {
+        Err(Halt::Need(asked)) => Some((Want::Addresses(asked), Plan::Over)),
+        _ => None,
+    }
+}
+
+/// Asks for what the data of a call is in.
+///
+/// # Errors
+///
+/// `Need` of what it lacks, and `Memory`. The draft is of no use then.
+fn ask(draft: &mut Draft<'_>, call: &NfsCall) -> Result<(), Halt>
+    requires { Begins (calls.Nfs call.now) draft.old }
+    ensures { IfErr result (MayHalt call.now draft.old) }
+{
+    match call {
+        NfsCall::Read(arguments) => read::ask(draft, arguments),
+        NfsCall::Write(arguments) => write::ask(draft, arguments),
+        _ => Ok(()),
+    }
+}
