@@ -26,7 +26,7 @@ use Rattle.nfs_schedule.proofs.ViewRoundsLemmas.{grown_none}
 use Rattle.nfs_schedule.specs.Courses.{CoursesAreFew}
 use Rattle.nfs_schedule.specs.Grown.{HasGrown, IsAsking, IsGrown, IsNumbering, ReadsFew}
 use Rattle.nfs_schedule.specs.Order.{executed_by}
-use Rattle.nfs_schedule.specs.declared.course.Course.TheVariants.{Begun, Foreseen, Due, Asked, Above, Numbers}
+use Rattle.nfs_schedule.specs.declared.course.Course.TheVariants.{Begun, Foreseen, Asked, Planned, Numbers}
 use Rattle.nfs_schedule.specs.declared.worker.Worker.{Worker}
 use Rattle.nfs_schedule.specs.declared.worker.Worker.TheVariants.{Idle, Trying, Wanting, Wishing, Ready, Blocked}
 use Rattle.nfs_schedule.specs.declared.worker.Worker.TheVariants.{Failing}
@@ -127,8 +127,8 @@ pub courses-few : CoursesAreFew
 courses-few Begun t unread = few_grown t (grown_none t unread)
 courses-few (Foreseen address mode) t a =
     λ s k fits stands sound formed. few_asking t ((address, mode) ∷ []) s k a fits stands sound formed
-courses-few Due t g = few_grown t g
-courses-few (Asked wanted) t a =
+courses-few (Asked wanted plan) t a =
     λ s k fits stands sound formed. few_asking t (into_iter_items wanted) s k a fits stands sound formed
-courses-few (Above number) t g = few_grown t g
-courses-few (Numbers left) t n = λ s k fits stands sound formed. few_numbering t left s k n fits stands sound formed
+courses-few (Planned plan) t g = few_grown t g
+courses-few (Numbers left plan) t n =
+    λ s k fits stands sound formed. few_numbering t left s k n fits stands sound formed

@@ -13,17 +13,16 @@ use Rattle.nfs_machine.specs.declared.calls.Call.{Call}
 use Rattle.nfs_machine.specs.declared.calls.Call.TheVariants as calls
 use Rattle.nfs_machine.specs.declared.context.Ctx.{Ctx}
 use Rattle.nfs_machine.specs.declared.handle.Handle.{Handle}
-use Rattle.nfs_wire.specs.declared.calls.NfsCall.{NfsCall}
 use Rattle.nfs_wire.specs.declared.calls.Place.{Place}
 use Rattle.nfs_wire.specs.declared.calls.RenameArguments.{RenameArguments}
 use Rattle.nfs_objects.proofs.KnowsLemmas.{names-objects}
 use Rattle.nfs_objects.proofs.NewNumberLemmas.{grown-have-numbers}
 use Rattle.nfs_objects.proofs.ModesSuitLemmas.{grows-suitably, starts-suitably}
-use Rattle.nfs_objects.specs.Asks.{Asks, EachOnce, MayAsk}
+use Rattle.nfs_objects.specs.Asks.{Asks, AsksNumbers, EachOnce, MayAsk}
 use Rattle.nfs_objects.specs.Attempt.{AsksFirst, Attempts}
 use Rattle.nfs_objects.specs.Bound.{Grows, HasNumbers, Round, held, view_after}
 use Rattle.nfs_objects.specs.Fits.{vacant}
-use Rattle.nfs_objects.specs.Calls.{IsAmong, addresses_of, named_by, nfs_handles, objects_at, usages_of}
+use Rattle.nfs_objects.specs.Calls.{IsAmong, addresses_of, named_by, new_numbers, nfs_handles, objects_at, usages_of}
 use Rattle.nfs_objects.specs.Modes.{Suits, is_apart, modes_of, only_reads}
 use Rattle.nfs_objects.specs.Rooms.{with_seen, with_number}
 use Rattle.nfs_objects.specs.Values.{Seen, ViewValue, is_addr, seen_at}
@@ -40,16 +39,18 @@ use Rattle.nfs_schedule.proofs.ReadOrderLemmas.{once_more}
 use Rattle.nfs_schedule.proofs.AsksFewLemmas.{courses-few}
 use Rattle.nfs_schedule.proofs.ViewRoundsLemmas.{asking_all, asking_alone, asking_less, grown_numbers, grown_part}
 use Rattle.nfs_schedule.proofs.ViewRoundsLemmas.{numbering_all, numbering_less}
-use Rattle.nfs_schedule.specs.Courses.{HasReadFew, IsAfterNumber, IsAt, IsBehind, IsFirstOf, IsNextStep, NumbersNext}
+use Rattle.nfs_schedule.specs.Courses.{HasReadFew, IsAfterNumber, IsAt, IsFirstOf, IsNextStep, NumbersNext}
 use Rattle.nfs_schedule.specs.Courses.{TakesNext}
 use Rattle.nfs_schedule.specs.Executions.{HasNumber, HasTaken}
 use Rattle.nfs_schedule.specs.Foreseen.{foreseen, object_in}
 use Rattle.nfs_schedule.specs.Grown.{HasGrown, IsAsking, IsNumbering}
 use Rattle.nfs_schedule.specs.Workers.{IsSuited}
 use Rattle.nfs_schedule.specs.declared.course.Course.{Course}
-use Rattle.nfs_schedule.specs.declared.course.Course.TheVariants.{Begun, Foreseen, Due, Asked, Above, Numbers}
+use Rattle.nfs_schedule.specs.declared.course.Course.TheVariants.{Begun, Foreseen, Asked, Planned, Numbers}
 use Rattle.nfs_schedule.specs.declared.course.NextStep.{NextStep}
 use Rattle.nfs_schedule.specs.declared.course.NextStep.TheVariants.{Acquire}
+use Rattle.nfs_schedule.specs.declared.planning.Plan.{Plan}
+use Rattle.nfs_schedule.specs.declared.planning.Plan.TheVariants.{Over}
 
 -- ---- what has grown in rounds suits its call
 grows_suited : (call : Call) (ctx : Ctx) (rounds : List Round) → Grows call ctx rounds →
@@ -122,43 +123,33 @@ takes_next t a left after asking leads = record {
       leads u (asking_less t u a left o refl asking);
 }
 
--- behind the last address that is left the call may go up
-behind_at : (t : TxnValue) (left : List (Addr × Mode)) (after : Course) → IsBehind left after → IsAsking t left →
-    IsAt after t
-behind_at t left (Asked rest) is asking = subst (λ (l : List (Addr × Mode)). IsAsking t l) (sym is) asking
-behind_at t left (Above number) is asking = grown_part t left asking
-behind_at t left Begun is asking = absurd is
-behind_at t left (Foreseen address mode) is asking = absurd is
-behind_at t left Due is asking = absurd is
-behind_at t left (Numbers count) is asking = absurd is
-
 -- the first of these is next
-first_next : (t : TxnValue) (wanted : List (Addr × Mode)) (next : NextStep) → IsFirstOf wanted (Some next) →
-    IsAsking t wanted → IsNextStep t next
-first_next t [] next first asking = absurd (let no : Some next ≡ None = first in cc)
-first_next t (a ∷ left) next first asking =
-    let step : Some next ≡ Some (Acquire a.0 a.1 first.0) = first.2 in
-    let same : next ≡ Acquire a.0 a.1 first.0 = cc in
+first_next : (t : TxnValue) (wanted : List (Addr × Mode)) (plan : Plan) (next : NextStep) →
+    IsFirstOf wanted plan (Some next) → IsAsking t wanted → IsNextStep t next
+first_next t [] plan next first asking = absurd (let no : Some next ≡ None = first in cc)
+first_next t (a ∷ left) plan next first asking =
+    let step : Some next ≡ Some (Acquire a.0 a.1 (Asked first.0 plan)) = first.2 in
+    let same : next ≡ Acquire a.0 a.1 (Asked first.0 plan) = cc in
     subst (λ (n : NextStep). IsNextStep t n) (sym same)
-    (takes_next t a left first.0 asking (λ u less. behind_at u left first.0 first.1 less))
+    (takes_next t a left (Asked first.0 plan) asking
+    (λ u less. subst (λ (l : List (Addr × Mode)). IsAsking u l) (sym first.1) less))
 
 -- ---- numbers
-number_next : (t : TxnValue) (left : ℕ) (after : Course) → IsNumbering t left → IsAfterNumber left after →
-    NumbersNext t after
-number_next t left (Numbers others) n is = record {
+number_next : (t : TxnValue) (left : ℕ) (plan : Plan) (after : Course) → IsNumbering t left →
+    IsAfterNumber left plan after → NumbersNext t after
+number_next t left plan (Numbers others then) n is = record {
   left = left;
   numbering = n;
   goes_on = λ r. numbering_less t (record t { view = with_number t.view r }) r left refl n others is.0 is.1;
 }
-number_next t left Due n is = record {
+number_next t left plan (Planned then) n is = record {
   left = left;
   numbering = n;
-  goes_on = λ r. grown_numbers t (record t { view = with_number t.view r }) r left refl n is;
+  goes_on = λ r. grown_numbers t (record t { view = with_number t.view r }) r left refl n is.0;
 }
-number_next t left Begun n is = absurd is
-number_next t left (Foreseen address mode) n is = absurd is
-number_next t left (Asked wanted) n is = absurd is
-number_next t left (Above number) n is = absurd is
+number_next t left plan Begun n is = absurd is
+number_next t left plan (Foreseen address mode) n is = absurd is
+number_next t left plan (Asked wanted then) n is = absurd is
 
 -- ---- what is foreseen
 abbrev nothing : ViewValue
@@ -244,52 +235,54 @@ foreseen_next alloc t a unread is = takes_next t (Exports, Shared) (a ∷ []) (F
 
 -- ---- where a call is on its course
 module _ (t : TxnValue) (course : Course) (at : IsAt course t) where
-  pub foreseen_last : (address : Addr) (mode : Mode) → course ≡ Foreseen address mode →
-      TakesNext t (address, mode) Due
-  foreseen_last address mode is =
-      takes_next t (address, mode) [] Due (subst (λ (x : Course). IsAt x t) is at) (λ u less. grown_part u [] less)
+  pub foreseen_last : (address : Addr) (mode : Mode) (plan : Plan) → course ≡ Foreseen address mode →
+      TakesNext t (address, mode) (Planned plan)
+  foreseen_last address mode plan is =
+      takes_next t (address, mode) [] (Planned plan) (subst (λ (x : Course). IsAt x t) is at)
+      (λ u less. grown_part u [] less)
 
-  pub asked_grown : (wanted : IntoIter (Addr × Mode) Global) → course ≡ Asked wanted → HasGrown t
-  asked_grown wanted is = grown_part t (into_iter_items wanted) (subst (λ (x : Course). IsAt x t) is at)
+  pub asked_grown : (wanted : IntoIter (Addr × Mode) Global) (plan : Plan) → course ≡ Asked wanted plan → HasGrown t
+  asked_grown wanted plan is = grown_part t (into_iter_items wanted) (subst (λ (x : Course). IsAt x t) is at)
 
-  pub asked_next : (wanted : IntoIter (Addr × Mode) Global) (next : NextStep) → course ≡ Asked wanted →
-      IsFirstOf (into_iter_items wanted) (Some next) → IsNextStep t next
-  asked_next wanted next is first =
-      first_next t (into_iter_items wanted) next first (subst (λ (x : Course). IsAt x t) is at)
+  pub asked_next : (wanted : IntoIter (Addr × Mode) Global) (plan : Plan) (next : NextStep) →
+      course ≡ Asked wanted plan → IsFirstOf (into_iter_items wanted) plan (Some next) → IsNextStep t next
+  asked_next wanted plan next is first =
+      first_next t (into_iter_items wanted) plan next first (subst (λ (x : Course). IsAt x t) is at)
 
-  pub above_grown : (number : ℕ) → course ≡ Above number → HasGrown t
-  above_grown number is = subst (λ (x : Course). IsAt x t) is at
+  pub planned_grown : (plan : Plan) → course ≡ Planned plan → HasGrown t
+  planned_grown plan is = subst (λ (x : Course). IsAt x t) is at
 
-  pub numbers_next : (left : ℕ) (after : Course) → course ≡ Numbers left → IsAfterNumber left after →
-      NumbersNext t after
-  numbers_next left after is less = number_next t left after (subst (λ (x : Course). IsAt x t) is at) less
+  pub numbers_next : (left : ℕ) (plan : Plan) (after : Course) → course ≡ Numbers left plan →
+      IsAfterNumber left plan after → NumbersNext t after
+  numbers_next left plan after is less = number_next t left plan after (subst (λ (x : Course). IsAt x t) is at) less
 
 -- the first of these, and what is behind it
-pub first_is : (wanted : List (Addr × Mode)) (a : Addr × Mode) (rest : List (Addr × Mode)) (after : Course) →
-    wanted ≡ a ∷ rest → IsBehind rest after → IsFirstOf wanted (Some (Acquire a.0 a.1 after))
-first_is wanted a rest after is behind =
-    subst (λ (l : List (Addr × Mode)). IsFirstOf l (Some (Acquire a.0 a.1 after))) (sym is) (after, behind, refl)
+pub first_is : (wanted : List (Addr × Mode)) (plan : Plan) (a : Addr × Mode) (rest : IntoIter (Addr × Mode) Global) →
+    wanted ≡ a ∷ into_iter_items rest → IsFirstOf wanted plan (Some (Acquire a.0 a.1 (Asked rest plan)))
+first_is wanted plan a rest is =
+    subst (λ (l : List (Addr × Mode)). IsFirstOf l plan (Some (Acquire a.0 a.1 (Asked rest plan)))) (sym is)
+    (rest, refl, refl)
 
 -- ---- an attempt
 module _ (t : TxnValue) (outcome : Outcome) (g : HasGrown t) (attempts : Attempts t.call t.ctx t.view outcome) where
-  pub need_next : (asked : Vec (Addr × Mode) Global) (wanted : List (Addr × Mode)) (next : NextStep) →
+  pub need_next : (asked : Vec (Addr × Mode) Global) (wanted : List (Addr × Mode)) (plan : Plan) (next : NextStep) →
       AsksFirst t.call t.view outcome → outcome ≡ Need asked → wanted ≡ asked.items →
-      IsFirstOf wanted (Some next) → IsNextStep t next
-  need_next asked wanted next first is listed found =
-      first_next t wanted next found (asking_all t wanted g (record {
+      IsFirstOf wanted plan (Some next) → IsNextStep t next
+  need_next asked wanted plan next first is listed found =
+      first_next t wanted plan next found (asking_all t wanted g (record {
         asked = asked;
         attempts = subst (λ (o : Outcome). Attempts t.call t.ctx t.view o) is attempts;
         first = subst (λ (o : Outcome). AsksFirst t.call t.view o) is first;
         whole = sym listed;
       }))
 
-  pub fresh_next : (count : ℕ) (after : Course) → outcome ≡ Fresh count → IsAfterNumber count after →
-      NumbersNext t after
-  fresh_next count after is less =
-      number_next t count after
+  pub fresh_next : (count : ℕ) (plan : Plan) (after : Course) → outcome ≡ Fresh count →
+      IsAfterNumber count plan after → NumbersNext t after
+  fresh_next count plan after is less =
+      number_next t count plan after
       (numbering_all t count g (subst (λ (o : Outcome). Attempts t.call t.ctx t.view o) is attempts)) less
 
--- ---- on the way up
+-- ---- what is planned
 -- an address as a vector
 abbrev alone : Global → (a : Addr × Mode) → Vec (Addr × Mode) Global
 alone alloc a = record {
@@ -302,28 +295,29 @@ alone alloc a = record {
   small = omega arith;
 }
 
--- the call is one of NFS, on the view that it has
-module _ (t : TxnValue) (called : Call) (call : NfsCall) (view : ViewValue) (g : HasGrown t) (is : called ≡ t.call)
-    (names : called ≡ calls.Nfs call) (seen : view ≡ t.view) where
-  pub climb_suited : Suits (modes_of (calls.Nfs call)) view
-  climb_suited =
-      subst (λ (v : ViewValue). Suits (modes_of (calls.Nfs call)) v) (sym seen)
-      (subst (λ (c : Call). Suits (modes_of c) t.view) (sym is ∙ names) (grown_suited t g))
+-- an address that an attempt may ask for is next
+pub planned_next : (alloc : Global) (t : TxnValue) (a : Addr × Mode) (after : Plan) → HasGrown t →
+    MayAsk (modes_of t.call) (named_by t.call t.view) t.view a → TakesNext t a (Planned after)
+planned_next alloc t a after g may =
+    let asks : Asks (modes_of t.call) (named_by t.call t.view) t.view (a ∷ []) = record {
+      some = λ none. cc;
+      once = (tt, tt);
+      each = (may, tt);
+    } in
+    takes_next t a [] (Planned after) (asking_alone t (alone alloc a) (a ∷ []) g asks refl)
+    (λ u less. grown_part u [] less)
 
-  -- an address that an attempt may ask for is next
-  pub climb_next : (alloc : Global) (a : Addr × Mode) (above : ℕ) →
-      MayAsk (modes_of (calls.Nfs call)) (named_by (calls.Nfs call) view) view a → TakesNext t a (Above above)
-  climb_next alloc a above may =
-      let here =
-      subst (λ (c : Call). MayAsk (modes_of c) (named_by c t.view) t.view a) (sym names ∙ is)
-      (subst (λ (v : ViewValue). MayAsk (modes_of (calls.Nfs call)) (named_by (calls.Nfs call) v) v a) seen may) in
-      let asks : Asks (modes_of t.call) (named_by t.call t.view) t.view (a ∷ []) = record {
-        some = λ none. cc;
-        once = (tt, tt);
-        each = (here, tt);
-      } in
-      takes_next t a [] (Above above) (asking_alone t (alone alloc a) (a ∷ []) g asks refl)
-      (λ u less. grown_part u [] less)
+-- so is the first of several for which it may ask at once
+pub planned_first : (t : TxnValue) (asked : Vec (Addr × Mode) Global) (wanted : List (Addr × Mode)) (plan : Plan)
+    (next : NextStep) → HasGrown t → Asks (modes_of t.call) (named_by t.call t.view) t.view asked.items →
+    wanted ≡ asked.items → IsFirstOf wanted plan (Some next) → IsNextStep t next
+planned_first t asked wanted plan next g asks listed found =
+    first_next t wanted plan next found (asking_alone t asked wanted g asks (sym listed))
+
+-- and a new number, where an attempt may ask for so many
+pub planned_numbers : (t : TxnValue) (count : ℕ) (plan : Plan) (after : Course) → HasGrown t →
+    AsksNumbers (new_numbers t.call t.view) t.view count → IsAfterNumber count plan after → NumbersNext t after
+planned_numbers t count plan after g asks less = number_next t count plan after (numbering_all t count g asks) less
 
 -- ---- a step that was made
 pub taken_on : (t u : TxnValue) (a : Addr × Mode) (o : Option Object) (after : Course) → TakesNext t a after →
@@ -349,4 +343,4 @@ pub unread_once : (t : TxnValue) → t.view ≡ view_after [] → EachOnce (held
 unread_once t unread = subst (λ (v : ViewValue). EachOnce (held v.entries)) (sym unread) tt
 
 pub read_few : (t : TxnValue) → EachOnce (held t.view.entries) → HasGrown t → HasReadFew t
-read_few t once g = record { once = once; few = courses-few Due t g }
+read_few t once g = record { once = once; few = courses-few (Planned Over) t g }

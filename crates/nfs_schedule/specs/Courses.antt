@@ -2,6 +2,8 @@
 use Rattle.std.specs.Prelude.{◌≡◌, ℕ, ◌+◌, ◌<◌, ◌≤◌, List, [], ◌∷◌, length, Option, Some}
 use Rattle.std.specs.Prelude.{None}
 use Rattle.std.specs.Vec.Iter.{into_iter_items}
+use Rattle.std.specs.declared.alloc.Global.{Global}
+use Rattle.std.specs.declared.vec.IntoIter.{IntoIter}
 use Rattle.nfs_machine.specs.WellFormed.{WellFormed}
 use Rattle.nfs_objects.specs.Asks.{EachOnce}
 use Rattle.nfs_objects.specs.Bound.{empty_count, held, view_after}
@@ -20,21 +22,22 @@ use Rattle.nfs_objects.specs.declared.view.Reserved.{Reserved}
 use Rattle.nfs_engine.specs.Calls.{TxnValue}
 use Rattle.nfs_schedule.specs.Grown.{HasGrown, IsAsking, IsNumbering}
 use Rattle.nfs_schedule.specs.declared.course.Course.{Course}
-use Rattle.nfs_schedule.specs.declared.course.Course.TheVariants.{Begun, Foreseen, Due, Asked, Above, Numbers}
+use Rattle.nfs_schedule.specs.declared.course.Course.TheVariants.{Begun, Foreseen, Asked, Planned, Numbers}
 use Rattle.nfs_schedule.specs.declared.course.NextStep.{NextStep}
 use Rattle.nfs_schedule.specs.declared.course.NextStep.TheVariants.{Acquire, Reserve, Commit, Fail}
+use Rattle.nfs_schedule.specs.declared.planning.Plan.{Plan}
+use Rattle.nfs_schedule.specs.declared.planning.Plan.TheVariants.{Over}
 
 -- the call is there: what it has read was given in rounds, and it wants this of what an attempt may ask for
 abbrev pub IsAt : Course → TxnValue → Type 0
 IsAt Begun t = t.view ≡ view_after []
 IsAt (Foreseen address mode) t = IsAsking t ((address, mode) ∷ [])
-IsAt Due t = HasGrown t
-IsAt (Asked wanted) t = IsAsking t (into_iter_items wanted)
-IsAt (Above number) t = HasGrown t
-IsAt (Numbers left) t = IsNumbering t left
+IsAt (Asked wanted plan) t = IsAsking t (into_iter_items wanted)
+IsAt (Planned plan) t = HasGrown t
+IsAt (Numbers left plan) t = IsNumbering t left
 
 -- ---- the next step
--- An attempt asked for this address, and the call has it not. Whatever stands there, the call is there once it has it.
+-- An attempt may ask for this address, and the call has it not. Whatever stands there, the call is there once it has it.
 pub record TakesNext (t : TxnValue) (a : Addr × Mode) (after : Course) : Type 0 where
   pub others : List (Addr × Mode)
   pub asking : IsAsking t (a ∷ others)
@@ -42,7 +45,7 @@ pub record TakesNext (t : TxnValue) (a : Addr × Mode) (after : Course) : Type 0
   pub goes_on : (o : Option Object) →
       IsAt after (record t { view = with_seen t.view (record { address = a.0; mode = a.1; object = o }) })
 
--- an attempt asked for a number, and whatever is given, the call is there once it has it
+-- an attempt may ask for a number, and whatever is given, the call is there once it has it
 pub record NumbersNext (t : TxnValue) (after : Course) : Type 0 where
   pub left : ℕ
   pub numbering : IsNumbering t left
@@ -55,28 +58,24 @@ IsNextStep t (Reserve after) = NumbersNext t after
 IsNextStep t (Commit change) = HasGrown t × IsPromised (done_value t.call t.ctx t.view (change_value change))
 IsNextStep t Fail = HasGrown t
 
--- the step to the first of these, where there is one; behind the last the call may go up ahead of its next attempt
-abbrev pub IsBehind : List (Addr × Mode) → Course → Type 0
-IsBehind others (Asked rest) = into_iter_items rest ≡ others
-IsBehind others (Above number) = others ≡ []
-IsBehind others course = ⊥
+-- the step to the first of these, where there is one; the others come then, and behind them the plan
+abbrev pub IsFirstOf : List (Addr × Mode) → Plan → Option NextStep → Type 0
+IsFirstOf [] plan next = next ≡ None
+IsFirstOf (a ∷ others) plan next = (rest : IntoIter (Addr × Mode) Global) × (into_iter_items rest ≡ others) ×
+    (next ≡ Some (Acquire a.0 a.1 (Asked rest plan)))
 
-abbrev pub IsFirstOf : List (Addr × Mode) → Option NextStep → Type 0
-IsFirstOf [] next = next ≡ None
-IsFirstOf (a ∷ others) next = (after : Course) × IsBehind others after × (next ≡ Some (Acquire a.0 a.1 after))
-
--- where a call is that wanted so many numbers and got one
-abbrev pub IsAfterNumber : (left : ℕ) → Course → Type 0
-IsAfterNumber left (Numbers others) = (1 < left) × (left ≡ others + 1)
-IsAfterNumber left Due = left ≤ 1
-IsAfterNumber left course = ⊥
+-- where a call is that wanted so many numbers and got one, and goes on by the plan
+abbrev pub IsAfterNumber : (left : ℕ) → Plan → Course → Type 0
+IsAfterNumber left plan (Numbers others after) = (1 < left) × (left ≡ others + 1) × (after ≡ plan)
+IsAfterNumber left plan (Planned after) = (left ≤ 1) × (after ≡ plan)
+IsAfterNumber left plan course = ⊥
 
 -- ---- how much is read
 -- of what a call wants there, how much holds nothing in the store; the addresses of new numbers hold nothing
 abbrev pub left_count : Store → Course → ℕ
 left_count s (Foreseen address mode) = empty_count s ((address, mode) ∷ [])
-left_count s (Asked wanted) = empty_count s (into_iter_items wanted)
-left_count s (Numbers left) = left
+left_count s (Asked wanted plan) = empty_count s (into_iter_items wanted)
+left_count s (Numbers left plan) = left
 left_count s course = 0
 
 -- In every sound store that the view fits, what the call has read and what it wants lie among the addresses of the
@@ -93,4 +92,4 @@ CoursesAreFew = (course : Course) (t : TxnValue) → IsAt course t → IsFewAt c
 -- what a call has read is each address once, and few of these hold nothing
 pub record HasReadFew (t : TxnValue) : Type 0 where
   pub once : EachOnce (held t.view.entries)
-  pub few : IsFewAt Due t
+  pub few : IsFewAt (Planned Over) t

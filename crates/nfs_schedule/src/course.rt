@@ -1,18 +1,22 @@
 //! The course of a call: which step comes next, until it is done or there is no memory. It touches no engine: whoever
 //! has the call makes the step that is named, each in its own way.
 
-ghost use Rattle.std.specs.Prelude.{◌≡◌, [], IfOk, IfSome};
+ghost use Rattle.std.specs.Prelude.{◌≡◌, [], IfOk};
 ghost use Rattle.std.specs.Vec.Iter.{into_iter_items};
 ghost use Rattle.nfs_objects.specs.Attempt.{AsksFirst, Attempts};
 ghost use Rattle.nfs_objects.specs.Bound.{view_after};
-ghost use Rattle.nfs_schedule.specs.Courses.{IsAfterNumber, IsAt, IsBehind, IsFirstOf, IsNextStep};
+ghost use Rattle.nfs_objects.specs.Calls.{named_by, new_numbers};
+ghost use Rattle.nfs_objects.specs.Modes.{modes_of};
+ghost use Rattle.nfs_inodes.specs.Wants.{IsWanted};
+ghost use Rattle.nfs_schedule.specs.Courses.{IsAfterNumber, IsAt, IsFirstOf, IsNextStep};
 ghost use Rattle.nfs_schedule.specs.Grown.{HasGrown};
 
 use crate::attempts::attempt;
 use crate::foreseen::foreseen;
+use crate::planning::{Plan, behind_first, first_plan, next_want};
 use nfs_engine::Txn;
+use nfs_inodes::wishes::Want;
 use nfs_machine::Call;
-use nfs_names::climbing::{climbs, next_above};
 use nfs_objects::{Addr, Change, Mode, Outcome};
 use nfs_wire::NfsCall;
 use std::alloc::{AllocError, Global};
@@ -29,14 +33,12 @@ pub enum Course {
     Begun,
     /// It took the exports ahead of its first attempt, and wants this address next.
     Foreseen(Addr, Mode),
-    /// It has to be attempted on what it has read.
-    Due,
-    /// It wants these addresses of those that its attempt asked for, the first one first.
-    Asked(IntoIter<(Addr, Mode)>),
-    /// It took the directory at this number, and goes on with those above it, ahead of its next attempt.
-    Above(u64),
-    /// It wants so many new numbers.
-    Numbers(u32),
+    /// It wants these addresses of those that were asked for, the first one first, and goes on by its plan then.
+    Asked(IntoIter<(Addr, Mode)>, Plan),
+    /// It goes on by its plan, ahead of its next attempt.
+    Planned(Plan),
+    /// It wants so many new numbers, and goes on by its plan then.
+    Numbers(u32, Plan),
 }
 
 /// The next step of a call. Once it is made the call is at what is told with it.
@@ -60,17 +62,15 @@ pub fn next_step(alloc: Global, txn: &Txn, course: Course) -> NextStep
 {
     match course {
         Course::Begun => begin(alloc, txn),
-        Course::Foreseen(address, mode) => NextStep::Acquire(address, mode, Course::Due),
-        Course::Due => consider(alloc, txn),
-        Course::Asked(wanted) => match first_of(txn, wanted) {
+        Course::Foreseen(address, mode) => {
+            NextStep::Acquire(address, mode, Course::Planned(behind_first(txn.call())))
+        }
+        Course::Planned(plan) => go_on(alloc, txn, plan),
+        Course::Asked(wanted, plan) => match first_of(wanted, plan) {
             Some(next) => next,
-            None => consider(alloc, txn),
+            None => go_on(alloc, txn, plan),
         },
-        Course::Above(number) => match climb(alloc, txn, number) {
-            Some(next) => next,
-            None => consider(alloc, txn),
-        },
-        Course::Numbers(left) => NextStep::Reserve(after_number(left)),
+        Course::Numbers(left, plan) => NextStep::Reserve(after_number(left, plan)),
     }
 }
 
@@ -83,7 +83,35 @@ fn begin(alloc: Global, txn: &Txn) -> NextStep
         Some((address, mode)) => {
             NextStep::Acquire(Addr::Exports, Mode::Shared, Course::Foreseen(address, mode))
         }
+        None => go_on(alloc, txn, first_plan(txn.call())),
+    }
+}
+
+/// The next step of a call that goes by its plan: an attempt, where that wants nothing more.
+fn go_on(alloc: Global, txn: &Txn, plan: Plan) -> NextStep
+    requires { HasGrown txn.now }
+    ensures { IsNextStep txn.now result }
+{
+    match next_want(alloc, txn, plan) {
+        Some((want, after)) => take(alloc, txn, want, after),
         None => consider(alloc, txn),
+    }
+}
+
+/// The step to what a call wants by its plan, which is there then.
+fn take(alloc: Global, txn: &Txn, want: Want, after: Plan) -> NextStep
+    requires grown { HasGrown txn.now }
+    requires wanted { IsWanted (modes_of txn.now.call) (named_by txn.now.call txn.now.view)
+        (new_numbers txn.now.call txn.now.view) txn.now.view want }
+    ensures { IsNextStep txn.now result }
+{
+    match want {
+        Want::Address((address, mode)) => NextStep::Acquire(address, mode, Course::Planned(after)),
+        Want::Addresses(asked) => match first_of(asked.into_iter(), after) {
+            Some(next) => next,
+            None => consider(alloc, txn),
+        },
+        Want::Numbers(count) => NextStep::Reserve(after_number(count, after)),
     }
 }
 
@@ -94,11 +122,11 @@ fn consider(alloc: Global, txn: &Txn) -> NextStep
     ensures { IsNextStep txn.now result }
 {
     match attempt_on(alloc, txn) {
-        Ok(Outcome::Need(asked)) => match first_of(txn, asked.into_iter()) {
+        Ok(Outcome::Need(asked)) => match first_of(asked.into_iter(), Plan::Over) {
             Some(next) => next,
             None => unreachable!(),
         },
-        Ok(Outcome::Fresh(count)) => NextStep::Reserve(after_number(count)),
+        Ok(Outcome::Fresh(count)) => NextStep::Reserve(after_number(count, Plan::Over)),
         Ok(Outcome::Done(change)) => commit(alloc, txn, change),
         Err(_) => NextStep::Fail,
     }
@@ -157,57 +185,23 @@ pub(crate) fn attempt_on(alloc: Global, txn: &Txn) -> Result<Outcome, AllocError
 }
 
 /// The step to the first of these addresses, and the others behind it. None where there is no address.
-fn first_of(txn: &Txn, wanted: IntoIter<(Addr, Mode)>) -> Option<NextStep>
-    ensures { IsFirstOf (into_iter_items wanted) result }
+fn first_of(wanted: IntoIter<(Addr, Mode)>, plan: Plan) -> Option<NextStep>
+    ensures { IsFirstOf (into_iter_items wanted) plan result }
 {
     let mut wanted = wanted;
     let Some((address, mode)) = wanted.next() else {
         return None;
     };
-    let after = behind(txn.call(), address, mode, wanted);
-    Some(NextStep::Acquire(address, mode, after))
+    Some(NextStep::Acquire(address, mode, Course::Asked(wanted, plan)))
 }
 
-/// Where a call is that takes this now, and wants the others behind it. Behind the last one, a directory from which it
-/// goes up, those above that are taken next.
-fn behind(call: &Call, address: Addr, mode: Mode, others: IntoIter<(Addr, Mode)>) -> Course
-    ensures { IsBehind (into_iter_items others) result }
-{
-    match climbs_from(call, address, mode) {
-        Some(number) if others.len() == 0 => Course::Above(number),
-        _ => Course::Asked(others),
-    }
-}
-
-/// The number of the directory from which a call goes up, where it takes this now.
-fn climbs_from(call: &Call, address: Addr, mode: Mode) -> Option<u64> {
-    match call {
-        Call::Nfs(call) => climbs(call, address, mode),
-        _ => None,
-    }
-}
-
-/// The step of a call that took the directory at this number to the one above it. None where it has that, or wants it
-/// not.
-fn climb(alloc: Global, txn: &Txn, number: u64) -> Option<NextStep>
-    requires { HasGrown txn.now }
-    ensures { IfSome result (IsNextStep txn.now) }
-{
-    let Call::Nfs(call) = txn.call() else {
-        return None;
-    };
-    let (address, mode) = next_above(alloc, call, txn.ctx(), txn.view(), number)?;
-    let above = climbs(call, address, mode)?;
-    Some(NextStep::Acquire(address, mode, Course::Above(above)))
-}
-
-/// Where a call is that wanted so many new numbers and got one.
-fn after_number(left: u32) -> Course
-    ensures { IsAfterNumber left result }
+/// Where a call is that wanted so many new numbers and got one, and goes on by its plan once it has them all.
+fn after_number(left: u32, plan: Plan) -> Course
+    ensures { IsAfterNumber left plan result }
 {
     if left > 1 {
-        Course::Numbers(left - 1)
+        Course::Numbers(left - 1, plan)
     } else {
-        Course::Due
+        Course::Planned(plan)
     }
 }

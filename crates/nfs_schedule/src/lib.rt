@@ -12,6 +12,7 @@ pub mod driving;
 pub mod executing;
 mod foreseen;
 pub mod laws;
+pub mod planning;
 pub mod resting;
 mod stop;
 pub mod worker;
