@@ -27,7 +27,7 @@ pub enum Plan {
 /// The plan of a call of which nothing is foreseen, from its start.
 pub(crate) fn first_plan(call: &Call) -> Plan {
     match call {
-        Call::Mount(call) => Plan::Mount(mount::first(call)),
+        Call::Mount(_) => Plan::Mount(mount::Plan::Exports),
         _ => Plan::Over,
     }
 }
