@@ -6,11 +6,13 @@ ghost use Rattle.nfs_objects.specs.Modes.{modes_of};
 ghost use Rattle.nfs_inodes.specs.Wants.{IsWanted};
 ghost use Rattle.nfs_schedule.specs.Grown.{HasGrown};
 
+use nfs_data::plan as data;
 use nfs_engine::Txn;
 use nfs_inodes::wishes::Want;
 use nfs_machine::Call;
 use nfs_mount::plan as mount;
 use nfs_names::{is_name_call, plan as names};
+use nlm_daemon::plan as nlm;
 use std::alloc::Global;
 
 /// How far a call is in its plan.
@@ -18,8 +20,12 @@ use std::alloc::Global;
 pub enum Plan {
     /// That of a call of NFS on names.
     Names(names::Plan),
+    /// That of a call of NFS on data.
+    Data(data::Plan),
     /// That of a call of MOUNT.
     Mount(mount::Plan),
+    /// That of a call of NLM.
+    Nlm(nlm::Plan),
     /// Nothing is planned.
     Over,
 }
@@ -28,6 +34,7 @@ pub enum Plan {
 pub(crate) fn first_plan(call: &Call) -> Plan {
     match call {
         Call::Mount(_) => Plan::Mount(mount::Plan::Exports),
+        Call::Nlm(_) => Plan::Nlm(nlm::Plan::Exports),
         _ => Plan::Over,
     }
 }
@@ -36,6 +43,7 @@ pub(crate) fn first_plan(call: &Call) -> Plan {
 pub(crate) fn behind_first(call: &Call) -> Plan {
     match call {
         Call::Nfs(call) if is_name_call(call) => Plan::Names(names::behind_first(call)),
+        Call::Nfs(call) => Plan::Data(data::behind_first(call)),
         _ => Plan::Over,
     }
 }
@@ -52,9 +60,17 @@ pub(crate) fn next_want(alloc: Global, txn: &Txn, at: Plan) -> Option<(Want, Pla
             let (want, after) = names::next(alloc, txn.call(), txn.ctx(), txn.view(), at)?;
             Some((want, Plan::Names(after)))
         }
+        Plan::Data(at) => {
+            let (want, after) = data::next(alloc, txn.call(), txn.ctx(), txn.view(), at)?;
+            Some((want, Plan::Data(after)))
+        }
         Plan::Mount(at) => {
             let (want, after) = mount::next(alloc, txn.call(), txn.ctx(), txn.view(), at)?;
             Some((want, Plan::Mount(after)))
+        }
+        Plan::Nlm(at) => {
+            let (want, after) = nlm::next(alloc, txn.call(), txn.ctx(), txn.view(), at)?;
+            Some((want, Plan::Nlm(after)))
         }
         Plan::Over => None,
     }

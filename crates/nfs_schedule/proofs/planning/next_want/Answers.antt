@@ -6,3 +6,9 @@ next-requires c = lent_suits c.args.txn.now _ _ c.requires c.call.ensures c.view
 
 pub next-requires-in-Mount : goal.next-requires-in-Mount
 next-requires-in-Mount c = lent_suits c.args.txn.now _ _ c.requires c.call-in-Mount.ensures c.view-in-Mount.ensures
+
+pub next-requires-in-Data : goal.next-requires-in-Data
+next-requires-in-Data c = lent_suits c.args.txn.now _ _ c.requires c.call-in-Data.ensures c.view-in-Data.ensures
+
+pub next-requires-in-Nlm : goal.next-requires-in-Nlm
+next-requires-in-Nlm c = lent_suits c.args.txn.now _ _ c.requires c.call-in-Nlm.ensures c.view-in-Nlm.ensures
