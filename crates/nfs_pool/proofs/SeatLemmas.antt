@@ -40,4 +40,6 @@ seat_gains a r same shard last old new parts before after receipt seat is next =
   more = is;
   of_call = subst (λ (x : Arrival). IsReceiptOf x receipt) same next.of_call;
   above = all_under last receipt.number next.above old seat.below;
+  past = next.above;
+  last = refl;
 }

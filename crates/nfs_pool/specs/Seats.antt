@@ -22,7 +22,7 @@ pub record SeatValue : Type 0 where
   -- of which shard its new numbers are
   pub shard : ℕ
   pub receipts : List Receipt
-  -- no receipt's number is above this one
+  -- no receipt's number is above this one, and each that comes is
   pub last : ℕ
 
 -- one part of the ledger, which counts the receipts
@@ -39,12 +39,15 @@ pub record IsReceiptOf (r : Arrival) (receipt : Receipt) : Type 0 where
   pub called : IsCalled r finished.xid finished.done.call finished.done.ctx
   pub made : IsReceipt receipt.number finished receipt
 
--- one receipt more, of the call that came in, above all that were there
+-- one receipt more, of the call that came in, above all that were there and above the seat's last number, which it is
+-- from then on
 pub record Gains (a : ArrivalValue) (old new : SeatValue) : Type 0 where
   pub receipt : Receipt
   pub more : new.receipts ≡ old.receipts ++ receipt ∷ []
   pub of_call : IsReceiptOf a.received receipt
   pub above : AllByRecursion (λ (r : Receipt). r.number < receipt.number) old.receipts
+  pub past : old.last < receipt.number
+  pub last : new.last ≡ receipt.number
 
 -- the answer is the refusal of what came in asks, or nothing where there was no memory for it
 pub record IsDeclined (r : Arrival) (declined : Declined) : Type 0 where

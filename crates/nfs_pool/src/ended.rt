@@ -13,8 +13,7 @@ use std::alloc::Global;
 use std::marker::Model;
 
 /// An era that is over, whose receipts are as many as its records and not yet compared with them. A clause sees what
-/// they tell.
-#[derive(Drop)]
+/// they tell. It has to be spent.
 pub struct Ended {
     era: Era,
     /// The receipts of each seat.

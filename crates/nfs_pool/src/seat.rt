@@ -1,6 +1,6 @@
 //! Who makes calls.
 
-ghost use Rattle.std.specs.Prelude.{◌≡◌, ◌+◌, ◌≤◌, [], length, vec_capacity};
+ghost use Rattle.std.specs.Prelude.{◌≡◌, ◌+◌, ◌≤◌, [], length, max, vec_capacity};
 ghost use Rattle.nfs_pool.specs.Eras.{AreNew, receipts_count, told_by, told_in};
 
 use nfs_engine::{Receipt, SHARDS};
@@ -16,7 +16,7 @@ pub struct Seat<L: Ledger> {
     pub(crate) shard: usize,
     pub(crate) share: Share<L>,
     pub(crate) receipts: Vec<Receipt>,
-    /// The number of its last receipt.
+    /// The number of its last receipt, or a higher one that its next one is to be above.
     pub(crate) last: u64,
 }
 
@@ -51,6 +51,13 @@ impl<L: Ledger> Seat<L> {
         ensures { result.now ≡ self.now.receipts }
     {
         &self.receipts
+    }
+
+    /// The numbers of its next receipts are above this one too.
+    pub fn go_above(&mut self, number: u64)
+        ensures { self.new ≡ record self.old { last = max self.old.last number } }
+    {
+        self.last = self.last.max(number);
     }
 
     /// Gives its part back, and leaves its receipts.

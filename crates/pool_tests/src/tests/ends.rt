@@ -251,8 +251,9 @@ fn stays_without_room<L: Ledger + Naming, R: Runs>(
 ) -> Option<Vec<Seat<L>>> {
     match EraRoom::new(rt.alloc(), 0) {
         Ok(none) => match pool.next_era(rt.alloc(), seats, none) {
-            Ok(ended) => {
-                drop(ended);
+            Ok((ended, seats)) => {
+                drop(ended.let_go());
+                drop(seats);
                 None
             }
             Err((seats, none)) => {
@@ -309,8 +310,8 @@ fn compared<R: Runs>(rt: &R, ended: Ended, before: u64, records: u64) -> Option<
             drop(room);
             None
         }
-        Err(back) => {
-            drop(back);
+        Err((_, ended)) => {
+            drop(ended.let_go());
             None
         }
     }
