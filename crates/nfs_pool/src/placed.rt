@@ -4,7 +4,7 @@ ghost use Rattle.std.specs.Prelude.{◌≡◌, ◌==◌, IfSome, OnErr, map, opt
 ghost use Rattle.nfs_objects.specs.Values.{seen_at, write_value, written_at};
 ghost use Rattle.nfs_objects.specs.declared.address.Addr.{Addr};
 ghost use Rattle.nfs_engine.specs.Apart.{GetsNumber};
-ghost use Rattle.nfs_engine.specs.Engine.{IsNext, freed_more};
+ghost use Rattle.nfs_engine.specs.Engine.{freed_more};
 ghost use Rattle.nfs_engine.specs.Settling.{AreHeldIn, ReplacesWritten, spent_in};
 ghost use Rattle.nfs_engine.specs.Shards.{shard_of, slot_at};
 ghost use Rattle.nfs_engine.specs.Taking.{IsGot};
@@ -12,7 +12,7 @@ ghost use Rattle.nfs_stamps.specs.Marking.{AreMarks, Puts};
 ghost use Rattle.nfs_pool.specs.Marked.{AreMarksIn, AreStampsOf};
 
 use crate::marking::mark_written;
-use nfs_engine::{Committed, Finished, Got, Next, Release, ReserveError, Shard, Txn};
+use nfs_engine::{Committed, Finished, Got, Release, ReserveError, Shard, Txn};
 use nfs_objects::{Addr, Mode};
 use nfs_stamps::{Marks, Naming, Stamp};
 use std::alloc::{AllocError, Global};
@@ -102,10 +102,10 @@ impl<L: Naming> Placed<L> {
         committed.settle_in(shard)
     }
 
-    /// Lets go, in this shard, all that a call that left still holds here.
-    pub(crate) fn release(&mut self, release: Release) -> Next
-        ensures { IsNext (freed_more release self.old.shard.index) result }
+    /// Lets go, in this shard, all that a call that left still holds here. What it has read stays in the release.
+    pub(crate) fn let_go(&mut self, release: Release) -> Release
+        ensures { result ≡ freed_more release self.old.shard.index }
     {
-        release.release_in(&mut self.shard)
+        release.let_go_in(&mut self.shard)
     }
 }

@@ -217,13 +217,14 @@ impl<L: Ledger + Naming> Steps<L> for Pool<L> {
         let Some(index) = release.next_shard() else {
             return release.next();
         };
-        let next = {
+        let left = {
             let mut guard = take(rt, &self.places[index].placed);
             let placed = &mut *guard;
-            placed.release(release)
+            placed.let_go(release)
         };
         self.places[index].released.notify_all();
-        next
+        // Where nothing is held any more what the call has read is dropped here, with no lock held.
+        left.next()
     }
 
     fn give_up<R: Wait>(&self, rt: &R, pending: Pending) -> Refused {
