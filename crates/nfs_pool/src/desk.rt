@@ -1,7 +1,7 @@
 //! What lies under the book's lock.
 
 ghost use Rattle.std.specs.Prelude.{◌≡◌, ◌+◌, ◌<◌, [], IfErr, IfOk, IfSome, OnErr, OnOk, length, option_copied};
-ghost use Rattle.std.specs.Prelude.slice_get;
+ghost use Rattle.std.specs.Prelude.{slice_get};
 ghost use Rattle.std.specs.Bool.{Decides};
 ghost use Rattle.nfs_engine.specs.Book.{Commits, GivesUp, MayCommit, TakesMessage, store_in};
 ghost use Rattle.nfs_engine.specs.Commits.{Leaves};
