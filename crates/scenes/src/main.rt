@@ -6,11 +6,13 @@
 
 mod fault;
 mod groups;
+mod handles;
 mod messages;
 mod numbers;
 mod play;
 mod playing;
 mod posts;
+mod refusal;
 mod scene;
 mod server;
 mod spelling;
@@ -20,6 +22,7 @@ mod world;
 
 use fault::Fault;
 use play::Play;
+use server::MOST_AGAIN;
 use std::io;
 use std::process::ExitCode;
 
@@ -30,13 +33,16 @@ fn main(rt: HostRuntime) -> ExitCode {
     }
 }
 
-/// Whether all scenes are as they must be. Where memory was refused they are played once more, from the first on.
+/// Whether all scenes are as they must be. Where memory was refused they are played again, from the first on.
 fn run<R: AllocGlobal + Input + Print>(rt: &R) -> Result<bool, Fault> {
     let text = io::read_to_string(rt.alloc(), rt.reader())?;
-    let played = match play_once(rt, text.as_str()) {
-        Err(Fault::Memory) => play_once(rt, text.as_str()),
-        played => played,
-    };
+    let mut played = play_once(rt, text.as_str());
+    for _again in 0..MOST_AGAIN {
+        if !matches!(played, Err(Fault::Memory)) {
+            break;
+        }
+        played = play_once(rt, text.as_str());
+    }
     drop(text);
     played
 }
@@ -57,8 +63,11 @@ fn play_all<'a, R: Print>(rt: &R, play: &mut Play<'a>, text: &'a str) -> Result<
         }
     }
     play.end(rt)?;
-    let (kept, broken) = (play.kept, play.broken);
+    let (kept, broken, refused) = (play.kept, play.broken, play.refused);
     println!(rt; "{kept} scenes are as they must be, {broken} are not")?;
+    if refused > 0 {
+        println!(rt; "{refused} records were refused, and sent again")?;
+    }
     Ok(broken == 0)
 }
 

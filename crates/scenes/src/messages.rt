@@ -64,6 +64,17 @@ pub fn joined(alloc: Global, parts: &[&[u8]]) -> Result<Vec<u8>, AllocError> {
     Ok(bytes)
 }
 
+/// How many bytes a string has with its length and its padding, with which these begin (RFC 4506, 4.10 and 4.11).
+pub fn opaque_size(bytes: &[u8]) -> usize {
+    match bytes {
+        [a, b, c, d, ..] => {
+            let length = u32::from_be_bytes([*a, *b, *c, *d]) as usize;
+            length.div_ceil(4).saturating_mul(4).saturating_add(4)
+        }
+        _ => usize::MAX,
+    }
+}
+
 /// Bytes in hexadecimal digits, by words.
 pub fn words_in(alloc: Global, bytes: &[u8]) -> Result<String, AllocError> {
     let mut text = String::new(alloc);

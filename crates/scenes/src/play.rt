@@ -24,6 +24,8 @@ pub struct Play<'a> {
     /// How many scenes were as they must be, and how many were not.
     pub kept: u64,
     pub broken: u64,
+    /// How many records of scenes that bear it were refused for want of memory, and sent again.
+    pub refused: u64,
 }
 
 impl<'a> Play<'a> {
@@ -34,6 +36,7 @@ impl<'a> Play<'a> {
             scene: None,
             kept: 0,
             broken: 0,
+            refused: 0,
         }
     }
 
@@ -87,6 +90,7 @@ impl<'a> Play<'a> {
             None => return Ok(()),
             Some(Begun::Stream(scene)) => {
                 scene.play(rt)?;
+                self.refused = self.refused.wrapping_add(scene.refused());
                 scene.is_kept
             }
             Some(Begun::World(scene)) => scene.play(rt)?,
@@ -130,6 +134,14 @@ fn stream_line<R: Print>(
         "clock" => scene.set_clock(rt, small(rest)?),
         "xid" => {
             scene.set_xid(small(rest)?);
+            Ok(())
+        }
+        "bears" => {
+            scene.bear();
+            Ok(())
+        }
+        "uncut" => {
+            scene.leave_uncut();
             Ok(())
         }
         "again" => scene.repeat(line),

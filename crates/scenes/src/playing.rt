@@ -6,7 +6,7 @@ ghost use Rattle.nfs_schedule.specs.Events.{HasWorker};
 use crate::fault::Fault;
 use crate::messages::words_in;
 use crate::posts::given_post;
-use crate::server::{exports, host_named, new_world};
+use crate::server::{MOST_AGAIN, exports, host_named, new_world};
 use crate::steps::{Counts, Difference, Kind, Move, Step, Wanted};
 use crate::world::{HOST, WorldScene};
 use bytes::Bytes;
@@ -161,17 +161,20 @@ impl<'a> WorldScene<'a> {
         Ok(None)
     }
 
-    /// Makes one move, at a second try where the first is refused and so was not begun.
+    /// Makes one move, at a later try where the first is refused and so was not begun.
     fn make_at_last(
         &self,
         world: &mut World,
         answers: &mut Vec<Answer>,
         what: Move<'a>,
     ) -> Result<(), Fault> {
-        match self.make(world, answers, what) {
-            Err(Fault::Memory) => self.make(world, answers, what),
-            made => made,
+        for _again in 0..MOST_AGAIN {
+            match self.make(world, answers, what) {
+                Err(Fault::Memory) => {}
+                made => return made,
+            }
         }
+        self.make(world, answers, what)
     }
 
     /// Makes one move.

@@ -1,7 +1,7 @@
 //! Messages of the server's own, as a scene tells them: the number, the host, and the call behind its transaction id.
 
 use crate::fault::Fault;
-use crate::messages::{call_message, joined};
+use crate::messages::{call_message, joined, opaque_size};
 use nfs_engine::Posted;
 use nfs_xdr::{Writer, XdrError};
 use side_wire::write_message;
@@ -40,20 +40,9 @@ pub fn wanted_post(alloc: Global, words: &[u8]) -> Result<Vec<u8>, Fault> {
     let Some((number, rest)) = words.split_at_checked(4) else {
         return Err(Fault::Line("a message has a number"));
     };
-    let Some((host, call)) = rest.split_at_checked(string_size(rest)) else {
+    let Some((host, call)) = rest.split_at_checked(opaque_size(rest)) else {
         return Err(Fault::Line("a message has a host"));
     };
     let message = call_message(alloc, &NO_CREDENTIAL, call)?;
     Ok(joined(alloc, &[number, host, number, message.as_slice()])?)
-}
-
-/// How many bytes a string has with its length and its padding (RFC 4506, 4.11).
-fn string_size(words: &[u8]) -> usize {
-    match words {
-        [a, b, c, d, ..] => {
-            let length = u32::from_be_bytes([*a, *b, *c, *d]) as usize;
-            length.div_ceil(4).saturating_mul(4).saturating_add(4)
-        }
-        _ => usize::MAX,
-    }
 }

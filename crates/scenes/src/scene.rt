@@ -1,11 +1,12 @@
 //! A scene: what a new server is sent in one stream or more, and what it must answer.
 
 use crate::fault::Fault;
+use crate::handles::Handles;
 use crate::messages::{USER_0, call_message, is_record, record, success_message, words_in};
 use crate::posts::wanted_post;
 use crate::server::{OPTIONS, Server};
 use crate::stream::{Difference, Stream, part};
-use nfs_server::{Served, StreamFault};
+use nfs_server::Served;
 use std::alloc::Global;
 use std::mem;
 
@@ -20,6 +21,11 @@ pub struct Scene<'a> {
     xid: u32,
     /// The credential of calls.
     caller: Vec<u8>,
+    /// Whether its records are sent one by one, and again where they are refused for want of memory.
+    bears: bool,
+    handles: Handles,
+    /// Whether its records are not sent once more, cut.
+    is_uncut: bool,
     /// Whether all was answered so far as it must be.
     pub is_kept: bool,
 }
@@ -35,8 +41,26 @@ impl<'a> Scene<'a> {
             stream: Stream::new(alloc),
             xid: 0,
             caller,
+            bears: false,
+            handles: Handles::new(alloc),
+            is_uncut: false,
             is_kept: true,
         })
+    }
+
+    /// It bears that a record is refused for want of memory, which is sent again then.
+    pub fn bear(&mut self) {
+        self.bears = true;
+    }
+
+    /// Its records are not sent once more, cut.
+    pub fn leave_uncut(&mut self) {
+        self.is_uncut = true;
+    }
+
+    /// How many records were refused for want of memory.
+    pub fn refused(&self) -> u64 {
+        self.server.refused
     }
 
     /// The server is a new one that has the options of this command line.
@@ -85,17 +109,11 @@ impl<'a> Scene<'a> {
     fn posted<R: Print>(&mut self, rt: &R, line: u64, wanted: &[u8]) -> Result<(), Fault> {
         self.play(rt)?;
         let given = self.server.message(self.alloc)?;
-        if given.as_slice() == wanted {
+        if self.is_as(wanted, &given)? {
             return Ok(());
         }
         self.is_kept = false;
-        let title = self.title;
-        println!(rt; "line {line}: {title}")?;
-        let wanted = words_in(self.alloc, wanted)?;
-        println!(rt; "  must be {wanted}")?;
-        let given = words_in(self.alloc, &given)?;
-        println!(rt; "  is      {given}")?;
-        Ok(())
+        self.tell(rt, line, wanted, &given)
     }
 
     /// What a line does that gives these bytes.
@@ -145,36 +163,89 @@ impl<'a> Scene<'a> {
     /// The server is sent the stream so far, and what it answers is compared.
     pub fn play<R: Print>(&mut self, rt: &R) -> Result<(), Fault> {
         let stream = mem::replace(&mut self.stream, Stream::new(self.alloc));
-        let (written, end) = self.server.answers(self.alloc, &stream.calls);
-        let compared = self.compare(rt, &stream, &written, end);
+        let played = self.play_stream(rt, &stream);
         drop(stream);
-        drop(written);
-        compared
+        played
     }
 
-    fn compare<R: Print>(
+    fn play_stream<R: Print>(&mut self, rt: &R, stream: &Stream) -> Result<(), Fault> {
+        let is_answered = if self.bears {
+            self.answers_singly(rt, stream)?
+        } else {
+            self.answers_whole(rt, stream)?
+        };
+        if !is_answered {
+            self.is_kept = false;
+            return Ok(());
+        }
+        if self.is_uncut {
+            return Ok(());
+        }
+        self.cut(rt, stream)
+    }
+
+    /// Whether the stream is answered as it must be. Tells where it is not.
+    fn answers_whole<R: Print>(&mut self, rt: &R, stream: &Stream) -> Result<bool, Fault> {
+        let (written, end) = self.server.answers(self.alloc, &stream.calls, 0)?;
+        if end == Ok(Served) && written.as_slice() == stream.replies.as_slice() {
+            return Ok(true);
+        }
+        match stream.difference(&written) {
+            Some(Difference { line, start, end }) => {
+                let wanted = part(&stream.replies, start, end);
+                self.tell(rt, line, wanted, part(&written, start, written.len()))?;
+            }
+            None => {
+                let title = self.title;
+                println!(rt; "{title}: there is more, or no good end")?;
+            }
+        }
+        Ok(false)
+    }
+
+    /// Whether each record is answered as it must be, in a stream of its own. Tells which is not.
+    fn answers_singly<R: Print>(&mut self, rt: &R, stream: &Stream) -> Result<bool, Fault> {
+        for number in 0..stream.count() {
+            if !self.answers_record(rt, stream, number)? {
+                return Ok(false);
+            }
+        }
+        Ok(true)
+    }
+
+    /// Whether the record with this number, from 0, is answered as it must be. Tells where it is not.
+    fn answers_record<R: Print>(
         &mut self,
         rt: &R,
         stream: &Stream,
-        written: &[u8],
-        end: Result<Served, StreamFault>,
-    ) -> Result<(), Fault> {
-        if end == Ok(Served) && written == stream.replies.as_slice() {
-            return self.cut(rt, stream);
+        number: usize,
+    ) -> Result<bool, Fault> {
+        let record = self.handles.applied(self.alloc, stream.call(number))?;
+        let Difference { line, start, end } = stream.replies_to(number);
+        let wanted = part(&stream.replies, start, end);
+        let (written, end) = self.server.answers_at_last(self.alloc, &record, wanted.len())?;
+        drop(record);
+        if end == Ok(Served) && self.is_as(wanted, &written)? {
+            return Ok(true);
         }
-        self.is_kept = false;
-        let title = self.title;
-        match stream.difference(written) {
-            Some(difference) => tell(self.alloc, rt, title, difference, stream, written),
-            None => Ok(println!(rt; "{title}: there is more, or no good end")?),
+        self.tell(rt, line, wanted, &written)?;
+        Ok(false)
+    }
+
+    /// Whether what was given is what is wanted. Behind a refusal handles and numbers may be others.
+    fn is_as(&mut self, wanted: &[u8], given: &[u8]) -> Result<bool, Fault> {
+        let is_admitted = self.handles.admit(wanted, given)?;
+        if self.server.refused == 0 {
+            return Ok(wanted == given);
         }
+        Ok(is_admitted)
     }
 
     /// Streams that end within a record of this one have no answer and change nothing.
     fn cut<R: Print>(&mut self, rt: &R, stream: &Stream) -> Result<(), Fault> {
         for number in 0..stream.count() {
             let call = stream.call(number);
-            if is_record(call) && !self.server.leaves_fronts(self.alloc, call) {
+            if is_record(call) && !self.server.leaves_fronts(self.alloc, call)? {
                 self.is_kept = false;
                 let title = self.title;
                 println!(rt;
@@ -184,22 +255,21 @@ impl<'a> Scene<'a> {
         }
         Ok(())
     }
-}
 
-/// Tells what an answer must be, and what it is.
-fn tell<R: Print>(
-    alloc: Global,
-    rt: &R,
-    title: &str,
-    difference: Difference,
-    stream: &Stream,
-    written: &[u8],
-) -> Result<(), Fault> {
-    let Difference { line, start, end } = difference;
-    println!(rt; "line {line}: {title}")?;
-    let wanted = words_in(alloc, part(&stream.replies, start, end))?;
-    println!(rt; "  must be {wanted}")?;
-    let given = words_in(alloc, part(written, start, written.len()))?;
-    println!(rt; "  is      {given}")?;
-    Ok(())
+    /// Tells what an answer of this line must be, and what it is.
+    fn tell<R: Print>(
+        &self,
+        rt: &R,
+        line: u64,
+        wanted: &[u8],
+        given: &[u8],
+    ) -> Result<(), Fault> {
+        let title = self.title;
+        println!(rt; "line {line}: {title}")?;
+        let wanted = words_in(self.alloc, wanted)?;
+        println!(rt; "  must be {wanted}")?;
+        let given = words_in(self.alloc, given)?;
+        println!(rt; "  is      {given}")?;
+        Ok(())
+    }
 }

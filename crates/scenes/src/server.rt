@@ -5,6 +5,7 @@ ghost use Rattle.nfs_schedule.specs.Worlds.{IsAtRest};
 
 use crate::fault::Fault;
 use crate::posts::given_post;
+use crate::refusal::refusal_to;
 use crate::stream::part;
 use bytes::Bytes;
 use nfs_engine::{Config, Engine};
@@ -21,12 +22,20 @@ pub const OPTIONS: &str = "--export /data,rw,* --start 7 --clock 1000 --host 10.
 /// Behind how many of its bytes at most a record is cut, besides before its last.
 const MOST_CUT: usize = 1024;
 
+/// How often at most what was refused for want of memory is tried again.
+pub const MOST_AGAIN: usize = 8;
+
+/// What a server writes for a stream, and how serving that ends.
+pub type Answered = (Vec<u8>, Result<Served, StreamFault>);
+
 /// A server, and the host and the second of the calls that come next.
 #[derive(Drop)]
 pub struct Server {
     engine: Engine,
     host: Host,
     clock: FixedClock,
+    /// How often a record was refused for want of memory.
+    pub refused: u64,
 }
 
 impl Model for Server {
@@ -73,6 +82,7 @@ impl Server {
             engine: opened(alloc, config)?,
             host,
             clock: FixedClock { seconds },
+            refused: 0,
         })
     }
 
@@ -99,14 +109,32 @@ impl Server {
         }
     }
 
-    /// What the server writes for this input, and how serving it ends.
-    pub fn answers(
+    /// What the server writes for this record alone, and how serving it ends: where it is refused for want of memory,
+    /// which changes nothing, it is sent again. The answer is expected to have so many bytes.
+    pub fn answers_at_last(
         &mut self,
         alloc: Global,
-        input: &[u8],
-    ) -> (Vec<u8>, Result<Served, StreamFault>) {
+        record: &[u8],
+        size: usize,
+    ) -> Result<Answered, Fault> {
+        let refusal = refusal_to(alloc, record)?;
+        for _again in 0..MOST_AGAIN {
+            let (written, end) = self.answers(alloc, record, size.max(refusal.len()))?;
+            let is_refused = end == Ok(Served) && written.as_slice() == refusal.as_slice();
+            if !is_refused && !is_unserved(&written, end) {
+                return Ok((written, end));
+            }
+            drop(written);
+            self.refused = self.refused.wrapping_add(1);
+        }
+        drop(refusal);
+        self.answers(alloc, record, size)
+    }
+
+    /// What the server writes for this input, and how serving it ends. So many bytes are written with no want of memory.
+    pub fn answers(&mut self, alloc: Global, input: &[u8], size: usize) -> Result<Answered, Fault> {
         let mut reader = Counted::new(input);
-        let mut writer = Counted::new(Vec::new(alloc));
+        let mut writer = Counted::new(Vec::with_capacity(alloc, size)?);
         let end = serve_stream(
             alloc,
             &mut self.engine,
@@ -115,29 +143,41 @@ impl Server {
             &mut reader,
             &mut writer,
         );
-        (writer.into_inner(), end)
+        Ok((writer.into_inner(), end))
     }
 
     /// Whether a stream that ends within this record, behind any of its first bytes or before its last, has no answer
     /// and changes nothing.
-    pub fn leaves_fronts(&mut self, alloc: Global, record: &[u8]) -> bool {
+    pub fn leaves_fronts(&mut self, alloc: Global, record: &[u8]) -> Result<bool, Fault> {
         let longest = record.len().saturating_sub(1);
         for length in 0..longest.min(MOST_CUT) {
-            if !self.leaves(alloc, part(record, 0, length)) {
-                return false;
+            if !self.leaves(alloc, part(record, 0, length))? {
+                return Ok(false);
             }
         }
         self.leaves(alloc, part(record, 0, longest))
     }
 
     /// Whether a stream of these bytes has no answer and changes nothing.
-    fn leaves(&mut self, alloc: Global, bytes: &[u8]) -> bool {
+    fn leaves(&mut self, alloc: Global, bytes: &[u8]) -> Result<bool, Fault> {
         let size = self.engine.era_size();
-        let (written, end) = self.answers(alloc, bytes);
-        let is_left = written.is_empty() && end == Ok(Served);
-        drop(written);
-        is_left && self.engine.era_size() == size
+        for _again in 0..MOST_AGAIN {
+            let (written, end) = self.answers(alloc, bytes, 0)?;
+            let is_unserved = is_unserved(&written, end);
+            let is_left = written.is_empty() && end == Ok(Served);
+            drop(written);
+            if !is_unserved {
+                return Ok(is_left && self.engine.era_size() == size);
+            }
+            self.refused = self.refused.wrapping_add(1);
+        }
+        Ok(false)
     }
+}
+
+/// Whether a stream of one record ended for want of memory, with no answer.
+fn is_unserved(written: &[u8], end: Result<Served, StreamFault>) -> bool {
+    end == Err(StreamFault::Memory) && written.is_empty()
 }
 
 /// A world of two workers on a new engine, with the options of this command line.
@@ -146,6 +186,7 @@ pub fn new_world(alloc: Global, line: &str) -> Result<World, Fault> {
         engine,
         host,
         clock: _,
+        refused: _,
     } = Server::new(alloc, line)?;
     drop(host);
     match World::new(alloc, engine, 2) {

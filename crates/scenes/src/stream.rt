@@ -17,13 +17,19 @@ pub struct Difference {
     pub end: usize,
 }
 
+/// Where a call begins, and where its replies do.
+#[derive(Clone, Copy)]
+struct Start {
+    call: usize,
+    reply: usize,
+}
+
 /// What a server is sent, and what it must answer.
 #[derive(Drop)]
 pub struct Stream {
     pub calls: Vec<u8>,
     pub replies: Vec<u8>,
-    /// Where each call begins.
-    starts: Vec<usize>,
+    starts: Vec<Start>,
     /// The parts of the replies.
     rows: Vec<Row>,
     /// Where the last reply begins.
@@ -43,7 +49,8 @@ impl Stream {
 
     /// These bytes are sent.
     pub fn send(&mut self, bytes: &[u8]) -> Result<(), AllocError> {
-        self.starts.push(self.calls.len())?;
+        let start = self.end();
+        self.starts.push(start)?;
         self.calls.extend_from_slice(bytes)
     }
 
@@ -58,8 +65,8 @@ impl Stream {
 
     /// What was sent last is sent again, and has the same answer again.
     pub fn repeat(&mut self, alloc: Global, line: u64) -> Result<(), AllocError> {
-        let start = self.starts.last().copied().unwrap_or(0);
-        let call = copy_from(alloc, &self.calls, start)?;
+        let start = self.starts.last().copied().unwrap_or(self.end());
+        let call = copy_from(alloc, &self.calls, start.call)?;
         self.send(&call)?;
         let reply = copy_from(alloc, &self.replies, self.last_reply)?;
         self.receive(line, &reply)
@@ -72,13 +79,34 @@ impl Stream {
 
     /// The call with this number, from 0.
     pub fn call(&self, number: usize) -> &[u8] {
-        let start = self.start_of(number);
-        part(&self.calls, start, self.start_of(number.wrapping_add(1)))
+        let next = self.start_of(number.wrapping_add(1));
+        part(&self.calls, self.start_of(number).call, next.call)
     }
 
-    /// Where the call with this number begins, or the end of the calls.
-    fn start_of(&self, number: usize) -> usize {
-        self.starts.get(number).copied().unwrap_or(self.calls.len())
+    /// Where its replies stand, and the line that gave the last of them.
+    pub fn replies_to(&self, number: usize) -> Difference {
+        let start = self.start_of(number).reply;
+        let end = self.start_of(number.wrapping_add(1)).reply;
+        let mut line = 0;
+        for row in &self.rows {
+            if row.end == end {
+                line = row.line;
+            }
+        }
+        Difference { line, start, end }
+    }
+
+    /// Where the call with this number begins, or the end.
+    fn start_of(&self, number: usize) -> Start {
+        self.starts.get(number).copied().unwrap_or(self.end())
+    }
+
+    /// Where the next call begins.
+    fn end(&self) -> Start {
+        Start {
+            call: self.calls.len(),
+            reply: self.replies.len(),
+        }
     }
 
     /// The first part of the replies that is not what was written.
