@@ -12,5 +12,6 @@ mod gates;
 mod listings;
 mod pages;
 mod pools;
+mod refusals;
 mod rows;
 mod stamps;

@@ -13,7 +13,7 @@ use std::sync::ledger::Ledger;
 const STEPS: u64 = 100_000;
 
 /// Where the status of a call is in its reply, in bytes from the mark of its fragment on.
-const STATUS: usize = 28;
+pub(super) const STATUS: usize = 28;
 
 /// Where the handle of what a call made is in its reply.
 pub(super) const MADE: usize = 40;
@@ -176,7 +176,7 @@ impl<'a, L: Ledger + Naming, R: Runs> Caller<'a, L, R> {
 }
 
 /// A word of a reply.
-fn word_at(bytes: &[u8], place: usize) -> Option<u32> {
+pub(super) fn word_at(bytes: &[u8], place: usize) -> Option<u32> {
     match bytes.get(place..)? {
         [a, b, c, d, ..] => Some(u32::from_be_bytes([*a, *b, *c, *d])),
         _ => None,

@@ -228,8 +228,7 @@ fn end_in_one_room<L: Ledger + Naming, R: Runs>(
     let Some(seats) = stays_without_room(rt, pool, seats) else {
         return false;
     };
-    let Some((seats, room)) = ends_in(rt, pool, seats, EraRoom::new(rt.alloc(), count), 0, records)
-    else {
+    let Some((seats, room)) = ends_in(rt, pool, seats, room_for(rt, count), 0, records) else {
         return false;
     };
     let mut seats = seats;
@@ -243,13 +242,21 @@ fn end_in_one_room<L: Ledger + Naming, R: Runs>(
     ended && executed == 1
 }
 
+/// Room for so many seats, if need be by a second try.
+fn room_for<R: Runs>(rt: &R, count: usize) -> Result<EraRoom, AllocError> {
+    match EraRoom::new(rt.alloc(), count) {
+        Ok(room) => Ok(room),
+        Err(AllocError) => EraRoom::new(rt.alloc(), count),
+    }
+}
+
 /// The seats, where the era does not end in a room for none.
 fn stays_without_room<L: Ledger + Naming, R: Runs>(
     rt: &R,
     pool: &mut Pool<L>,
     seats: Vec<Seat<L>>,
 ) -> Option<Vec<Seat<L>>> {
-    match EraRoom::new(rt.alloc(), 0) {
+    match room_for(rt, 0) {
         Ok(none) => match pool.next_era(rt.alloc(), seats, none) {
             Ok((ended, seats)) => {
                 drop(ended.let_go());

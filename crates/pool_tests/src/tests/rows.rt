@@ -10,13 +10,13 @@ use std::sync::ledger::Ledger;
 
 pub(super) const X: u32 = 0x78787878;
 
-const Y: u32 = 0x79797979;
+pub(super) const Y: u32 = 0x79797979;
 
 pub(super) const NOENT: Told = Told::Executed(Some(2));
 
 const EXIST: Told = Told::Executed(Some(17));
 
-const STALE: Told = Told::Executed(Some(70));
+pub(super) const STALE: Told = Told::Executed(Some(70));
 
 const BADHANDLE: Told = Told::Executed(Some(10001));
 
@@ -24,10 +24,10 @@ const BADHANDLE: Told = Told::Executed(Some(10001));
 pub(super) const FOUND: usize = 36;
 
 /// Where the links of a file are in the reply to GETATTR.
-const LINKS: usize = 40;
+pub(super) const LINKS: usize = 40;
 
 /// Where they are in the reply to LINK.
-const LINKED: usize = 44;
+pub(super) const LINKED: usize = 44;
 
 /// What a call has to come to.
 #[derive(Clone, Copy)]
@@ -50,7 +50,11 @@ pub(super) enum Want {
 pub(super) type Row = (u32, Ask, Want);
 
 /// Whether the last call came to this; it was told so.
-fn is_met<L: Ledger + Naming, R: Runs>(caller: &mut Caller<L, R>, told: Told, want: Want) -> bool {
+pub(super) fn is_met<L: Ledger + Naming, R: Runs>(
+    caller: &mut Caller<L, R>,
+    told: Told,
+    want: Want,
+) -> bool {
     match want {
         Want::Is(wanted) => told == wanted,
         Want::Makes => told == OK && caller.takes_file(),
