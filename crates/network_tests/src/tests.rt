@@ -6,10 +6,14 @@ ghost use Rattle.std.specs.Prelude.{IfOk};
 ghost use Rattle.nfs_server.specs.CommandLine.{AreWithin};
 
 mod answers;
+mod bursts;
 mod callbacks;
 mod clients;
+mod crowds;
 mod eras;
 mod hosts;
+mod left;
+mod names;
 mod operators;
 mod sockets;
 mod waits;

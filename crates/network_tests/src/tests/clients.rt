@@ -1,14 +1,18 @@
 //! What clients do.
 
+use crate::tests::bursts::{are_answered_together, are_in_order};
 use crate::tests::callbacks::is_called_back;
+use crate::tests::crowds::all_play;
 use crate::tests::hosts::{are_called_back, is_passed_over, is_told_beside};
+use crate::tests::left::are_done;
 use crate::tests::operators::is_operated;
 use crate::tests::waits::are_given_up;
 use std::alloc::{AllocError, Global};
 use std::io;
-use std::io::{Read, Write};
+use std::io::{ErrorKind, Read, Write};
 use std::net::{Net, Shutdown, SocketAddr, TcpListener, TcpStream, UdpSocket};
 use std::rt::Clock;
+use std::thread::Threads;
 use std::time::Duration;
 
 /// How long a client waits for an answer, in seconds.
@@ -16,6 +20,9 @@ pub(super) const PATIENCE: u64 = 20;
 
 /// The most bytes of an answer.
 pub(super) const MOST: usize = 512;
+
+/// The most bytes of a record that comes.
+const LONGEST: u32 = 131_072;
 
 /// A word of an answer over a connection that may be any: RFC 1813 leaves open which number and generation a new object
 /// has.
@@ -29,6 +36,14 @@ pub(super) type Exchange = (&'static [u32], &'static [u32]);
 pub(super) enum Visit {
     /// These exchanges over a connection.
     Connection(&'static [Exchange]),
+    /// The same, where their calls are sent at once.
+    Together(&'static [Exchange]),
+    /// Two hundred calls that are sent at once, with long answers among theirs.
+    Burst,
+    /// Four clients at once, who change one directory; and one behind them, who looks at it.
+    Crowd,
+    /// Clients who leave before they are answered, beside one who stays.
+    Left,
     /// These exchanges by datagrams, which have no marks; then it opens a connection and closes it.
     Datagrams(&'static [Exchange]),
     /// A connection that is closed when the answer to this call has come and is not read; and one over which the call
@@ -58,17 +73,18 @@ pub(super) enum Visit {
 
 impl Visit {
     /// Whether all is answered as it should be.
-    pub(super) fn is_well<R: AllocGlobal + Clock + Net<Listener = TcpListener, Stream = TcpStream>>(
-        self,
-        rt: &R,
-        tcp: Option<SocketAddr>,
-        udp: Option<SocketAddr>,
-    ) -> bool {
+    pub(super) fn is_well<
+        R: AllocGlobal + Clock + Threads + Sync + Net<Listener = TcpListener, Stream = TcpStream>,
+    >(self, rt: &R, tcp: Option<SocketAddr>, udp: Option<SocketAddr>) -> bool {
         let Some(tcp) = tcp else {
             return false;
         };
         let well = match self {
             Visit::Connection(exchanges) => exchange_all(rt, tcp, exchanges),
+            Visit::Together(exchanges) => are_answered_together(rt, tcp, exchanges),
+            Visit::Burst => are_in_order(rt, tcp),
+            Visit::Crowd => all_play(rt, tcp),
+            Visit::Left => are_done(rt, tcp),
             Visit::Datagrams(exchanges) => exchange_datagrams(rt, tcp, udp, exchanges),
             Visit::Lost(call, then) => lose(rt, tcp, call, then),
             Visit::Refused(exchange) => open_beside(rt, tcp, exchange, &[], false),
@@ -119,11 +135,30 @@ pub(crate) fn send(alloc: Global, stream: &TcpStream, words: &[u32]) -> io::Resu
 
 /// Whether this answer is what comes next over a connection.
 pub(crate) fn is_next(alloc: Global, stream: &TcpStream, answer: &[u32]) -> io::Result<bool> {
-    let mut stream = stream;
     let answer = spelled(alloc, answer)?;
+    is_next_of(alloc, stream, &answer)
+}
+
+/// The same of an answer's bytes.
+pub(crate) fn is_next_of(alloc: Global, stream: &TcpStream, answer: &[u8]) -> io::Result<bool> {
+    let mut stream = stream;
     let mut told = Vec::from_elem(alloc, 0u8, answer.len())?;
     stream.read_exact(told.as_mut_slice())?;
-    Ok(are_like(&told, &answer))
+    Ok(are_like(&told, answer))
+}
+
+/// The next record over a connection, of one fragment, without its mark.
+pub(crate) fn next_record(alloc: Global, stream: &TcpStream) -> io::Result<Vec<u8>> {
+    let mut stream = stream;
+    let mut mark = [0u8; 4];
+    stream.read_exact(&mut mark)?;
+    let size = u32::from_be_bytes(mark) & 0x7fff_ffff;
+    if size > LONGEST {
+        return Err(io::Error::from(ErrorKind::InvalidData));
+    }
+    let mut record = Vec::from_elem(alloc, 0u8, size as usize)?;
+    stream.read_exact(record.as_mut_slice())?;
+    Ok(record)
 }
 
 /// Whether each word is told that is wanted.
