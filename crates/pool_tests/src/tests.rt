@@ -15,3 +15,4 @@ mod pools;
 mod refusals;
 mod rows;
 mod stamps;
+mod wakes;

@@ -23,20 +23,20 @@ use std::time::Duration;
 const TURNS: u32 = 10_000;
 
 /// Whose call is held up: a file that it made is in the shard of this number.
-const HELD: u32 = 3;
+pub(super) const HELD: u32 = 3;
 
 /// Whose call goes on.
-const FREE: u32 = 4;
+pub(super) const FREE: u32 = 4;
 
 /// Whose call waits for the root alone.
-const ALONE: u32 = 1;
+pub(super) const ALONE: u32 = 1;
 
 /// How many calls share the root meanwhile.
 const SHARING: u32 = 10;
 
 /// Where a call is held up.
 #[derive(Clone, Copy, PartialEq, Eq)]
-enum Place {
+pub(super) enum Place {
     /// Before its commit, with no lock held.
     BeforeCommit,
     /// In the hold of this shard.
@@ -45,7 +45,7 @@ enum Place {
 
 /// By what the call that is held up is made.
 #[derive(Clone, Copy)]
-enum Way {
+pub(super) enum Way {
     Submitted,
     /// By the pool's steps, counted.
     Counted,
@@ -53,15 +53,15 @@ enum Way {
 
 /// How far both calls have come.
 #[derive(Drop)]
-struct Meeting {
+pub(super) struct Meeting {
     /// 1 once the first call is held up.
     held: AtomicU64,
     /// 1 once the second call is answered.
-    answered: AtomicU64,
+    pub(super) answered: AtomicU64,
     /// 1 where the first call was let go before.
     late: AtomicU64,
     /// 1 once a call that is counted waits for an address.
-    waits: AtomicU64,
+    pub(super) waits: AtomicU64,
     /// Of the first call, where its steps are counted.
     acquired: AtomicU64,
     committed: AtomicU64,
@@ -85,7 +85,7 @@ impl Meeting {
     }
 }
 
-fn count(word: &AtomicU64) -> u64 {
+pub(super) fn count(word: &AtomicU64) -> u64 {
     word.load(Ordering::SeqCst)
 }
 
@@ -94,7 +94,7 @@ fn copy(from: &AtomicU64, to: &AtomicU64) {
 }
 
 /// Waits until this is 1; no where it takes too long.
-fn comes<R: Runs>(rt: &R, word: &AtomicU64) -> bool {
+pub(super) fn comes<R: Runs>(rt: &R, word: &AtomicU64) -> bool {
     for _turn in 0..TURNS {
         if count(word) == 1 {
             return true;
@@ -216,15 +216,15 @@ impl<'a, L: Ledger + Naming> Steps<L> for Counting<'a, L> {
 /// Two callers make a file each. Then a call of the first is held up at a place until a call of the second is
 /// answered.
 #[derive(Drop)]
-struct HeldUp {
+pub(super) struct HeldUp {
     way: Way,
     place: Place,
     ask: Ask,
-    meeting: Meeting,
+    pub(super) meeting: Meeting,
 }
 
 impl HeldUp {
-    fn new(way: Way, place: Place, ask: Ask) -> HeldUp {
+    pub(super) fn new(way: Way, place: Place, ask: Ask) -> HeldUp {
         HeldUp {
             way,
             place,
@@ -234,7 +234,7 @@ impl HeldUp {
     }
 
     /// Makes the call that is held up.
-    fn call_held<L: Ledger + Naming, R: Runs>(&self, caller: &mut Caller<L, R>) -> Told {
+    pub(super) fn call_held<L: Ledger + Naming, R: Runs>(&self, caller: &mut Caller<L, R>) -> Told {
         let Ok(arrival) = caller.arrival(3, self.ask) else {
             return Told::Refused;
         };
@@ -258,6 +258,27 @@ impl HeldUp {
                 run_call(caller.rt, alloc, &steps, &gate, &mut *caller.seat, arrival)
             }
         };
+        caller.told(sent)
+    }
+
+    /// Makes a call that waits for the root alone, which the one that is held up shares.
+    pub(super) fn call_alone<L: Ledger + Naming, R: Runs>(
+        &self,
+        caller: &mut Caller<L, R>,
+    ) -> Told {
+        let meeting = &self.meeting;
+        if !comes(caller.rt, &meeting.held) {
+            return Told::Other;
+        }
+        let Ok(arrival) = caller.arrival(1, Ask::Create(X)) else {
+            return Told::Refused;
+        };
+        let steps = Counting {
+            pool: caller.pool,
+            meeting,
+        };
+        let alloc = caller.rt.alloc();
+        let sent = run_call(caller.rt, alloc, &steps, &Open, &mut *caller.seat, arrival);
         caller.told(sent)
     }
 
@@ -309,24 +330,6 @@ struct Beside {
 }
 
 impl Beside {
-    /// Makes the call that waits.
-    fn call_alone<L: Ledger + Naming, R: Runs>(&self, caller: &mut Caller<L, R>) -> Told {
-        let meeting = &self.held.meeting;
-        if !comes(caller.rt, &meeting.held) {
-            return Told::Other;
-        }
-        let Ok(arrival) = caller.arrival(1, Ask::Create(X)) else {
-            return Told::Refused;
-        };
-        let steps = Counting {
-            pool: caller.pool,
-            meeting,
-        };
-        let alloc = caller.rt.alloc();
-        let sent = run_call(caller.rt, alloc, &steps, &Open, &mut *caller.seat, arrival);
-        caller.told(sent)
-    }
-
     /// Makes the calls that are answered meanwhile. How many of them are.
     fn call_sharing<L: Ledger + Naming, R: Runs>(&self, caller: &mut Caller<L, R>) -> u64 {
         let meeting = &self.held.meeting;
@@ -350,7 +353,7 @@ impl Part for Beside {
         let told = if number == HELD {
             self.held.call_held(caller)
         } else if number == ALONE {
-            self.call_alone(caller)
+            self.held.call_alone(caller)
         } else {
             return 0;
         };
