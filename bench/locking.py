@@ -4,7 +4,8 @@ import struct
 import threading
 
 NLM = 100021
-TEST, LOCK, CANCEL, UNLOCK, GRANTED, GRANTED_RES, SHARE, UNSHARE, NM_LOCK, FREE_ALL = 1, 2, 3, 4, 5, 15, 20, 21, 22, 23
+TEST, LOCK, CANCEL, UNLOCK, GRANTED, TEST_MSG, GRANTED_RES = 1, 2, 3, 4, 5, 6, 15
+SHARE, UNSHARE, NM_LOCK, FREE_ALL = 20, 21, 22, 23
 IS_GRANTED, IS_DENIED, IS_BLOCKED = 0, 1, 3
 COOKIE = struct.pack(">II", 4, 0xC00C1E00)
 STATUS = 24 + len(COOKIE)  # where a reply without its mark has the status of NLM
@@ -20,17 +21,20 @@ def opaque(text):
     return struct.pack(">I", len(text)) + text + bytes(-len(text) % 4)
 
 
-def lock(handle, who, offset, length):
-    """A lock as the caller of this number names it (nlm4_lock). The handle has its length."""
-    return opaque(b"c%d" % who) + handle + opaque(struct.pack(">I", who)) + struct.pack(">iQQ", who, offset, length)
+def lock(handle, who, offset, length, owner=4):
+    """A lock as the caller of this number names it (nlm4_lock), with an owner of so many bytes. The handle has its
+    length."""
+    owner = opaque(struct.pack(">I", who).ljust(owner, b"o"))
+    return opaque(b"c%d" % who) + handle + owner + struct.pack(">iQQ", who, offset, length)
 
 
-def locking(xid, handle, who, offset, length, exclusive=True, block=False):
-    return call(xid, LOCK, COOKIE + struct.pack(">II", block, exclusive) + lock(handle, who, offset, length) + bytes(8))
+def locking(xid, handle, who, offset, length, exclusive=True, block=False, owner=4):
+    asked = COOKIE + struct.pack(">II", block, exclusive)
+    return call(xid, LOCK, asked + lock(handle, who, offset, length, owner) + bytes(8))
 
 
-def unlocking(xid, handle, who, offset, length):
-    return call(xid, UNLOCK, COOKIE + lock(handle, who, offset, length))
+def unlocking(xid, handle, who, offset, length, owner=4):
+    return call(xid, UNLOCK, COOKIE + lock(handle, who, offset, length, owner))
 
 
 def canceling(xid, handle, who, offset, length, exclusive=True):
@@ -39,6 +43,11 @@ def canceling(xid, handle, who, offset, length, exclusive=True):
 
 def testing(xid, handle, who, offset, length, exclusive=True):
     return call(xid, TEST, COOKIE + struct.pack(">I", exclusive) + lock(handle, who, offset, length))
+
+
+def testing_by_message(xid, handle, who, cookie):
+    """TEST_MSG, with a cookie of its own, whose result is a call of the server's."""
+    return call(xid, TEST_MSG, opaque(cookie) + struct.pack(">I", True) + lock(handle, who, 0, 1))
 
 
 def freeing(xid, who):

@@ -2,18 +2,20 @@
 """Measures what one peer can do to others: a fixed list of hostile and of large uses, each over TCP with a server of
 its own. For each it prints what a call takes of a processor, and how long a GETATTR of another client waits beside
 it: the median and the longest, in milliseconds. With a second program it prints the same of that one in further
-columns.
+columns. Behind them stand the bounds of the call and of the longest wait, and whether the first program keeps them and
+loses nothing; the last line tells how many lines are beyond their bounds.
 
 The other client is a process of its own and another host (127.0.0.2). It asks for the root's attributes, one call
 after the other with a millisecond between; those of its calls count that were in progress while the use was. What
 they take of a processor by themselves is told first for each use, and taken off. Where making what a use is about
 takes longer than --patience, the use is measured with what was made by then, and the line says so.
 
-Names that are chosen to lie in one part of a directory are not among the uses: they can't be found without the server's
-own hash. Other work on the machine makes all of it dearer: compare what stands in one line. A dash stands where no call
-of the other client was in progress.
+Names that lie in one part of a directory are found by flood.c, which gcc compiles. Other work on the machine makes all
+of it dearer: compare what stands in one line, and where it is allowed take --priority, with which all this runs before
+other work. Even then a thread that computes lets others wait for up to 100 ms where no processor is free. A dash stands
+where no call of the other client was in progress.
 
-usage: bench/others.py [--only WORD] [--quick] [--rounds N] [--seconds S] [--patience S] [PROGRAM [OTHER]]
+usage: bench/others.py [--only WORD] [--quick] [--priority] [--rounds N] [--seconds S] [--patience S] [PROGRAM [OTHER]]
 """
 import collections
 import concurrent.futures
@@ -21,28 +23,46 @@ import contextlib
 import itertools
 import math
 import multiprocessing
+import os
+import pathlib
+import resource
+import signal
+import socket
 import statistics
 import struct
+import subprocess
 import sys
+import tempfile
 import time
 
 import data
+import full
 import locking
 import mounts
 import network
 import nfsd
+import turns
 
+HERE = pathlib.Path(__file__).resolve().parent
 NEIGHBOUR = "127.0.0.2"  # the other client
 PACE = 0.001  # seconds between its calls
 SETTLE = 0.2  # seconds for which its calls are measured alone
 BATCH = 200  # calls that are sent at once while a use is prepared
-READDIR = 16
+READDIR, READDIRPLUS = 16, 17
 GIBIBYTE, BLOCK = 1 << 30, 4096
 LOADED, LOADERS = 48, 2  # the connections that load the server, and the processes that hold them
 PIECE = 16  # calls that are sent at once while they are measured
 FEW = 50  # the last of those that wait, which are counted
 SHORT = 100  # the records of an era where one call is long, so that an era ends meanwhile
 LATE = 12  # a client that is not let in by then gives up
+ARENAS = "MALLOC_ARENA_MAX"  # for how many threads the C library keeps memory apart
+CALL, WAIT = 20.0, 25.0  # the bounds of a call, and of the longest wait beside it, in milliseconds
+LONG = 1024  # the bytes of a long owner of a lock
+TESTERS = 4  # the peers that test locks at once
+DEAF = 64  # READs of 64 KiB that a peer asks who takes no answer
+MARGIN = 16 << 20  # the address space that a server gets whose memory is filled then
+LISTENERS = []  # where hosts are called back, for as long as this runs
+PART_BITS = 11  # the parts of a bucket of 10,000 names are told apart by so many bits
 
 
 def root(xid):
@@ -115,6 +135,7 @@ class Tally:
 
     def __init__(self):
         self.calls, self.used, self.waits = 0, 0.0, []
+        self.lost = 0  # what was refused to the end, or closed
 
     def cells(self):
         """The milliseconds of a processor for a call, and the median and the longest wait."""
@@ -213,20 +234,60 @@ def getattrs(peer):
     return [peer.repeat(turn)]
 
 
-def locks(others):
+def held(peer, others, owner):
+    """A file of which two others have so many ranges, by owners of so many bytes."""
+    file = peer.connection.make(b"file")
+    ranges = (locking.locking(next(peer.xids), file, 2 + n % 2, 2 * n, 1, owner=owner) for n in range(others))
+    peer.prepare(ranges, locking.STATUS)
+    return file
+
+
+def locks(others, owner=4):
     """LOCK and UNLOCK of a free range of a file of which others have so many."""
 
     def play(peer):
-        file = peer.connection.make(b"file")
-        held = (locking.locking(next(peer.xids), file, 2 + n % 2, 2 * n, 1) for n in range(others))
-        peer.prepare(held, locking.STATUS)
+        file = held(peer, others, owner)
 
         def turn():
             for make in (locking.locking, locking.unlocking):
-                peer.ask(make(next(peer.xids), file, 1, 2 * others + 10, 5))
+                peer.ask(make(next(peer.xids), file, 1, 2 * others + 10, 5, owner=owner))
             return 2
 
         return [peer.repeat(turn)]
+
+    return play
+
+
+def tests(others):
+    """TESTs of some peers at once, of a file of which others have so many ranges by long owners."""
+
+    def play(peer):
+        file = held(peer, others, LONG)
+        record = locking.testing(1, file, 1, 2 * (others - 1), 1)
+        size = PIECE * (4 + len(peer.ask(record)))
+        return [loaded(peer, TESTERS, TESTERS, PIECE * record, size)]
+
+    return play
+
+
+def message(xid, file, number):
+    """TEST_MSG with a cookie of 1 KiB."""
+    return locking.testing_by_message(xid, file, 1, bytes(1020) + struct.pack(">I", number))
+
+
+def messages(count):
+    """TEST_MSGs, so many, of a host that is called back and never answers."""
+
+    def play(peer):
+        file = peer.connection.make(b"file")
+        with peer.counted() as tally:
+            for first in range(0, count, BATCH):
+                cookies = range(first, min(first + BATCH, count))
+                records = [message(next(peer.xids), file, number) for number in cookies]
+                peer.connection.answer(b"".join(records), len(records) * 28)
+                tally.calls += len(records)
+        peer.notes.append(f"{peer.server.resident() / 1e6:,.0f} MB then")
+        return [tally]
 
     return play
 
@@ -271,13 +332,13 @@ def spelled():
             yield b"/" * front + b"data" + b"/" * (length - 4 - front)
 
 
-def mounted(count):
+def mounted(count, paths=spelled):
     """MNT beside so many mounts, and DUMP of them."""
 
     def play(peer):
-        paths = itertools.islice(spelled(), count)
-        made = peer.prepare(mounts.named(next(peer.xids), mounts.MNT, path) for path in paths)
-        again = itertools.cycle(itertools.islice(spelled(), made))
+        few = itertools.islice(paths(), count)
+        made = peer.prepare(mounts.named(next(peer.xids), mounts.MNT, path) for path in few)
+        again = itertools.cycle(itertools.islice(paths(), made))
 
         def turn():
             peer.ask(mounts.named(next(peer.xids), mounts.MNT, next(again)))
@@ -309,20 +370,69 @@ def deep_mount(depth):
 
 
 def thin(pages):
-    """READDIR of a directory of which so many pages keep one name each."""
+    """READDIR and READDIRPLUS of a directory of which so many pages keep one name each."""
 
     def play(peer):
         names = [b"name%08d" % number for number in range(64 * pages)]
         peer.prepare(nfsd.create(next(peer.xids), name) for name in names)
         peer.prepare(nfsd.remove(next(peer.xids), name) for place, name in enumerate(names) if place % 64)
+        begin = nfsd.ROOT + bytes(16)
 
-        def turn():
-            peer.ask(nfsd.call(next(peer.xids), READDIR, nfsd.ROOT + struct.pack(">QQI", 0, 0, 65_536)))
+        def turn(procedure, *bounds):
+            peer.ask(nfsd.call(next(peer.xids), procedure, begin + struct.pack(f">{len(bounds)}I", *bounds)))
             return 1
 
-        return [peer.repeat(turn)]
+        return [
+            peer.repeat(lambda: turn(READDIR, 65_536)),
+            peer.repeat(lambda: turn(READDIRPLUS, 65_536, 65_536)),
+        ]
 
     return play
+
+
+def made_and_removed(peer, names):
+    """CREATE and REMOVE of these names in turn."""
+    names = itertools.cycle(names)
+
+    def turn():
+        name = next(names)
+        for make in (nfsd.create, nfsd.remove):
+            assert network.status(peer.ask(make(next(peer.xids), name))) == 0, "it is made, and removed"
+        return 2
+
+    return peer.repeat(turn)
+
+
+def changes(peer):
+    """CREATE and REMOVE in a directory that has no other name."""
+    return [made_and_removed(peer, [b"file"])]
+
+
+def flood(count):
+    """CREATE and REMOVE, and LOOKUP, among so many names that lie in one part of a directory."""
+
+    def play(peer):
+        names = in_one_part(count + 1)
+        peer.prepare(nfsd.create(next(peer.xids), name) for name in names[1:])
+        known = itertools.cycle(names[1:])
+
+        def turn():
+            peer.ask(nfsd.lookup(next(peer.xids), next(known)))
+            return 1
+
+        return [made_and_removed(peer, names[:1]), peer.repeat(turn)]
+
+    return play
+
+
+def in_one_part(count):
+    """So many names that lie in one part of a directory."""
+    with tempfile.TemporaryDirectory() as folder:
+        made = pathlib.Path(folder) / "flood"
+        if subprocess.run(["gcc", "-std=gnu99", "-O2", "-o", made, HERE / "flood.c"]).returncode != 0:
+            sys.exit("others: gcc does not compile flood.c")
+        told = subprocess.run([made, str(count), str(PART_BITS)], stdout=subprocess.PIPE, check=True)
+    return told.stdout.split()
 
 
 def loses(blocks, ends):
@@ -362,40 +472,164 @@ def deep_rename(depth):
     return play
 
 
-def load(port, connections, until):
-    """GETATTRs of the root over so many connections, until then. How many."""
+def load(port, connections, piece, size, seconds):
+    """Sends these PIECE calls over so many connections, again and again, for so long. Their replies have this length in
+    all. How many."""
     connections = [network.Connection(port) for _ in range(connections)]
-    piece = b"".join(root(xid) for xid in range(PIECE))
+    until = time.monotonic() + seconds
     calls = 0
     while time.monotonic() < until:
         for connection in connections:
             connection.socket.sendall(piece)
         for connection in connections:
-            connection.answer(b"", PIECE * nfsd.SHOWN)
+            connection.answer(b"", size)
         calls += PIECE * len(connections)
     return calls
 
 
+def loaded(peer, connections, loaders, piece, size):
+    """What is counted of so many connections, of so many processes, over which these calls are sent all the while."""
+    with concurrent.futures.ProcessPoolExecutor(loaders) as processes, peer.counted() as tally:
+        words = (load, peer.server.port, connections // loaders, piece, size, 2 * peer.given.seconds)
+        loads = [processes.submit(*words) for _ in range(loaders)]
+        tally.calls = sum(each.result() for each in loads)
+    return tally
+
+
 def crowd(peer):
     """Many connections that ask for the root's attributes."""
-    with concurrent.futures.ProcessPoolExecutor(LOADERS) as processes, peer.counted() as tally:
-        until = time.monotonic() + 2 * peer.given.seconds
-        loads = [processes.submit(load, peer.server.port, LOADED // LOADERS, until) for _ in range(LOADERS)]
-        tally.calls = sum(each.result() for each in loads)
-    return [tally]
+    piece = b"".join(root(xid) for xid in range(PIECE))
+    return [loaded(peer, LOADED, LOADERS, piece, PIECE * nfsd.SHOWN)]
 
 
-def reads(peer):
-    """READs of 64 KiB, many at once."""
+def filled(peer):
+    """A file of 64 KiB."""
     file = peer.connection.make(b"file")
     peer.prepare([data.write(file, next(peer.xids), 0, bytes(65_536))])
+    return file
+
+
+def reading(peer, file):
+    """What is counted of READs of 64 KiB, many at once."""
 
     def turn():
         records = b"".join(data.read(file, next(peer.xids), 0, 65_536) for _ in range(PIECE))
         peer.connection.answer(records, PIECE * (data.DATA + 65_536))
         return PIECE
 
+    return peer.repeat(turn)
+
+
+def reads(peer):
+    return [reading(peer, filled(peer))]
+
+
+def writes(peer):
+    """WRITEs of 64 KiB."""
+    file = filled(peer)
+
+    def turn():
+        peer.ask(data.write(file, next(peer.xids), 0, bytes(65_536)))
+        return 1
+
     return [peer.repeat(turn)]
+
+
+def deaf(count):
+    """READs of 64 KiB beside so many peers that ask for such and take no answer."""
+
+    def play(peer):
+        file = filled(peer)
+        peers = [network.Connection(peer.server.port) for _ in range(count)]
+        for each in peers:
+            each.socket.sendall(b"".join(data.read(file, xid, 0, 65_536) for xid in range(DEAF)))
+        tally = reading(peer, file)
+        for each in peers:
+            each.socket.close()
+        return [tally]
+
+    return play
+
+
+def stopped(count):
+    """The program is stopped for a while and goes on, beside so many connections over which nothing comes."""
+
+    def play(peer):
+        idle = [network.Connection(peer.server.port) for _ in range(count)]
+        for connection in idle:
+            connection.ask(root(next(peer.xids)))
+        peer.server.process.send_signal(signal.SIGSTOP)
+        time.sleep(SETTLE)
+        peer.server.process.send_signal(signal.SIGCONT)
+        with peer.counted() as tally:
+            tally.lost = sum(not is_answered(connection, root(next(peer.xids))) for connection in idle)
+            time.sleep(SETTLE)
+            tally.calls = count
+        peer.notes.append(f"{tally.lost} of {count} were closed")
+        return [tally]
+
+    return play
+
+
+def is_answered(connection, record):
+    try:
+        connection.ask(record)
+    except OSError:
+        return False
+    return True
+
+
+def status_of(peer, record):
+    """The status of a call. A connection that the server closes for want of memory is opened anew, and the call was
+    refused."""
+    try:
+        return full.status(peer.ask(record))
+    except OSError:
+        peer.connection.socket.close()
+        peer.connection = network.Connection(peer.server.port)
+        return full.REFUSED
+
+
+def fill(peer):
+    """The names of empty files that are made until so many calls in turn are refused, or patience ends."""
+    until = time.monotonic() + peer.given.patience
+    made, in_turn = [], 0
+    for number in itertools.count():
+        name = b"full%06d" % number
+        is_made = status_of(peer, nfsd.create(next(peer.xids), name)) == 0
+        if is_made:
+            made.append(name)
+        in_turn = 0 if is_made else in_turn + 1
+        if in_turn == full.IN_TURN or time.monotonic() > until:
+            return made
+
+
+def removed_when_full(blocks):
+    """REMOVE of empty files once memory is full, and of a file of so many blocks."""
+
+    def play(peer):
+        file = peer.connection.make(b"file")
+        peer.prepare(data.write(file, next(peer.xids), BLOCK * block, b"xxxx") for block in range(blocks))
+        most = peer.server.resident("VmSize") + MARGIN
+        resource.prlimit(peer.server.process.pid, resource.RLIMIT_AS, (most, most))
+        made = fill(peer)
+        peer.notes.append(f"{len(made):,} empty files were made")
+        return [removing(peer, names, what) for names, what in ((made, "empty"), ([b"file"], "large"))]
+
+    return play
+
+
+def removing(peer, names, what):
+    """What is counted of REMOVEs of these files, which are asked again where they are refused."""
+    with peer.counted() as tally:
+        for _ in range(full.AGAIN):
+            tally.calls += max(1, len(names))
+            names = [name for name in names if status_of(peer, nfsd.remove(next(peer.xids), name)) != 0]
+            if not names:
+                break
+    tally.lost = len(names)
+    peer.notes.append(f"{tally.lost:,} {what} files were kept")
+    return tally
 
 
 def idles(count):
@@ -414,20 +648,32 @@ def idles(count):
 
 
 class Use:
-    """A use: a line for each thing that is counted, how it is played, and the server and the other client for it."""
+    """A use: a line for each thing that is counted, how it is played, the server and the other client for it, and what
+    a call may take and the other client may wait at most, in milliseconds."""
 
-    def __init__(self, lines, play, export="/data,rw,*", era=65_536, asked=root, kind=Asker):
+    def __init__(self, lines, play, export="/data,rw,*", era=65_536, words=(), arenas="", **others):
         self.lines, self.play = lines, play
-        self.export, self.era, self.asked, self.kind = export, era, asked, kind
+        self.export, self.words, self.arenas = export, ["--era", str(era), *words], arenas
+        self.asked, self.kind = others.get("asked", root), others.get("kind", Asker)
+        self.bounds = others.get("bounds", (CALL, WAIT))
 
     def tallies(self, program, given):
         """What was counted of this program, and what there is to say of it."""
-        with network.Server(program, "--era", str(self.era), export=self.export) as server:
+        os.environ.pop(ARENAS, None)
+        if self.arenas:
+            os.environ[ARENAS] = self.arenas
+        with network.Server(program, *self.words, export=self.export) as server:
             peer = Peer(server, self, given)
             try:
                 return self.play(peer), peer.notes
             finally:
                 peer.close()
+
+    def is_within(self, tallies):
+        """Whether what a call took, and the longest wait, are within their bounds, and nothing was lost."""
+        call, wait = self.bounds
+        took, _, waited = over(tallies)
+        return not (took > call or waited > wait or any(tally.lost for tally in tallies))
 
 
 def hosts(count):
@@ -436,27 +682,77 @@ def hosts(count):
     return ",".join(["/data", "rw", *others, "127.0.0.1", NEIGHBOUR])
 
 
-def uses(part):
-    """All uses, or with this part of their sizes."""
+def silent():
+    """The option by which this host is called back where it takes connections and never answers."""
+    listener = socket.create_server(("127.0.0.1", 0), backlog=64)
+    LISTENERS.append(listener)
+    return f"--callback=127.0.0.1=127.0.0.1:{listener.getsockname()[1]}"
+
+
+def uses_of_exports(part):
     yield Use(["GETATTR, one host in the export"], getattrs)
     yield Use([f"GETATTR, {1024 // part:,} hosts in the export"], getattrs, export=hosts(1024 // part))
-    for others in (1, 8_000 // part, 20_000 // part):
+
+
+def uses_of_locks(part):
+    yield Use(["LOCK or UNLOCK beside 1 range of others"], locks(1))
+    for others in (4_000 // part, 20_000 // part):
         yield Use([f"LOCK or UNLOCK beside {others:,} ranges of others"], locks(others))
+    for others in (2_000 // part, 8_000 // part):
+        yield Use([f"LOCK or UNLOCK beside {others:,}, owners of {LONG:,} bytes"], locks(others, LONG))
+    others = 8_000 // part
+    yield Use([f"TEST of {TESTERS} peers beside {others:,} such ranges"], tests(others))
     for count in (3_000 // part, 10_000 // part):
         yield Use([f"LOCK that waits beside {count:,}", f"UNLOCK that grants {count:,}"], waits(count), era=SHORT)
     yield Use([f"FREE_ALL of {5_000 // part:,} files"], frees(5_000 // part), era=SHORT)
+    count = 40_000 // part
+    line = f"TEST_MSG, {count:,} for a host that never answers"
+    yield Use([line], messages(count), era=1_000, words=[silent()])
+
+
+def uses_of_mounts(part):
     for count in (20_000 // part, 65_536 // part):
         yield Use([f"MNT beside {count:,} mounts", f"DUMP of {count:,} mounts"], mounted(count))
+    for count in (1_000 // part, 8_000 // part, 65_536 // part):
+        lines = [f"MNT beside {count:,} of 900 bytes", f"DUMP of {count:,} of 900 bytes"]
+        yield Use(lines, mounted(count, mounts.paths))
     yield Use([f"MNT of a path of {509 // part} names"], deep_mount(509 // part))
-    yield Use([f"READDIR of {2_800 // part:,} names, one in a page"], thin(2_800 // part))
-    blocks = GIBIBYTE // BLOCK // part
-    for told, ends in (("REMOVE", removes), ("cut", cuts)):
-        yield Use([f"{told} of {blocks * BLOCK >> 20:,} MiB in {blocks:,} blocks"], loses(blocks, ends), era=SHORT)
+
+
+def uses_of_names(part):
+    yield Use(["CREATE or REMOVE"], changes)
+    names = 2_800 // part
+    yield Use([f"READDIR of {names:,} names, one in a page", f"READDIRPLUS of {names:,} such names"], thin(names))
+    names = 10_000 // part
+    lines = [f"CREATE or REMOVE among {names:,} names of one part", f"LOOKUP among {names:,} names of one part"]
+    yield Use(lines, flood(names))
     yield Use([f"RENAME of a directory to a depth of {4_000 // part:,}"], deep_rename(4_000 // part))
+
+
+def uses_of_data(part):
     yield Use(["READ of 64 KiB, 16 at once"], reads)
+    yield Use(["WRITE of 64 KiB"], writes)
+    for blocks, bounds in ((65_536 // part, (CALL, WAIT)), (GIBIBYTE // BLOCK // part, (math.inf, math.inf))):
+        for told, ends in (("REMOVE", removes), ("cut", cuts)):
+            line = f"{told} of {blocks * BLOCK >> 20:,} MiB in {blocks:,} blocks"
+            yield Use([line], loses(blocks, ends), era=SHORT, bounds=bounds)
+    blocks = 65_536 // part
+    lines = ["REMOVE of empty files, memory is full", f"REMOVE of {blocks:,} blocks, memory is full"]
+    yield Use(lines, removed_when_full(blocks), era=SHORT, arenas="1")
+
+
+def uses_of_connections(_):
     yield Use([f"GETATTR over {LOADED} connections"], crowd)
     yield Use(["the same, and SETATTR of the root waits"], crowd, asked=nfsd.touch)
     yield Use(["64 idle connections, and a client comes"], idles(64), kind=Comer)
+    yield Use(["5 idle connections, stopped and continued"], stopped(5))
+    yield Use(["READ of 64 KiB beside 80 peers that read nothing"], deaf(80), words=["--connections", "128"])
+
+
+def uses(part):
+    """All uses, or with this part of their sizes."""
+    for some in (uses_of_exports, uses_of_locks, uses_of_mounts, uses_of_names, uses_of_data, uses_of_connections):
+        yield from some(part)
 
 
 def milliseconds(figure):
@@ -468,17 +764,23 @@ def milliseconds(figure):
     return f"{figure:,.3f}" if figure < 10 else f"{figure:,.1f}" if figure < 1000 else f"{figure:,.0f}"
 
 
-def print_line(line, cells, notes=()):
-    """A line of the table: three cells for each program."""
+def print_line(line, cells, bounds, notes=()):
+    """A line of the table: three cells for each program, and what stands of bounds."""
     cells = list(cells)
     groups = [" ".join(f"{cell:>9}" for cell in cells[first : first + 3]) for first in range(0, len(cells), 3)]
-    print("   ".join([f"{line:48}", *groups, *notes]), flush=True)
+    print("   ".join([f"{line:50}", *groups, bounds, *notes]), flush=True)
+
+
+def bound(figure):
+    """A bound, if there is one."""
+    return "-" if math.isinf(figure) else f"{figure:g}"
 
 
 def options(words):
     """What the command line says, of which a script's own parser may take more."""
     words.add_argument("--only", metavar="WORD", default="", help="only those uses in whose lines this word is")
     words.add_argument("--quick", action="store_true", help="with a tenth of the sizes, for a try")
+    words.add_argument("--priority", action="store_true", help="all run before other work, where that is allowed")
     words.add_argument("--rounds", metavar="N", type=int, default=1, help="how often each use is played (1)")
     words.add_argument("--seconds", metavar="S", type=float, help="how long calls are made again (1; quick: 0.3)")
     words.add_argument("--patience", metavar="S", type=float, default=60, help="how long a use is made at most (60)")
@@ -488,6 +790,8 @@ def options(words):
     given.seconds = given.seconds or (0.3 if given.quick else 1.0)
     if len(given.programs) > 2:
         words.error("there are two programs at most")
+    if given.priority and not turns.take_priority(1):
+        words.error("real-time priority is not allowed here")
     if given.seconds <= 0 or given.patience <= 0 or given.rounds < 1:
         words.error("a time has no length, or there is no round")
     return given
@@ -508,15 +812,24 @@ def measure(given, uses):
         print(f"{letter}: {program}")
     print("milliseconds: of a processor for a call; that another client's GETATTR waits, in the median and at most\n")
     letters = "AB"[: len(given.programs)]
-    print_line("", [f"{letter}: {cell}" for letter in letters for cell in ("a call", "waits", "most")])
-    for use in chosen:
-        rounds = [[use.tallies(program, given) for program in given.programs] for _ in range(given.rounds)]
-        played = list(zip(*rounds))
-        for place, line in enumerate(use.lines):
-            cells = [over([tallies[place] for tallies, _ in of_one]) for of_one in played]
-            said = [sorted({note for _, notes in of_one for note in notes}) for of_one in played]
-            notes = [f"({letter}: {'; '.join(of_one)})" for letter, of_one in zip("AB", said) if of_one]
-            print_line(line, map(milliseconds, itertools.chain(*cells)), notes)
+    heads = [f"{letter}: {cell}" for letter in letters for cell in ("a call", "waits", "most")]
+    print_line("", heads, "A: bounds")
+    held = [is_within for use in chosen for is_within in shown(use, given)]
+    print(f"\nof {len(held)} lines {held.count(False)} are beyond their bounds (A)")
+
+
+def shown(use, given):
+    """Lets the programs take turns at a use, prints its lines, and tells of each whether the first keeps its bounds."""
+    rounds = [[use.tallies(program, given) for program in given.programs] for _ in range(given.rounds)]
+    played = list(zip(*rounds))
+    for place, line in enumerate(use.lines):
+        of_line = [[tallies[place] for tallies, _ in of_one] for of_one in played]
+        said = [sorted({note for _, notes in of_one for note in notes}) for of_one in played]
+        notes = [f"({letter}: {'; '.join(of_one)})" for letter, of_one in zip("AB", said) if of_one]
+        is_within = use.is_within(of_line[0])
+        bounds = f"{' '.join(f'{bound(each):>3}' for each in use.bounds)} {'holds ' if is_within else 'BEYOND'}"
+        print_line(line, map(milliseconds, itertools.chain(*map(over, of_line))), bounds, notes)
+        yield is_within
 
 
 if __name__ == "__main__":
