@@ -9,3 +9,4 @@ pub mod ReadsOnLemmas
 pub mod SeatLemmas
 pub mod ShownEntryLemmas
 pub mod OpeningMarksLemmas
+pub mod TakenReceiptsLemmas

@@ -19,7 +19,7 @@ Rise [] = Unit {0}
 Rise (x ∷ xs) = AllByRecursion (λ (y : ℕ × Record). x.0 ≤ y.0) xs × Rise xs
 
 -- they are above this one
-abbrev Above : ℕ → List (ℕ × Record) → Type 0
+abbrev pub Above : ℕ → List (ℕ × Record) → Type 0
 Above n xs = AllByRecursion (λ (x : ℕ × Record). n < x.0) xs
 
 -- what these weigh together
@@ -57,7 +57,7 @@ above-lower m n [] h all = tt
 above-lower m n (x ∷ xs) h all = (omega (arith, h, all.0), above-lower m n xs h all.1)
 
 -- what is told behind a number is above it
-told-above : (n before : ℕ) (records : List Record) (ys : List (ℕ × Record)) → n ≤ before →
+pub told-above : (n before : ℕ) (records : List Record) (ys : List (ℕ × Record)) → n ≤ before →
     AreTold before records ys → Above n ys
 told-above n before [] [] h are = tt
 told-above n before [] (y ∷ ys) h are = absurd are
@@ -138,7 +138,7 @@ some_same x y same = cc
 none_some : {X : Type 0} (x : X) → None ≡ Some x → ⊥
 none_some x same = cc
 
-begins : (before : ℕ) (records : List Record) (tells : List (ℕ × Record)) → AreTold before records tells →
+pub begins : (before : ℕ) (records : List Record) (tells : List (ℕ × Record)) → AreTold before records tells →
     BeginSo before records tells
 begins before [] tells are place r at =
     absurd (none_some r (sym (slice_get_past [] place (omega arith)) ∙ at))

@@ -1,5 +1,5 @@
 -- The end of an era: the receipts of all seats are its records, each once.
-use Rattle.std.specs.Prelude.{◌≡◌, ℕ, ◌+◌, Bool, true, List, [], ◌∷◌, ◌++◌, length, map}
+use Rattle.std.specs.Prelude.{◌≡◌, ℕ, ◌+◌, Bool, true, false, List, [], ◌∷◌, ◌++◌, length, map}
 use Rattle.std.specs.Prelude.{IsPermutation, Some, slice_get}
 use Rattle.std.specs.List.{AllByRecursion}
 use Rattle.std.specs.declared.alloc.Global.{Global}
@@ -95,6 +95,21 @@ pub record TellAll (before : ℕ) (records : List Record) (receipts : List (ℕ 
   pub tells : List (ℕ × Record)
   pub moved : IsPermutation receipts tells
   pub are : AreTold before records tells
+
+-- ---- receipts in lists
+-- it is told at this place of this list
+abbrev pub IsTellIn : List (Vec Receipt Global) → (index place number : ℕ) → Record → Type 0
+IsTellIn lists index place number r = (list : Vec Receipt Global) × (slice_get lists index ≡ Some list) ×
+    IsToldAt (map told list.items) place number r
+
+-- nowhere
+abbrev pub NoneTells : (number : ℕ) → Record → List (ℕ × Record) → Type 0
+NoneTells number r = AllByRecursion (λ (t : ℕ × Record). IsTold number r t → ⊥)
+
+-- a receipt that tells it is taken out, where there is one
+abbrev pub TakesTold : (number : ℕ) → Record → (old new : List (ℕ × Record)) → Bool → Type 0
+TakesTold number r old new true = (t : ℕ × Record) × IsTold number r t × IsPermutation old (t ∷ new)
+TakesTold number r old new false = NoneTells number r old
 
 -- ---- the end of an era
 -- The records are a run, and so many. They are the era's, and the next one begins with none, where they led.

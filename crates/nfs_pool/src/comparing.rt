@@ -1,13 +1,13 @@
 //! Receipts beside the records of an era.
 
-ghost use Rattle.std.specs.Prelude.{◌≡◌, ◌+◌, ◌++◌, IfOk, IsPermutation, List, OnOk, map};
+ghost use Rattle.std.specs.Prelude.{◌≡◌, ◌+◌, ◌++◌, IfNone, IfOk, IfSome, IsPermutation, OnOk, length, map};
+ghost use Rattle.std.specs.Prelude.{vec_capacity};
 ghost use Rattle.std.specs.Bool.{Decides};
 ghost use Rattle.std.specs.List.Sorted.{IsNonDecreasingBy};
 ghost use Rattle.nfs_machine.specs.Run.{FromHost, NewExports};
 ghost use Rattle.nfs_engine.specs.Arrivals.{incoming_value, received_value, record_value, shared_value};
-ghost use Rattle.nfs_engine.specs.declared.journal.Receipt.{Receipt};
-ghost use Rattle.nfs_pool.specs.Eras.{BeginSo, IsAlike, IsTold, IsToldAt, StandsAt, told, told_each, told_number};
-ghost use Rattle.nfs_pool.specs.Eras.{told_value};
+ghost use Rattle.nfs_pool.specs.Eras.{BeginSo, IsAlike, IsTellIn, IsTold, IsToldAt, NoneTells, StandsAt, TakesTold};
+ghost use Rattle.nfs_pool.specs.Eras.{TellAll, told, told_by, told_in, told_number, told_value};
 
 use crate::seat::Seat;
 use nfs_engine::{Executed, Incoming, Receipt, Received};
@@ -23,49 +23,176 @@ pub(crate) struct Told {
     executed: Arc<Executed>,
 }
 
-/// What has receipts.
-pub(crate) trait HasReceipts {
-    ghost receipts_of: { Self → List Receipt };
-
-    /// Its receipts.
-    fn list(&self) -> &[Receipt]
-        ensures { result.now ≡ receipts_of self.now };
-}
-
-impl<L: Ledger> HasReceipts for Seat<L> {
-    ghost receipts_of = { λ s. s.receipts };
-
-    fn list(&self) -> &[Receipt] {
-        self.receipts()
-    }
-}
-
-impl HasReceipts for Vec<Receipt> {
-    ghost receipts_of = { λ v. v.items };
-
-    fn list(&self) -> &[Receipt] {
-        self.as_slice()
-    }
-}
-
-/// What the receipts of all these tell, in order of their numbers.
+/// What the receipts of all these seats tell, in order of their numbers.
 ///
 /// # Errors
 ///
 /// There is no memory for it.
-pub(crate) fn told_in_order<T: HasReceipts>(
+pub(crate) fn told_in_order<L: Ledger>(
     alloc: Global,
-    all: &[T],
+    seats: &[Seat<L>],
 ) -> Result<Vec<Told>, AllocError>
-    ensures told { IfOk result (λ tells. IsPermutation (told_each T.receipts_of all.now) (map told_value tells.items)) }
+    ensures told { IfOk result (λ tells. IsPermutation (told_by seats.now) (map told_value tells.items)) }
     ensures rises { IfOk result (λ tells. IsNonDecreasingBy told_number tells.items) }
 {
     let mut tells = Vec::new(alloc);
-    for each in all {
-        add_receipts(&mut tells, each.list())?;
+    for seat in seats {
+        add_receipts(&mut tells, seat.receipts())?;
     }
     tells.sort_unstable_by_key(|tell| tell.number);
     Ok(tells)
+}
+
+/// Whether the receipts in these lists are the records, each once, which have the numbers behind this one. They are
+/// taken out, from the last record's down, and it takes no memory.
+pub(crate) fn take_all_told(
+    before: u64,
+    records: &[Arc<Executed>],
+    lists: &mut Vec<Vec<Receipt>>,
+) -> bool
+    requires { length (told_in lists.old.items) ≡ length records.now }
+    ensures told { Decides result (TellAll before (map shared_value records.now) (told_in lists.old.items)) }
+    ensures room { vec_capacity lists.new ≡ vec_capacity lists.old }
+{
+    let mut left = records.len();
+    'records: while left > 0 {
+        let place = left - 1;
+        if !take_told(before, place, &records[place], lists) {
+            return false;
+        }
+        left = place;
+    }
+    true
+}
+
+/// Takes the receipt that tells this out of these lists, with the number of a record at this place, if there is one.
+fn take_told(
+    before: u64,
+    place: usize,
+    executed: &Arc<Executed>,
+    lists: &mut Vec<Vec<Receipt>>,
+) -> bool
+    ensures takes { TakesTold (before + place + 1) (shared_value executed.now) (told_in lists.old.items)
+        (told_in lists.new.items) result }
+    ensures room { vec_capacity lists.new ≡ vec_capacity lists.old }
+{
+    match find(before, place, executed, lists) {
+        Some((index, at)) => {
+            drop(lists[index].remove(at));
+            true
+        }
+        None => false,
+    }
+}
+
+/// In which list, and at which place there, this is told with the number of a record at this place. The last receipt of
+/// each list is looked at first: those of a seat rise.
+fn find(
+    before: u64,
+    place: usize,
+    executed: &Arc<Executed>,
+    lists: &[Vec<Receipt>],
+) -> Option<(usize, usize)>
+    ensures found { IfSome result
+        (λ p. IsTellIn lists.now p.0 p.1 (before + place + 1) (shared_value executed.now)) }
+    ensures none { IfNone result (NoneTells (before + place + 1) (shared_value executed.now) (told_in lists.now)) }
+{
+    match find_last(before, place, executed, lists) {
+        Some(found) => Some(found),
+        None => find_anywhere(before, place, executed, lists),
+    }
+}
+
+/// The list whose last receipt tells this, and that receipt's place.
+fn find_last(
+    before: u64,
+    place: usize,
+    executed: &Arc<Executed>,
+    lists: &[Vec<Receipt>],
+) -> Option<(usize, usize)>
+    ensures { IfSome result
+        (λ p. IsTellIn lists.now p.0 p.1 (before + place + 1) (shared_value executed.now)) }
+{
+    for index in 0..lists.len() {
+        if let Some(at) = find_at_end(before, place, executed, &lists[index]) {
+            return Some((index, at));
+        }
+    }
+    None
+}
+
+/// The place of the last receipt, where it tells this.
+fn find_at_end(
+    before: u64,
+    place: usize,
+    executed: &Arc<Executed>,
+    list: &[Receipt],
+) -> Option<usize>
+    ensures { IfSome result
+        (λ at. IsToldAt (map told list.now) at (before + place + 1) (shared_value executed.now)) }
+{
+    let last = list.len().saturating_sub(1);
+    if is_told_at(before, place, executed, list, last) {
+        Some(last)
+    } else {
+        None
+    }
+}
+
+/// The list in which a receipt tells this, and that receipt's place.
+fn find_anywhere(
+    before: u64,
+    place: usize,
+    executed: &Arc<Executed>,
+    lists: &[Vec<Receipt>],
+) -> Option<(usize, usize)>
+    ensures found { IfSome result
+        (λ p. IsTellIn lists.now p.0 p.1 (before + place + 1) (shared_value executed.now)) }
+    ensures none { IfNone result (NoneTells (before + place + 1) (shared_value executed.now) (told_in lists.now)) }
+{
+    for index in 0..lists.len() {
+        if let Some(at) = find_in(before, place, executed, &lists[index]) {
+            return Some((index, at));
+        }
+    }
+    None
+}
+
+/// The place of a receipt that tells this.
+fn find_in(before: u64, place: usize, executed: &Arc<Executed>, list: &[Receipt]) -> Option<usize>
+    ensures found { IfSome result
+        (λ at. IsToldAt (map told list.now) at (before + place + 1) (shared_value executed.now)) }
+    ensures none { IfNone result (NoneTells (before + place + 1) (shared_value executed.now) (map told list.now)) }
+{
+    for at in 0..list.len() {
+        if is_told_at(before, place, executed, list, at) {
+            return Some(at);
+        }
+    }
+    None
+}
+
+/// Whether the receipt there tells this.
+fn is_told_at(
+    before: u64,
+    place: usize,
+    executed: &Arc<Executed>,
+    list: &[Receipt],
+    at: usize,
+) -> bool
+    ensures { Decides result (IsToldAt (map told list.now) at (before + place + 1) (shared_value executed.now)) }
+{
+    match list.get(at) {
+        Some(receipt) => is_told_by(before, place, receipt, executed),
+        None => false,
+    }
+}
+
+/// Whether the receipt tells this, with the number of a record at this place.
+fn is_told_by(before: u64, place: usize, receipt: &Receipt, executed: &Arc<Executed>) -> bool
+    ensures { Decides result (IsTold (before + place + 1) (shared_value executed.now) (told receipt.now)) }
+{
+    is_numbered(before, place, receipt.number) && is_same(&receipt.executed, executed)
 }
 
 /// Adds what receipts tell.

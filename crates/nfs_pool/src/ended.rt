@@ -3,13 +3,11 @@
 ghost use Rattle.std.specs.Prelude.{◌≡◌, IfErr, IfOk, length, map, vec_capacity};
 ghost use Rattle.nfs_engine.specs.Arrivals.{shared_value};
 ghost use Rattle.nfs_engine.specs.Book.{BookValue};
-ghost use Rattle.nfs_pool.specs.Eras.{EndsSome, IfMissing, LeavesEra, TellAll, told_in};
+ghost use Rattle.nfs_pool.specs.Eras.{EndsSome, LeavesEra, TellAll, told_in};
 
-use crate::comparing::{begin_so, told_in_order};
+use crate::comparing::take_all_told;
 use crate::room::EraRoom;
-use crate::sent::FinishError;
 use nfs_engine::{Era, Receipt};
-use std::alloc::Global;
 use std::marker::Model;
 
 /// An era that is over, whose receipts are as many as its records and not yet compared with them. A clause sees what
@@ -41,26 +39,29 @@ impl Ended {
         Ended { era, lists }
     }
 
-    /// The records, where the receipts of all seats are they, each once; and the room in which the era ended.
+    /// The records, where the receipts of all seats are they, each once; and the room in which the era ended. It takes
+    /// no memory.
     ///
     /// # Errors
     ///
-    /// A record has no equal receipt (`Missing`), or there is no memory to compare them. All is handed back.
-    pub fn compare(self, alloc: Global) -> Result<(Era, EraRoom), (FinishError, Ended)>
+    /// A record has no equal receipt. Records and room are handed back.
+    pub fn compare(self) -> Result<(Era, EraRoom), (Era, EraRoom)>
         ensures era { IfOk result (λ r. r.0 ≡ self.era) }
         ensures room { IfOk result (λ r. r.1 ≡ self.room) }
         ensures ends { IfOk result (λ r. EndsSome self.receipts r.0) }
-        ensures missing { IfErr result (λ e. IfMissing e.0
-            (TellAll self.era.before (map shared_value self.era.records.items) self.receipts → ⊥)) }
-        ensures back { IfErr result (λ e. e.1 ≡ self) }
+        ensures missing { IfErr result
+            (λ _. TellAll self.era.before (map shared_value self.era.records.items) self.receipts → ⊥) }
+        ensures back { IfErr result (λ e. (e.0 ≡ self.era) × (e.1 ≡ self.room)) }
     {
-        let Ok(tells) = told_in_order(alloc, &self.lists) else {
-            return Err((FinishError::Memory, self));
-        };
-        if !begin_so(self.era.before, &self.era.records, &tells) {
-            return Err((FinishError::Missing, self));
+        let Ended { era, lists } = self;
+        let mut lists = lists;
+        let are_told = take_all_told(era.before, &era.records, &mut lists);
+        let room = EraRoom::without(lists);
+        if are_told {
+            Ok((era, room))
+        } else {
+            Err((era, room))
         }
-        Ok(self.into_parts())
     }
 
     /// Lets the era go. The room in which it ended is left.

@@ -286,7 +286,7 @@ fn ends_in<L: Ledger + Naming, R: Runs>(
 ) -> Option<(Vec<Seat<L>>, EraRoom)> {
     match room {
         Ok(room) => match pool.next_era(rt.alloc(), seats, room) {
-            Ok((ended, seats)) => match compared(rt, ended, before, records) {
+            Ok((ended, seats)) => match compared(ended, before, records) {
                 Some(room) => Some((seats, room)),
                 None => {
                     drop(seats);
@@ -306,8 +306,8 @@ fn ends_in<L: Ledger + Naming, R: Runs>(
 }
 
 /// The room of an era that is over, where its receipts tell so many records behind this one.
-fn compared<R: Runs>(rt: &R, ended: Ended, before: u64, records: u64) -> Option<EraRoom> {
-    match ended.compare(rt.alloc()) {
+fn compared(ended: Ended, before: u64, records: u64) -> Option<EraRoom> {
+    match ended.compare() {
         Ok((era, room)) => {
             let told = has_records(&era, before, records);
             drop(era);
@@ -317,8 +317,8 @@ fn compared<R: Runs>(rt: &R, ended: Ended, before: u64, records: u64) -> Option<
             drop(room);
             None
         }
-        Err((_, ended)) => {
-            drop(ended.let_go());
+        Err(back) => {
+            drop(back);
             None
         }
     }
