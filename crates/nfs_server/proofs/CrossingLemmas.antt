@@ -20,7 +20,6 @@ use Rattle.nfs_server.proofs.network.mailbox.Mailbox.TheSendSync as mailbox
 use Rattle.nfs_server.proofs.network.places.Gathering.TheSendSync as gathering
 use Rattle.nfs_server.specs.contracts.network.clerk.Clerk as Clerk
 use Rattle.nfs_server.specs.contracts.network.listening.Service as Service
-use Rattle.nfs_server.specs.contracts.network.places.Keeper as Keeper
 use Rattle.nfs_server.specs.contracts.network.places.Place as Place
 use Rattle.nfs_server.specs.contracts.network.places.Places as Places
 use Rattle.nfs_server.specs.contracts.network.reading.Reader as Reader
@@ -35,11 +34,6 @@ module _ (L : RattleType) (g : Ghosts L.Denot) (n : naming.Ghosts L.Denot) (s : 
 
   places_send : IsSend (Places.the_row L g n)
   places_send =
-      let place = place_send in
-      search (sendable, crosses, sender.the_send, receiver.the_send, gathering.the_send, gathering.the_sync) depth 20
-
-  pub keeper_send : IsSend (Keeper.the_row L g n)
-  keeper_send =
       let place = place_send in
       search (sendable, crosses, sender.the_send, receiver.the_send, gathering.the_send, gathering.the_sync) depth 20
 

@@ -34,6 +34,9 @@ pub enum Exit {
     /// Standard input or output failed, or a record was too large.
     #[error("nfsd: standard stream failed")]
     StandardStream,
+    /// A record has no receipt that is equal to it, or some receipts are missing.
+    #[error("nfsd: a record without its receipt")]
+    Receipts,
 }
 
 impl Exit {
@@ -64,7 +67,8 @@ impl Exit {
             | Exit::Callback(_)
             | Exit::CannotListen(_)
             | Exit::Memory
-            | Exit::StandardStream => 1,
+            | Exit::StandardStream
+            | Exit::Receipts => 1,
         }
     }
 

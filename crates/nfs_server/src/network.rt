@@ -30,7 +30,7 @@ use crate::network::attendance::Attendance;
 use crate::network::failures::Failures;
 use crate::network::jobs::{JOBS, Job};
 pub use crate::network::listening::Sockets;
-use crate::network::listening::{Service, let_in, take_datagrams};
+use crate::network::listening::{DATAGRAM_SIZE, Service, let_in, take_datagrams};
 use crate::network::mailbox::Mailbox;
 pub use crate::network::operating::{Nobody, Operator};
 use crate::network::places::{Gathering, Keeper, Places, hand_out};
@@ -55,11 +55,12 @@ use std::thread::Threads;
 const OWN_PLACES: u64 = 64;
 
 /// Serves on the network as the options say: until so many connections have come and ended, or for ever. Where they ask
-/// for it, the runtime is the operator.
+/// for it, the runtime is the operator. Each era is compared when it is over, the last one too.
 ///
 /// # Errors
 ///
-/// `CannotListen`; `Memory` where there is none to begin; `NoTransport` where the options name no address.
+/// `CannotListen`; `Memory` where there is none to begin; `NoTransport` where the options name no address; `Receipts`
+/// where a record has no receipt, or a place is missing.
 pub fn serve_network<
     R: AllocGlobal
         + Net<Listener = TcpListener, Stream = TcpStream>
@@ -86,7 +87,7 @@ pub fn serve_network<
 ///
 /// # Errors
 ///
-/// `Memory` where there is none to begin; `NoTransport` where the options name no address.
+/// As `serve_network`, but for `CannotListen`.
 pub fn serve_sockets<
     R: AllocGlobal
         + Net<Listener = TcpListener, Stream = TcpStream>
@@ -109,7 +110,7 @@ pub fn serve_sockets<
 ///
 /// # Errors
 ///
-/// `Memory` where there is none to begin; `NoTransport` where the options name no address.
+/// As `serve_network`, but for `CannotListen`.
 pub fn serve_operated<
     R: AllocGlobal
         + Net<Listener = TcpListener, Stream = TcpStream>
@@ -149,7 +150,7 @@ pub fn serve_operated<
         limits: Limits { total_bytes: bytes },
         era_records,
     };
-    serve_from(rt, config, &network, sockets, clock, callbacks, operator)
+    serve_from(rt, config, network, sockets, clock, callbacks, operator)
 }
 
 /// Serves from the opening state that is configured so.
@@ -168,7 +169,7 @@ fn serve_from<
 >(
     rt: R,
     config: Config,
-    network: &Network,
+    network: Network,
     sockets: Sockets,
     clock: Option<u32>,
     callbacks: Callbacks,
@@ -176,7 +177,7 @@ fn serve_from<
 ) -> Result<(), Exit>
     requires capacity { IsLimit config.capacity }
     requires era { IsLimit config.era_records }
-    requires workers { network.now.workers ≤ 64 }
+    requires workers { network.workers ≤ 64 }
 {
     let alloc = rt.alloc();
     let begin = config.moment;
@@ -199,7 +200,7 @@ fn serve_from<
     )
 }
 
-/// Serves with a pool of so many seats.
+/// Serves with a pool of so many seats. Threads of their own serve those who come; this one ends eras.
 fn serve_pool<
     L: Ledger + Naming + Send + Sync + 'static,
     R: Net<Listener = TcpListener, Stream = TcpStream>
@@ -220,7 +221,7 @@ fn serve_pool<
     engine: Engine,
     count: usize,
     sockets: Sockets,
-    network: &Network,
+    network: Network,
     clock: Option<u32>,
     begin: Moment,
     callbacks: Callbacks,
@@ -235,7 +236,7 @@ fn serve_pool<
     let Ok((pool, seats)) = Pool::<L>::new(alloc, blank, opened, engine, count) else {
         return Err(Exit::Memory);
     };
-    let places = open_places(rt, alloc, pool, seats, count)?;
+    let (places, keeper, seats, room) = open_places(&rt, alloc, pool, seats, count)?;
     let (jobs, queue) = bounded(alloc, JOBS)?;
     let service = Service::new(alloc, places, jobs, clock, begin)?;
     start_workers(rt, alloc, &service, queue, network.workers)?;
@@ -243,25 +244,23 @@ fn serve_pool<
     if network.control {
         start_operator(rt, alloc, &service, operator)?;
     }
-    attend(rt, alloc, sockets, network, service)
+    attend(rt, alloc, sockets, network, service)?;
+    keeper.work(&rt, alloc, seats, room)
 }
 
-/// A place for each seat, and the thread that ends eras.
-fn open_places<
-    L: Ledger + Naming + Send + Sync + 'static,
-    R: Threads + Wait + Clock + Copy + Drop + Send + Sync + 'static,
->(
-    rt: R,
+/// A place for each seat, and what ends eras, with room for all seats and to end an era in.
+fn open_places<L: Ledger + Naming, R: Wait>(
+    rt: &R,
     alloc: Global,
     pool: Pool<L>,
     seats: Vec<Seat<L>>,
     count: usize,
-) -> Result<Places<L>, AllocError> {
+) -> Result<(Places<L>, Keeper<L>, Vec<Seat<L>>, EraRoom), AllocError> {
     let (back, free) = bounded(alloc, count)?;
     let (full, filled) = bounded(alloc, count)?;
     let room = EraRoom::new(alloc, count)?;
     let pool = Arc::new(alloc, pool)?;
-    let seats = hand_out(&rt, &back, pool, seats, 0, false);
+    let seats = hand_out(rt, &back, pool, seats, 0);
     let gathering = Arc::new(alloc, Gathering::new())?;
     let keeper = Keeper {
         free: free.clone()?,
@@ -270,8 +269,8 @@ fn open_places<
         count,
         gathering: Arc::try_clone(&gathering)?,
     };
-    thread::spawn(&rt, move || keeper.work(&rt, alloc, seats, room))?;
-    Ok(Places::new(free, back, full, gathering))
+    let places = Places::new(free, back, full, gathering);
+    Ok((places, keeper, seats, room))
 }
 
 /// Starts the workers.
@@ -365,7 +364,7 @@ fn start_operator<
     Ok(())
 }
 
-/// Serves those who come: datagrams by a thread of their own, where connections are taken too.
+/// Starts the threads that serve those who come.
 fn attend<
     L: Ledger + Naming + Send + Sync + 'static,
     R: Threads + Wait + Clock + Copy + Drop + Send + Sync + 'static,
@@ -373,35 +372,39 @@ fn attend<
     rt: R,
     alloc: Global,
     sockets: Sockets,
-    network: &Network,
+    network: Network,
     service: Service<L>,
 ) -> Result<(), Exit> {
     let Sockets { tcp, udp } = sockets;
-    match (tcp, udp) {
-        (Some(listener), None) => Ok(serve_connections(&rt, alloc, &listener, network, &service)?),
-        (Some(listener), Some(socket)) => {
-            start_datagrams(rt, alloc, socket, service.share()?)?;
-            Ok(serve_connections(&rt, alloc, &listener, network, &service)?)
-        }
-        (None, Some(socket)) => Ok(take_datagrams(&rt, alloc, socket, &service)?),
-        (None, None) => Err(Exit::NoTransport),
+    if tcp.is_none() && udp.is_none() {
+        return Err(Exit::NoTransport);
     }
+    if let Some(socket) = udp {
+        start_datagrams(rt, alloc, socket, service.share()?)?;
+    }
+    if let Some(listener) = tcp {
+        start_connections(rt, alloc, listener, network, service)?;
+    }
+    Ok(())
 }
 
-/// Serves connections until so many have come and ended.
-fn serve_connections<
+/// Starts the thread that lets connections in, until so many have come. When these have ended the last era ends.
+fn start_connections<
     L: Ledger + Naming + Send + Sync + 'static,
     R: Threads + Wait + Clock + Copy + Drop + Send + Sync + 'static,
 >(
-    rt: &R,
+    rt: R,
     alloc: Global,
-    listener: &TcpListener,
-    network: &Network,
-    service: &Service<L>,
+    listener: TcpListener,
+    network: Network,
+    service: Service<L>,
 ) -> Result<(), AllocError> {
     let attendance = Arc::new(alloc, Attendance::new())?;
-    let_in(rt, alloc, listener, network, service, &attendance);
-    attendance.wait(rt);
+    thread::spawn(&rt, move || {
+        let_in(&rt, alloc, &listener, &network, &service, &attendance);
+        attendance.wait(&rt);
+        service.places.finish(&rt);
+    })?;
     Ok(())
 }
 
@@ -410,8 +413,10 @@ fn start_datagrams<
     L: Ledger + Naming + Send + Sync + 'static,
     R: Threads + Wait + Clock + Copy + Drop + Send + Sync + 'static,
 >(rt: R, alloc: Global, socket: UdpSocket, service: Service<L>) -> Result<(), AllocError> {
+    let socket = Arc::new(alloc, socket)?;
+    let buffer = Vec::from_elem(alloc, 0u8, DATAGRAM_SIZE)?;
     thread::spawn(&rt, move || {
-        let _ = take_datagrams(&rt, alloc, socket, &service);
+        take_datagrams(&rt, alloc, &socket, buffer, &service);
     })?;
     Ok(())
 }

@@ -241,9 +241,6 @@ impl<L: Ledger + Naming, C: Clock> Clerk<L, C> {
                 }
             };
             place = self.places.turn(rt, place);
-            if place.is_stuck {
-                return (place, Err(back));
-            }
             is_anew = true;
             arrival = back;
         }

@@ -27,7 +27,7 @@ use std::time::Duration;
 use std::{io, thread};
 
 /// How many bytes a datagram has at most.
-const DATAGRAM_SIZE: usize = 65_536;
+pub(crate) const DATAGRAM_SIZE: usize = 65_536;
 
 /// How long nothing is taken where the system has no room for a connection or a datagram, in milliseconds.
 const PAUSE: u64 = 10;
@@ -254,20 +254,20 @@ fn start<
     Ok(())
 }
 
-/// Takes datagrams, each a record of its own with no mark, and hands them to the workers.
+/// Takes datagrams into this buffer, each a record of its own with no mark, and hands them to the workers.
 pub(crate) fn take_datagrams<R: Wait + Clock, L: Ledger + Naming>(
     rt: &R,
     alloc: Global,
-    socket: UdpSocket,
+    socket: &Arc<UdpSocket>,
+    buffer: Vec<u8>,
     service: &Service<L>,
-) -> Result<(), AllocError> {
-    let socket = Arc::new(alloc, socket)?;
-    let mut buffer = Vec::from_elem(alloc, 0u8, DATAGRAM_SIZE)?;
+) {
+    let mut buffer = buffer;
     for _ in rt.forever() {
         match socket.recv_from(buffer.as_mut_slice()) {
             Ok((count, peer)) => {
                 // One that can't be taken in is dropped.
-                if take(rt, alloc, &socket, peer, &buffer[..count], service).is_err() {
+                if take(rt, alloc, socket, peer, &buffer[..count], service).is_err() {
                     service.places.relieve(rt);
                 }
             }

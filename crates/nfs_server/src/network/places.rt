@@ -3,42 +3,23 @@
 //! A seat travels with its pool. Whoever executes calls takes a place, and gives it back behind them. So when all
 //! places are gathered nobody else has the pool, and its era can be ended: no thread has to be joined for that.
 
+use crate::exit::Exit;
 use crossbeam_channel::{Receiver, Sender};
-use nfs_pool::{Ended, EraRoom, FinishError, Naming, Pool, Seat};
+use nfs_pool::{Ended, EraRoom, Naming, Pool, Seat};
 use std::alloc::{AllocError, Global};
-use std::rt::Clock;
 use std::sync::atomic::{AtomicBool, Ordering};
 use std::sync::ledger::Ledger;
 use std::sync::{Arc, Wait};
-use std::thread;
-use std::time::Duration;
-
-/// How long the keeper waits for memory before it tries again, in milliseconds.
-const PAUSE: u64 = 10;
-
-/// How often the keeper tries to compare an era. Then it is let go all the same, since its records take memory too.
-const TRIES: usize = 100;
-
-/// What was found where the receipts of an era were compared with its records.
-#[derive(Clone, Copy, PartialEq, Eq)]
-enum Compared {
-    /// Each record has its receipt.
-    Told,
-    /// A record has none.
-    Missing,
-    /// There was no memory to compare them.
-    Unknown,
-}
 
 /// A seat with its pool: the leave to execute calls.
 #[derive(Drop)]
 pub(crate) struct Place<L: Ledger + Naming> {
     pub(crate) pool: Arc<Pool<L>>,
     pub(crate) seat: Seat<L>,
-    /// How often an era was to be ended before it was handed out.
+    /// How many eras had ended when it was handed out.
     pub(crate) turns: u64,
-    /// The last time it was not.
-    pub(crate) is_stuck: bool,
+    /// Whether nobody calls any more: when it is handed in the last era ends.
+    pub(crate) is_last: bool,
 }
 
 /// Whether the keeper gathers all places: what is given back comes to it then.
@@ -133,8 +114,15 @@ impl<L: Ledger + Naming> Places<L> {
         self.give(rt, self.turn(rt, place));
     }
 
-    /// Hands a place in, so that the era is ended, and takes one that was handed out after that was tried. One that it
-    /// takes before is handed in too, as one may have been given back just before the keeper began to gather them.
+    /// Has the last era ended: nobody calls any more.
+    pub(crate) fn finish<R: Wait>(&self, rt: &R) {
+        let mut place = self.take(rt);
+        place.is_last = true;
+        drop(self.full.send(rt, place));
+    }
+
+    /// Hands a place in, so that the era is ended, and takes one that was handed out after that. One that it takes
+    /// before is handed in too, as one may have been given back just before the keeper began to gather them.
     pub(crate) fn turn<R: Wait>(&self, rt: &R, place: Place<L>) -> Place<L> {
         let before = place.turns;
         let mut place = place;
@@ -163,48 +151,79 @@ pub(crate) struct Keeper<L: Ledger + Naming> {
 
 impl<L: Ledger + Naming> Keeper<L> {
     /// Ends eras, until nobody calls any more. What was recorded in them is compared and let go by this thread, which
-    /// serves nobody; after a record without its receipt no era is ended any more, so nothing is executed behind it.
-    /// There is room for all seats, and to end an era in: each era takes the room of the one before it.
-    pub(crate) fn work<R: Wait + Clock>(
+    /// serves nobody. There is room for all seats, and to end an era in: each era takes the room of the one before it.
+    ///
+    /// # Errors
+    ///
+    /// A record has no receipt, or a seat is missing (`Receipts`).
+    pub(crate) fn work<R: Wait>(
         &self,
         rt: &R,
         alloc: Global,
         seats: Vec<Seat<L>>,
         room: EraRoom,
-    ) {
+    ) -> Result<(), Exit> {
         let mut seats = seats;
         let mut room = room;
-        let mut compared = Compared::Told;
         for first in self.full.iter(rt) {
-            self.gathering.begin();
-            let turns = first.turns.saturating_add(1);
-            let Some(pool) = self.gather(rt, first, &mut seats) else {
-                return;
+            let Some((left, given, is_last)) = self.end_era(rt, alloc, first, seats, room) else {
+                return Err(Exit::Receipts);
             };
-            if compared == Compared::Missing {
-                seats = self.hand_out(rt, pool, seats, turns, true);
-            } else {
-                (seats, room, compared) = self.turn(rt, alloc, pool, seats, room, turns);
+            if is_last {
+                return Ok(());
             }
+            seats = left;
+            room = given;
         }
+        Ok(())
     }
 
-    /// All seats, and the pool, which nobody else has then. It takes no memory.
+    /// Ends the era, hands out the places of the next one, and compares what is over. The room of the seats is left,
+    /// that of the era, and whether it was the last one, behind which no place is handed out. None where a seat is
+    /// missing, or a record has no receipt.
+    fn end_era<R: Wait>(
+        &self,
+        rt: &R,
+        alloc: Global,
+        first: Place<L>,
+        seats: Vec<Seat<L>>,
+        room: EraRoom,
+    ) -> Option<(Vec<Seat<L>>, EraRoom, bool)> {
+        self.gathering.begin();
+        let turns = first.turns.saturating_add(1);
+        let mut seats = seats;
+        let (pool, is_last) = self.gather(rt, first, &mut seats)?;
+        let mut pool = pool;
+        let (ended, seats) = next_era(alloc, &mut pool, seats, room)?;
+        let seats = if is_last {
+            drop(pool);
+            seats
+        } else {
+            self.hand_out(rt, pool, seats, turns)
+        };
+        let (era, room) = ended.compare().ok()?;
+        drop(era);
+        Some((seats, room, is_last))
+    }
+
+    /// All seats, and the pool, which nobody else has then; and whether nobody calls any more. It takes no memory.
     fn gather<R: Wait>(
         &self,
         rt: &R,
         first: Place<L>,
         seats: &mut Vec<Seat<L>>,
-    ) -> Option<Arc<Pool<L>>> {
-        let mut last = first;
+    ) -> Option<(Arc<Pool<L>>, bool)> {
+        let mut place = first;
+        let mut is_last = place.is_last;
         for _ in 1..self.count {
             let next = self.next(rt)?;
-            seats.push(last.seat).ok()?;
-            drop(last.pool);
-            last = next;
+            is_last = is_last || next.is_last;
+            seats.push(place.seat).ok()?;
+            drop(place.pool);
+            place = next;
         }
-        seats.push(last.seat).ok()?;
-        Some(last.pool)
+        seats.push(place.seat).ok()?;
+        Some((place.pool, is_last))
     }
 
     /// The next place that comes, handed in or free.
@@ -215,31 +234,6 @@ impl<L: Ledger + Naming> Keeper<L> {
         }
     }
 
-    /// Ends the era, hands out the places of the next one, and lets go what was recorded. The room of the seats is
-    /// left, that of the era, and what was found of it. Where a seat is missing the era stays, and nothing is found.
-    fn turn<R: Wait + Clock>(
-        &self,
-        rt: &R,
-        alloc: Global,
-        pool: Arc<Pool<L>>,
-        seats: Vec<Seat<L>>,
-        room: EraRoom,
-        turns: u64,
-    ) -> (Vec<Seat<L>>, EraRoom, Compared) {
-        let mut pool = pool;
-        match next_era(alloc, &mut pool, seats, room) {
-            Ok((ended, seats)) => {
-                let seats = self.hand_out(rt, pool, seats, turns, false);
-                let (room, compared) = compare(rt, alloc, ended);
-                (seats, room, compared)
-            }
-            Err((seats, room)) => {
-                let seats = self.hand_out(rt, pool, seats, turns, true);
-                (seats, room, Compared::Unknown)
-            }
-        }
-    }
-
     /// Hands all places out. Nobody has one before, and so none is given to the keeper any more.
     fn hand_out<R: Wait>(
         &self,
@@ -247,46 +241,22 @@ impl<L: Ledger + Naming> Keeper<L> {
         pool: Arc<Pool<L>>,
         seats: Vec<Seat<L>>,
         turns: u64,
-        is_stuck: bool,
     ) -> Vec<Seat<L>> {
         self.gathering.end();
-        hand_out(rt, &self.back, pool, seats, turns, is_stuck)
+        hand_out(rt, &self.back, pool, seats, turns)
     }
 }
 
 /// Ends the era of a pool that nobody else has, and begins the next: what is left of it, and the next seats. It takes
-/// no memory.
-///
-/// # Errors
-///
-/// Somebody else has the pool, or a seat is missing. Seats and room are handed back.
+/// no memory. None where somebody else has the pool, or a seat is missing.
 fn next_era<L: Ledger + Naming>(
     alloc: Global,
     pool: &mut Arc<Pool<L>>,
     seats: Vec<Seat<L>>,
     room: EraRoom,
-) -> Result<(Ended, Vec<Seat<L>>), (Vec<Seat<L>>, EraRoom)> {
-    let Some(pool) = Arc::get_mut(pool) else {
-        return Err((seats, room));
-    };
-    pool.next_era(alloc, seats, room)
-}
-
-/// Compares an era that is over, and lets it go. Its room is left.
-fn compare<R: Wait + Clock>(rt: &R, alloc: Global, ended: Ended) -> (EraRoom, Compared) {
-    let mut ended = ended;
-    for _ in 0..TRIES {
-        match ended.compare(alloc) {
-            Ok((era, room)) => {
-                drop(era);
-                return (room, Compared::Told);
-            }
-            Err((FinishError::Missing, left)) => return (left.let_go(), Compared::Missing),
-            Err((FinishError::Memory, left)) => ended = left,
-        }
-        thread::sleep(rt, Duration::from_millis(PAUSE));
-    }
-    (ended.let_go(), Compared::Unknown)
+) -> Option<(Ended, Vec<Seat<L>>)> {
+    let pool = Arc::get_mut(pool)?;
+    pool.next_era(alloc, seats, room).ok()
 }
 
 /// Makes a place of each seat, and hands it out. The room of the seats is left.
@@ -296,7 +266,6 @@ pub(crate) fn hand_out<R: Wait, L: Ledger + Naming>(
     pool: Arc<Pool<L>>,
     seats: Vec<Seat<L>>,
     turns: u64,
-    is_stuck: bool,
 ) -> Vec<Seat<L>> {
     let mut seats = seats;
     for _ in 0..seats.len() {
@@ -305,7 +274,7 @@ pub(crate) fn hand_out<R: Wait, L: Ledger + Naming>(
                 pool,
                 seat,
                 turns,
-                is_stuck,
+                is_last: false,
             };
             drop(back.send(rt, place));
         }

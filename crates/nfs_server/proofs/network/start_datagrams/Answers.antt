@@ -1,4 +1,4 @@
--- The socket and the service go to the thread that takes datagrams.
+-- The socket, a buffer and the service go to the thread that takes datagrams.
 use denote.Param.{param}
 use denote.Param.Send.{sendable}
 use Rattle.std.proofs.Crossing.{crosses}
@@ -10,4 +10,4 @@ pub spawn-requires-send-F : goal.spawn-requires-send-F
 spawn-requires-send-F g c κs within =
     let rt = c.type_bounds.send-R in
     let service = service_send (param 0 g.row.L) g.L.Ledger g.L.Naming c.type_bounds.send-L c.type_bounds.sync-L in
-    search (sendable, crosses, socket.the_send) depth 20
+    search (sendable, crosses, socket.the_send, socket.the_sync) depth 20
