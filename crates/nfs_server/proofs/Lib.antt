@@ -1,4 +1,5 @@
 mod AnsweredLinesLemmas
+mod AnswersToLemmas
 pub mod CallbackTextLemmas
 mod CrossingLemmas
 mod FragmentPieceLemmas

@@ -1,3 +1,4 @@
+pub mod AnswersTo
 pub mod CalledBack
 pub mod Callbacks
 pub mod Clocks

@@ -1,8 +1,11 @@
 //! What answers records: each is executed on a place, and no place is held while answers are sent.
 
-ghost use Rattle.std.specs.Prelude.{◌≡◌, false, true};
-ghost use Rattle.nfs_engine.specs.Arrivals.{incoming_value};
+ghost use Rattle.std.specs.Prelude.{◌≡◌, false, true, IfErr, IfOk, IsSome};
+ghost use Rattle.nfs_machine.specs.Run as machine;
+ghost use Rattle.nfs_engine.specs.Arrivals.{incoming_value, received_value};
 ghost use Rattle.nfs_engine.specs.Asked.{IsAskedBy};
+ghost use Rattle.nfs_pool.specs.Seats.{IsDeclined};
+ghost use Rattle.nfs_server.specs.AnswersTo.{AnswersRecord, HandsBack, HasReceipt, IsAnswerTo, IsTold};
 ghost use Rattle.nfs_server.specs.CalledBack.{MayHavePosted};
 
 use crate::clock::ServerClock;
@@ -142,15 +145,17 @@ impl<L: Ledger + Naming, C: Clock> Clerk<L, C> {
         rt: &R,
         alloc: Global,
         host: &Host,
-        record: Record,
-    ) -> Answered {
+        message: Record,
+    ) -> Answered
+        ensures { IfOk result (AnswersRecord host.now message) }
+    {
         let place = self.places.take(rt);
-        let (place, answered) = self.answer(rt, alloc, host, place, record);
+        let (place, answered) = self.answer(rt, alloc, host, place, message);
         self.places.give(rt, place);
         answered
     }
 
-    /// Answers a record. The place that is handed back may be another one.
+    /// Answers a record that came from this host. The place that is handed back may be another one.
     ///
     /// # Errors
     ///
@@ -161,11 +166,13 @@ impl<L: Ledger + Naming, C: Clock> Clerk<L, C> {
         alloc: Global,
         host: &Host,
         place: Place<L>,
-        record: Record,
-    ) -> (Place<L>, Answered) {
+        message: Record,
+    ) -> (Place<L>, Answered)
+        ensures { IfOk result.1 (AnswersRecord host.now message) }
+    {
         let moment = self.clock.moment();
         match host.share() {
-            Ok(host) => match Arrival::read(alloc, host, record, moment) {
+            Ok(host) => match Arrival::read(alloc, host, message, moment) {
                 Ok(arrival) => {
                     let (place, answered) = self.execute(rt, alloc, place, arrival);
                     if may_have_posted(&answered) {
@@ -204,7 +211,9 @@ impl<L: Ledger + Naming, C: Clock> Clerk<L, C> {
         alloc: Global,
         place: Place<L>,
         arrival: Arrival,
-    ) -> (Place<L>, Answered) {
+    ) -> (Place<L>, Answered)
+        ensures { IfOk result.1 (IsAnswerTo arrival.received) }
+    {
         let (place, submitted) = self.submit(rt, alloc, place, arrival);
         let answered = match submitted {
             Ok(sent) => answered(sent, &place.seat),
@@ -225,11 +234,14 @@ impl<L: Ledger + Naming, C: Clock> Clerk<L, C> {
         alloc: Global,
         place: Place<L>,
         arrival: Arrival,
-    ) -> (Place<L>, Result<Sent, Arrival>) {
+    ) -> (Place<L>, Result<Sent, Arrival>)
+        ensures told { IfOk result.1 (IsTold arrival.received result.0.seat) }
+        ensures back { IfErr result.1 (λ back. back.received ≡ arrival.received) }
+    {
         let mut place = place;
         let mut arrival = arrival;
         let mut is_anew = false;
-        for _ in rt.forever() {
+        'eras: for _ in rt.forever() {
             let back = match submit(rt, alloc, &mut place, arrival) {
                 Ok(sent) => return (place, Ok(sent)),
                 Err(PoolError::EraFull(back)) => back,
@@ -273,7 +285,7 @@ fn put(waiting: &mut Connection, answer: Answer) -> bool
     waiting.is_full()
 }
 
-/// Submits what came in to the pool of a place.
+/// Submits what came in to the pool of a place, whose seat gets its receipt.
 ///
 /// # Errors
 ///
@@ -283,7 +295,12 @@ fn submit<R: Wait, L: Ledger + Naming>(
     alloc: Global,
     place: &mut Place<L>,
     arrival: Arrival,
-) -> Result<Sent, PoolError> {
+) -> Result<Sent, PoolError>
+    ensures told { IfOk result (IsTold arrival.received place.new.seat) }
+    ensures back { IfErr result (HandsBack arrival.received) }
+{
+    // It brings that what came in is read so.
+    arrival.reading();
     let Place { pool, seat, .. } = place;
     match pool.submit(rt, alloc, &Open, seat, arrival)? {
         Sent::Refused(declined) => refused(alloc, declined),
@@ -292,7 +309,9 @@ fn submit<R: Wait, L: Ledger + Naming>(
 }
 
 /// What is told of a record that was submitted, on this seat.
-fn answered<L: Ledger + Naming>(sent: Sent, seat: &Seat<L>) -> Answered {
+fn answered<L: Ledger + Naming>(sent: Sent, seat: &Seat<L>) -> Answered
+    ensures { (r : machine.Arrival) → IsTold r seat.now sent → IfOk result (IsAnswerTo r) }
+{
     match sent {
         Sent::Executed => executed(seat),
         Sent::Repeated(kept) => Ok(Answer::Repeated(kept)),
@@ -303,7 +322,9 @@ fn answered<L: Ledger + Naming>(sent: Sent, seat: &Seat<L>) -> Answered {
 }
 
 /// The answer that a seat's last receipt tells, and shares with it.
-fn executed<L: Ledger + Naming>(seat: &Seat<L>) -> Answered {
+fn executed<L: Ledger + Naming>(seat: &Seat<L>) -> Answered
+    ensures { (r : machine.Arrival) → HasReceipt r seat.now → IfOk result (IsAnswerTo r) }
+{
     let receipt = seat.receipts().last().ok_or(Closed::Memory)?;
     Ok(Answer::Executed(Receipt {
         number: receipt.number,
@@ -313,7 +334,10 @@ fn executed<L: Ledger + Naming>(seat: &Seat<L>) -> Answered {
 }
 
 /// A call that was refused for want of memory is handed back as it came in. Its refusal, where there is none for that.
-fn refused(alloc: Global, declined: Declined) -> Result<Sent, PoolError> {
+fn refused(alloc: Global, declined: Declined) -> Result<Sent, PoolError>
+    ensures refused { IfOk result (λ sent. sent ≡ Sent.Refused declined) }
+    ensures back { IfErr result (HandsBack (incoming_value declined.received)) }
+{
     let Declined { received, answer } = declined;
     match again(alloc, &received) {
         Ok(arrival) => {
@@ -326,7 +350,9 @@ fn refused(alloc: Global, declined: Declined) -> Result<Sent, PoolError> {
 }
 
 /// The same as it came in.
-fn again(alloc: Global, received: &Incoming) -> Result<Arrival, AllocError> {
+fn again(alloc: Global, received: &Incoming) -> Result<Arrival, AllocError>
+    ensures { IfOk result (λ arrival. arrival.received ≡ incoming_value received.now) }
+{
     match received.share()? {
         Incoming::Record(received) => read_again(alloc, received),
         Incoming::Exports(exports, moment) => Arrival::exports(exports, moment),
@@ -334,7 +360,9 @@ fn again(alloc: Global, received: &Incoming) -> Result<Arrival, AllocError> {
 }
 
 /// The same record as it came in.
-fn read_again(alloc: Global, received: Received) -> Result<Arrival, AllocError> {
+fn read_again(alloc: Global, received: Received) -> Result<Arrival, AllocError>
+    ensures { IfOk result (λ arrival. arrival.received ≡ machine.FromHost (received_value received)) }
+{
     let Received {
         host,
         message,
@@ -344,7 +372,9 @@ fn read_again(alloc: Global, received: Received) -> Result<Arrival, AllocError> 
 }
 
 /// The answer to what came in and is not executed.
-fn decline(alloc: Global, arrival: Arrival) -> Answered {
+fn decline(alloc: Global, arrival: Arrival) -> Answered
+    ensures { IfOk result (IsAnswerTo arrival.received) }
+{
     let (received, reading) = arrival.into_parts();
     match reading {
         Reading::Asks(asked) => told(declined(alloc, received, asked)),
@@ -355,6 +385,7 @@ fn decline(alloc: Global, arrival: Arrival) -> Answered {
 /// The refusal of a call.
 fn declined(alloc: Global, received: Incoming, asked: Asked) -> Declined
     requires { IsAskedBy (incoming_value received) asked }
+    ensures { IsDeclined (incoming_value received) result }
 {
     let answer = refusal(alloc, &asked);
     drop(asked);
@@ -362,7 +393,9 @@ fn declined(alloc: Global, received: Incoming, asked: Asked) -> Declined
 }
 
 /// A refusal, where there was memory to say it.
-fn told(declined: Declined) -> Answered {
+fn told(declined: Declined) -> Answered
+    ensures { IfOk result (λ answer. (answer ≡ Answer.Refused declined) × IsSome declined.answer) }
+{
     if declined.answer.is_none() {
         drop(declined);
         return Err(Closed::Memory);

@@ -1,0 +1,56 @@
+-- How a record that came in is answered.
+use Rattle.std.specs.Prelude.{◌≡◌, ℕ, List, [], ◌∷◌, ◌++◌, IsSome}
+use Rattle.nfs_machine.specs.Run.{Arrival, FromHost}
+use Rattle.nfs_machine.specs.declared.moment.Moment.{Moment}
+use Rattle.nfs_engine.specs.Answers.{answer_of}
+use Rattle.nfs_engine.specs.Arrivals.{IsFaultedBy, incoming_value}
+use Rattle.nfs_engine.specs.declared.admission.Faulted.{Faulted}
+use Rattle.nfs_engine.specs.declared.journal.Receipt.{Receipt}
+use Rattle.nfs_schedule.specs.declared.answer.Answer.{Answer}
+use Rattle.nfs_schedule.specs.declared.answer.Answer.TheVariants as answers
+use Rattle.nfs_pool.specs.Seats.{IsDeclined, IsReceiptOf, SeatValue}
+use Rattle.nfs_pool.specs.declared.sent.PoolError.{PoolError}
+use Rattle.nfs_pool.specs.declared.sent.PoolError.TheVariants.{EraFull, Memory}
+use Rattle.nfs_pool.specs.declared.sent.Sent.{Sent}
+use Rattle.nfs_pool.specs.declared.sent.Sent.TheVariants.{Early, Executed, Refused, Repeated, Unanswered}
+
+-- ---- what is told of what came in
+-- the last receipt of the seat is of what came in
+pub record HasReceipt (r : Arrival) (s : SeatValue) : Type 0 where
+  pub before : List Receipt
+  pub receipt : Receipt
+  pub last : s.receipts ≡ before ++ receipt ∷ []
+  pub of_call : IsReceiptOf r receipt
+
+-- what came in has this fault
+abbrev pub IsFaulted : Arrival → Faulted → Type 0
+IsFaulted r faulted = (incoming_value faulted.received ≡ r) × IsFaultedBy r (answer_of faulted.answer)
+
+-- Where the call was executed the seat has its receipt. Else what came in has the reply that is kept for it, is
+-- refused, has a fault, or has no reply.
+abbrev pub IsTold : Arrival → SeatValue → Sent → Type 0
+IsTold r s Executed = HasReceipt r s
+IsTold r s (Repeated kept) = kept.received ≡ r
+IsTold r s (Refused declined) = IsDeclined r declined
+IsTold r s (Early faulted) = IsFaulted r faulted
+IsTold r s (Unanswered received) = incoming_value received ≡ r
+
+-- it was not taken in, and is handed back
+abbrev pub HandsBack : Arrival → PoolError → Type 0
+HandsBack r (Memory back) = back.received ≡ r
+HandsBack r (EraFull back) = back.received ≡ r
+
+-- ---- the answer
+-- The answer is to what came in: the reply in the receipt of its call; the reply that is kept for it; its refusal; the
+-- answer of its fault; or none.
+abbrev pub IsAnswerTo : Arrival → Answer → Type 0
+IsAnswerTo r (answers.Executed receipt) = IsReceiptOf r receipt
+IsAnswerTo r (answers.Repeated kept) = kept.received ≡ r
+IsAnswerTo r (answers.Refused declined) = IsDeclined r declined × IsSome declined.answer
+IsAnswerTo r (answers.Early faulted) = IsFaulted r faulted
+IsAnswerTo r (answers.Unanswered received) = incoming_value received ≡ r
+
+-- the answer is to the record that came from the host at some moment
+pub record AnswersRecord (host bytes : List ℕ) (answer : Answer) : Type 0 where
+  pub moment : Moment
+  pub answers : IsAnswerTo (FromHost (record { host = host; bytes = bytes; moment = moment })) answer
