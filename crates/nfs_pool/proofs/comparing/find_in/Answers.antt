@@ -1,4 +1,4 @@
-use Rattle.std.proofs.Common.{◌+◌, arith, map}
+use Rattle.std.proofs.Common.{◌+◌, arith, map, refl}
 use Rattle.std.proofs.lemmas.Bool.{false≢true}
 use Rattle.std.proofs.lemmas.List.{length-map}
 use Rattle.nfs_engine.specs.Arrivals.{shared_value}
@@ -17,3 +17,6 @@ pub returns-clause-none : goal.returns-clause-none
 returns-clause-none c =
     none_placed (c.args.before + c.args.place + 1) (shared_value c.args.executed.now) (map told c.args.list.now)
     (λ k h. c.loop-at.invariant k (omega (arith, h, length-map c.args.list.now told, c.loop-at-test.false)))
+
+pub returns-then-is_told_at-clause-found : goal.returns-then-is_told_at-clause-found
+returns-then-is_told_at-clause-found c = c.if-is_told_at.ensures.0 refl
