@@ -12,7 +12,7 @@ use nfs_engine::{Config, Engine};
 use nfs_machine::{ExportError, ExportText, Exports, Limits, Moment};
 use nfs_rpc::stream::Counted;
 use nfs_schedule::World;
-use nfs_server::{FixedClock, Host, Options, Served, StreamFault, configure, serve_stream};
+use nfs_server::{Exit, FixedClock, Host, Options, Served, StreamFault, configure, serve_stream};
 use std::alloc::{AllocError, Global};
 use std::marker::Model;
 
@@ -218,6 +218,7 @@ fn options(alloc: Global, line: &str) -> Result<Options, Fault> {
     drop(words);
     match options {
         Ok(options) => Ok(options),
+        Err(Exit::Memory) => Err(Fault::Memory),
         Err(exit) => {
             drop(exit);
             Err(Fault::Line("no options of a server"))
