@@ -61,7 +61,9 @@ impl Handles {
                 if !self.bind(part(wanted, place, behind), part(given, place, behind))? {
                     return Ok(false);
                 }
-            } else if theirs != ours && !self.is_number(around(wanted, place), around(given, place)) {
+            } else if theirs != ours
+                && !self.is_number(around(wanted, place), around(given, place))
+            {
                 return Ok(false);
             }
         }
@@ -107,7 +109,8 @@ impl Handles {
     /// Whether the one is the number of an object whose handle stands for that of the other's.
     fn is_number(&self, wanted: &[u8], given: &[u8]) -> bool {
         for (theirs, ours) in self.wanted.chunks(SIZE).zip(self.given.chunks(SIZE)) {
-            if part(theirs, NUMBER, GENERATION) == wanted && part(ours, NUMBER, GENERATION) == given
+            if part(theirs, NUMBER, GENERATION) == wanted
+                && part(ours, NUMBER, GENERATION) == given
             {
                 return true;
             }

@@ -8,23 +8,27 @@ use std::alloc::Global;
 
 /// NFS, MOUNT and NLM.
 const NFS: u32 = 100003;
+
 const MOUNT: u32 = 100005;
+
 const NLM: u32 = 100021;
 
 /// MNT of MOUNT, and SHARE and UNSHARE of NLM, whose results have a sequence.
 const MNT: u32 = 1;
+
 const SHARE: u32 = 20;
+
 const UNSHARE: u32 = 21;
 
 /// NFS3ERR_JUKEBOX, MNT3ERR_SERVERFAULT and NLM4_DENIED_NOLOCKS.
 const JUKEBOX: [u8; 4] = [0, 0, 0x27, 0x18];
+
 const SERVERFAULT: [u8; 4] = [0, 0, 0x27, 0x16];
+
 const DENIED_NOLOCKS: [u8; 4] = [0, 0, 0, 2];
 
 /// That a call is accepted, and met an error of the system.
-const SYSTEM_ERROR: [u8; 20] = [
-    0, 0, 0, 1, 0, 0, 0, 0, 0, 0, 0, 0, 0, 0, 0, 0, 0, 0, 0, 5,
-];
+const SYSTEM_ERROR: [u8; 20] = [0, 0, 0, 1, 0, 0, 0, 0, 0, 0, 0, 0, 0, 0, 0, 0, 0, 0, 0, 5];
 
 /// What hides an object's attributes, by words: none, those of an object, of one before and behind, of one and of the
 /// directory of its link, of two directories.
@@ -32,8 +36,11 @@ const NOTHING: [u8; 16] = [0; 16];
 
 /// Where the transaction id of a call stands in its record, its program, its procedure and its credential.
 const XID: usize = 4;
+
 const PROGRAM: usize = 16;
+
 const PROCEDURE: usize = 24;
+
 const CREDENTIAL: usize = 28;
 
 /// The answer to the call of this record where it is refused for want of memory.
@@ -60,8 +67,15 @@ fn results(alloc: Global, call: &[u8]) -> Result<Option<Vec<u8>>, Fault> {
         }
         MOUNT if procedure == MNT => SERVERFAULT.to_vec(alloc)?,
         NLM if is_deniable(procedure) => {
-            let sequence = if procedure == SHARE || procedure == UNSHARE { 4 } else { 0 };
-            joined(alloc, &[cookie(call), &DENIED_NOLOCKS, part(&NOTHING, 0, sequence)])?
+            let sequence = if procedure == SHARE || procedure == UNSHARE {
+                4
+            } else {
+                0
+            };
+            joined(
+                alloc,
+                &[cookie(call), &DENIED_NOLOCKS, part(&NOTHING, 0, sequence)],
+            )?
         }
         _ => return Ok(None),
     };

@@ -223,7 +223,9 @@ impl<'a> Scene<'a> {
         let record = self.handles.applied(self.alloc, stream.call(number))?;
         let Difference { line, start, end } = stream.replies_to(number);
         let wanted = part(&stream.replies, start, end);
-        let (written, end) = self.server.answers_at_last(self.alloc, &record, wanted.len())?;
+        let (written, end) = self
+            .server
+            .answers_at_last(self.alloc, &record, wanted.len())?;
         drop(record);
         if end == Ok(Served) && self.is_as(wanted, &written)? {
             return Ok(true);
@@ -257,13 +259,7 @@ impl<'a> Scene<'a> {
     }
 
     /// Tells what an answer of this line must be, and what it is.
-    fn tell<R: Print>(
-        &self,
-        rt: &R,
-        line: u64,
-        wanted: &[u8],
-        given: &[u8],
-    ) -> Result<(), Fault> {
+    fn tell<R: Print>(&self, rt: &R, line: u64, wanted: &[u8], given: &[u8]) -> Result<(), Fault> {
         let title = self.title;
         println!(rt; "line {line}: {title}")?;
         let wanted = words_in(self.alloc, wanted)?;
