@@ -69,6 +69,25 @@ use Rattle.nfs_names.specs.Making.{IsMakeEnd, IsNewEnd, IsThereEnd, MakeEnd, Mak
 use Rattle.nfs_names.specs.Making.{add_checked, made_at, placed_end}
 use Rattle.nfs_names.specs.declared.make.Accepted.{Accepted}
 
+-- ---- a new name
+-- what it asks for by a directory and a name that are these, the call may ask for that brings both
+pub new-stops : (d : DraftValue) (place : Place) (x known : Known) (name : List ℕ) (halt : Halt) → x ≡ known →
+    name ≡ place.name → IsOfExport place.directory known.export → HasNumber place.directory known.number →
+    StopsMaking d (usages_of x.export 64 ++ next_places d.view x.number name) halt →
+    StopsMaking d (brought_by d.view place.directory ++ added_at d.view place) halt
+new-stops d place x known name halt same named usage number stops =
+    let brought : List Addr = brought_by d.view place.directory ++ added_at d.view place in
+    stops-within d.modes (usages_of known.export 64 ++ next_places d.view known.number place.name) brought 1 d.view halt
+    (covers-both brought d.view (usages_of known.export 64) (next_places d.view known.number place.name)
+    (covers-among (usages_of known.export 64) brought d.view
+    (λ a among. among-front (brought_by d.view place.directory) (added_at d.view place) a
+    (among-brought d.view place.directory known.export usage a among)))
+    (covers-among (next_places d.view known.number place.name) brought d.view
+    (λ a among. among-behind (brought_by d.view place.directory) (added_at d.view place) a
+    (next-added d.view place known.number number a among))))
+    (subst (λ n. StopsMaking d (usages_of known.export 64 ++ next_places d.view known.number n) halt) named
+    (subst (λ (z : Known). StopsMaking d (usages_of z.export 64 ++ next_places d.view z.number name) halt) same stops))
+
 -- ---- the checks of the directory, and what its entries lead to
 abbrev number_of : Option Entry → Option ℕ
 number_of = option_map (λ (e : Entry). e.number)
@@ -180,15 +199,8 @@ module _ (d : DraftValue) (place : Place) (asked : Result Wanted NfsStatus) (the
         DoesOr (StopsMaking d (usages_of x.export 64 ++ next_places d.view x.number place.name))
         (IsNewEnd d.ctx wanted x place.name) → Made_in
     new-ends usage number to = ends-so (StopsMaking d (usages_of x.export 64 ++ next_places d.view x.number place.name))
-        (λ halt stops.
-        stops-within d.modes (usages_of x.export 64 ++ next_places d.view x.number place.name) brought 1 d.view halt
-        (covers-both brought d.view (usages_of x.export 64) (next_places d.view x.number place.name)
-        (covers-among (usages_of x.export 64) brought d.view
-        (λ a among. among-front (brought_by d.view place.directory) (added_at d.view place) a
-        (among-brought d.view place.directory x.export usage a among)))
-        (covers-among (next_places d.view x.number place.name) brought d.view
-        (λ a among. among-behind (brought_by d.view place.directory) (added_at d.view place) a
-        (next-added d.view place x.number number a among)))) stops) (IsNewEnd d.ctx wanted x place.name)
+        (λ halt stops. new-stops d place x x place.name halt refl refl usage number stops)
+        (IsNewEnd d.ctx wanted x place.name)
         (λ s k w end is. elim is [
           | inl all ↦ inl (λ choice. leads None to s k w choice ∙ all choice)
           | inr chosen ↦ inr (chosen.0, chosen.1, leads None to s k w chosen.0 ∙ chosen.2)

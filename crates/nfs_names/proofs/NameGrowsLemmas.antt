@@ -7,6 +7,7 @@ use Rattle.nfs_machine.specs.declared.handle.Handle.{Handle}
 use Rattle.nfs_objects.proofs.StandsInExportLemmas.{inode-stands}
 use Rattle.nfs_objects.proofs.KnowsLemmas.{Covers, among-behind, among-front, covers-among, covers-both, stops-wider}
 use Rattle.nfs_objects.proofs.KnowsLemmas.{stops-within, turned-stops}
+use Rattle.nfs_objects.proofs.PromiseLemmas.{turns-none}
 use Rattle.nfs_objects.specs.Asks.{IsThere}
 use Rattle.nfs_objects.specs.Calls.{IsAmong, added_at, addresses_of, header_shown, next_places, places_for, usages_of}
 use Rattle.nfs_objects.specs.Knows.{Turns}
@@ -180,3 +181,14 @@ giving-stops d mid op place n kind cookie halt turns none shown stays has next l
     (covers-added d.view place n (grown_at mid n place.name cookie) has
     (grown-covers d mid n kind place.name cookie none shown stays next lives))
     (turned-stops d mid op (grown_at mid n place.name cookie) 0 halt turns stops)
+
+-- the same of a directory and a name that are these
+pub giving-as : (d : DraftValue) (place : Place) (x known : Known) (name : List ℕ) (cookie : ℕ) (halt : Halt) →
+    x ≡ known → name ≡ place.name → d.writes ≡ [] → IsShown d known → HasNumber place.directory known.number →
+    IsNextCookie d known.number cookie → IsThere d.view (addresses.Inode known.number) →
+    StopsAt d (grown_at d x.number name cookie) halt → StopsAt d (added_at d.view place) halt
+giving-as d place x known name cookie halt same named none shown has next lives stops =
+    giving-stops d d (λ k. k) place known.number known.attributes.kind cookie halt (turns-none d) none shown refl has
+    next lives
+    (subst (λ n. StopsAt d (grown_at d known.number n cookie) halt) named
+    (subst (λ (z : Known). StopsAt d (grown_at d z.number name cookie) halt) same stops))

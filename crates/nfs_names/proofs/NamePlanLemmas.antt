@@ -2,7 +2,7 @@
 use Rattle.std.proofs.Common.{◌≡◌, ℕ, List, [], ◌∷◌, ◌++◌, Option, Some, None, IsSome, inl, inr, refl, sym, ap, subst}
 use Rattle.std.proofs.Common.{option_map, slice_get, suc, zero}
 use Rattle.std.specs.Option.{option_and_then}
-use Rattle.std.specs.Prelude.{IfSome, MatchOption}
+use Rattle.std.specs.Prelude.{IfErr, IfSome, MatchOption, Result}
 use Rattle.std.specs.declared.alloc.Global.{Global}
 use Rattle.std.specs.declared.vec.Vec.{Vec}
 use Rattle.nfs_wire.specs.declared.calls.NfsCall.{NfsCall}
@@ -11,7 +11,7 @@ use Rattle.nfs_machine.specs.declared.calls.Call.{Call}
 use Rattle.nfs_machine.specs.declared.calls.Call.TheVariants as calls
 use Rattle.nfs_machine.specs.declared.context.Ctx.{Ctx}
 use Rattle.nfs_machine.specs.declared.handle.Handle.{Handle}
-use Rattle.nfs_objects.proofs.KnowsLemmas.{among-behind, names-objects, stops-wider}
+use Rattle.nfs_objects.proofs.KnowsLemmas.{Covers, among-behind, names-objects, stops-wider}
 use Rattle.nfs_objects.proofs.SeenLemmas.{unknown-unseen}
 use Rattle.nfs_objects.specs.Asks.{Asks}
 use Rattle.nfs_objects.specs.Begins.{Begins}
@@ -20,12 +20,16 @@ use Rattle.nfs_objects.specs.Modes.{held_mode, modes_of}
 use Rattle.nfs_objects.specs.Values.{DraftValue, ViewValue, known_at, new_draft}
 use Rattle.nfs_objects.specs.declared.address.Addr.{Addr}
 use Rattle.nfs_objects.specs.declared.address.Addr.TheVariants as addresses
+use Rattle.nfs_objects.specs.declared.change.Halt.{Halt}
 use Rattle.nfs_objects.specs.declared.change.Halt.TheVariants as halts
 use Rattle.nfs_objects.specs.declared.modes.Mode.{Mode}
+use Rattle.nfs_inodes.proofs.NamedHaltLemmas.{asking}
+use Rattle.nfs_inodes.proofs.ReaderHaltLemmas.{halts-as}
 use Rattle.nfs_inodes.specs.Gathers.{MayWish}
+use Rattle.nfs_inodes.specs.Stops.{StopsAt}
 use Rattle.nfs_inodes.specs.Wants.{IsWanted}
 use Rattle.nfs_inodes.specs.declared.wishes.Want.{Want}
-use Rattle.nfs_names.specs.Plans.{MayGoOn, MayWant, second_number}
+use Rattle.nfs_names.specs.Plans.{MayGoOn, MayHalt, MayWant, second_number}
 use Rattle.nfs_names.specs.declared.plan.Plan.{Plan}
 
 -- where something stands there
@@ -76,6 +80,20 @@ pub wishes-wanted : (d : DraftValue) (asked : Vec (Addr × Mode) Global) → Ask
     (call : NfsCall) → Asks d.modes (named_by (calls.Nfs call) d.view) d.view asked.items
 wishes-wanted d asked asks call =
     stops-wider d.modes [] (named_by (calls.Nfs call) d.view) 0 d.view (halts.Need asked) tt asks
+
+-- ---- what it asks for last
+-- who may ask for no more than the call names may halt so
+pub asks-ended : {A : Type 0} (call : Call) (d : DraftValue) (few : List Addr) (r : Result A Halt) → Begins call d →
+    Covers (named_by call d.view) d.view few → IfErr r (StopsAt d few) → IfErr r (MayHalt call d)
+asks-ended call d few r begins covers =
+    halts-as (StopsAt d few) (MayHalt call d) r (λ halt. asking d call halt begins few covers)
+
+-- what is asked for so may be wanted
+pub need-wanted : (call : NfsCall) (d : DraftValue) (asked : Vec (Addr × Mode) Global) → Begins (calls.Nfs call) d →
+    MayHalt (calls.Nfs call) d (halts.Need asked) →
+    Asks d.modes (named_by (calls.Nfs call) d.view) d.view asked.items
+need-wanted call d asked begins may =
+    subst (λ m. Asks m (named_by (calls.Nfs call) d.view) d.view asked.items) (sym begins.modes) may
 
 -- ---- the draft of a call
 module _ (call : Call) (names : NfsCall) (ctx : Ctx) (view : ViewValue) (d : DraftValue) (is : call ≡ calls.Nfs names)

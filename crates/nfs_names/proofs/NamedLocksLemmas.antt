@@ -101,3 +101,16 @@ always-counting d n P (Err halt) lives counts stops =
     (covers-both (locks_at n) d.view (addresses_of d.view n) (group_at n (inode_at d n)) (inr lives, tt)
     (group-lives d n d.view (locks_at n) refl counts))
     (covers-among (locks_at n) (locks_at n) d.view (λ a among. among))) stops
+
+-- a name that a directory loses, with an object that lives
+pub lost-stops : (d : DraftValue) (place n : ℕ) (all : List Addr) (halt : Halt) →
+    IsThere d.view (addresses.Inode place) → IsThere d.view (addresses.Inode n) → UsageLives d n →
+    ((a : Addr) → IsAmong (locks_at n) a → IsAmong all a) →
+    StopsAt d (addresses_of d.view place ++ (counted_at d n ++ locks_at n)) halt → StopsAt d all halt
+lost-stops d place n all halt there lives counts among stops =
+    stops-wider d.modes (addresses_of d.view place ++ (counted_at d n ++ locks_at n)) all 0 d.view halt
+    (covers-both all d.view (addresses_of d.view place) (counted_at d n ++ locks_at n) (inr there, tt)
+    (covers-both all d.view (counted_at d n) (locks_at n)
+    (covers-both all d.view (addresses_of d.view n) (group_at n (inode_at d n)) (inr lives, tt)
+    (group-lives d n d.view all refl counts))
+    (covers-among (locks_at n) all d.view among))) stops

@@ -1,6 +1,6 @@
 //! LINK: one more name for an object that is no directory (RFC 1813, 3.3.15).
 
-ghost use Rattle.std.specs.Prelude.{◌≡◌, ◌∷◌, [], IfOk, MatchResult};
+ghost use Rattle.std.specs.Prelude.{◌≡◌, ◌∷◌, [], IfErr, IfOk, MatchResult};
 ghost use Rattle.nfs_machine.specs.declared.calls.Call.TheVariants as calls;
 ghost use Rattle.nfs_objects.specs.Attempt.{EndsCall, EndsFirst};
 ghost use Rattle.nfs_objects.specs.Begins.{Begins};
@@ -11,11 +11,12 @@ ghost use Rattle.nfs_inodes.specs.Kinds.{IsShown};
 ghost use Rattle.nfs_inodes.specs.Known.{HasNumber, Names};
 ghost use Rattle.nfs_inodes.specs.Stops.{StopsAt};
 ghost use Rattle.nfs_names.specs.Links.{IsLinkEnd, LinkComesTo};
+ghost use Rattle.nfs_names.specs.Plans.{MayHalt};
 
 use crate::checking::changed_directory;
 use nfs_inodes::{
-    Directory, Known, LINK_LIMIT, add_link, entry, exports, named, new_cookie, no_directory,
-    nothing_shown, shown, wcc,
+    Directory, Known, LINK_LIMIT, add_link, ask_given, entry, exports, named, new_cookie,
+    no_directory, nothing_shown, shown, wcc,
 };
 use nfs_machine::{Ctx, Reply};
 use nfs_objects::{Addr, Change, Draft, Halt, LivingExport};
@@ -87,6 +88,50 @@ fn link(
     let links = file.attributes.links + 1;
     add_link(draft, &directory, name, cookie, file.number, links)?;
     Ok(Ok(()))
+}
+
+/// Asks for all that LINK has to hold before it changes anything.
+///
+/// # Errors
+///
+/// `Need` of that, and `Memory`.
+pub(crate) fn ask(draft: &Draft<'_>, arguments: &LinkArguments) -> Result<(), Halt>
+    requires { Begins (calls.Nfs (NfsCall.Link arguments.now)) draft.now }
+    ensures { IfErr result (MayHalt (calls.Nfs (NfsCall.Link arguments.now)) draft.now) }
+{
+    let Ok(file) = named(draft, arguments.file.as_slice())? else {
+        return Ok(());
+    };
+    let Ok(directory) = named(draft, arguments.place.directory.as_slice())? else {
+        return Ok(());
+    };
+    ask_linked(draft, &file, &directory, arguments)
+}
+
+/// The same of what the handles name.
+fn ask_linked(
+    draft: &Draft<'_>,
+    file: &Known,
+    known: &Known,
+    arguments: &LinkArguments,
+) -> Result<(), Halt>
+    requires none { draft.now.writes ≡ [] }
+    requires directory { Knows draft.now (λ k. Names draft.now.ctx arguments.now.place.directory k known.now) }
+    requires shown { IsShown draft.now known.now }
+    requires target { HasNumber arguments.now.place.directory known.now.number }
+    ensures { IfErr result (StopsAt draft.now (Addr.Exports ∷ added_at draft.now.view arguments.now.place)) }
+{
+    let name = arguments.place.name.as_slice();
+    let Ok(directory) = linkable(draft.ctx(), exports(draft)?, file, known, name) else {
+        return Ok(());
+    };
+    if file.attributes.links >= LINK_LIMIT || entry(draft, &directory, name)?.is_some() {
+        return Ok(());
+    }
+    match new_cookie(draft, &directory)? {
+        Some(cookie) => ask_given(draft, &directory, name, cookie),
+        None => Ok(()),
+    }
 }
 
 /// The checks of the file, its new directory and its new name: where they pass, the rest decides.

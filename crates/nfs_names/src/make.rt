@@ -21,9 +21,9 @@ ghost use Rattle.nfs_names.specs.Making.{judged, there_as};
 
 use crate::over::create_over;
 use nfs_inodes::{
-    Directory, Known, Right, Wanted, changeable, directory, entry, exports, given_attributes,
-    handle, kind_checked, make_object, named, new_cookie, nothing_shown, object, permitted,
-    plain_name_checked, wcc,
+    Directory, Known, Right, Wanted, ask_made, changeable, directory, entry, exports,
+    given_attributes, handle, kind_checked, make_object, named, new_cookie, nothing_shown, object,
+    permitted, plain_name_checked, wcc,
 };
 use nfs_machine::Ctx;
 use nfs_objects::{Draft, Halt, LivingExport};
@@ -175,6 +175,73 @@ fn make_new(
     };
     let reserved = make_object(draft, directory, name, cookie, wanted)?;
     Ok(Ok(made(draft, reserved.number)?))
+}
+
+/// Asks for all that making has to hold before it changes anything, where nothing has the name.
+///
+/// # Errors
+///
+/// `Fresh` where no number is reserved, `Need` of all else, and `Memory`.
+pub(crate) fn ask(
+    draft: &Draft<'_>,
+    place: &Place,
+    asked: Result<Wanted<'_>, NfsStatus>,
+) -> Result<(), Halt>
+    requires { draft.now.writes ≡ [] }
+    ensures { IfErr result (StopsMaking draft.now
+        (brought_by draft.now.view place.now.directory ++ added_at draft.now.view place.now)) }
+{
+    match named(draft, place.directory.as_slice())? {
+        Ok(known) => ask_in(draft, &known, place, asked),
+        Err(_) => Ok(()),
+    }
+}
+
+/// The same in the directory that the handle names.
+fn ask_in(
+    draft: &Draft<'_>,
+    known: &Known,
+    place: &Place,
+    asked: Result<Wanted<'_>, NfsStatus>,
+) -> Result<(), Halt>
+    requires none { draft.now.writes ≡ [] }
+    requires names { Knows draft.now (λ k. Names draft.now.ctx place.now.directory k known.now) }
+    requires shown { IsShown draft.now known.now }
+    requires usage { IsOfExport place.now.directory known.now.export }
+    requires number { HasNumber place.now.directory known.now.number }
+    ensures { IfErr result (StopsMaking draft.now
+        (brought_by draft.now.view place.now.directory ++ added_at draft.now.view place.now)) }
+{
+    let name = place.name.as_slice();
+    let Ok(accepted) = addable(draft.ctx(), exports(draft)?, known, name, asked) else {
+        return Ok(());
+    };
+    if entry(draft, &accepted.directory, name)?.is_some() {
+        return Ok(());
+    }
+    ask_new(draft, &accepted.directory, name, &accepted.wanted)
+}
+
+/// The same where nothing has the name.
+fn ask_new(
+    draft: &Draft<'_>,
+    directory: &Directory,
+    name: &[u8],
+    wanted: &Wanted<'_>,
+) -> Result<(), Halt>
+    requires none { draft.now.writes ≡ [] }
+    requires shown { IsShown draft.now directory.now.known }
+    requires lives { IsThere draft.now.view (addresses.Inode directory.now.known.number) }
+    ensures { IfErr result (StopsMaking draft.now (usages_of directory.now.known.export 64
+        ++ next_places draft.now.view directory.now.known.number name.now)) }
+{
+    if judged(draft.ctx(), directory, wanted).is_err() {
+        return Ok(());
+    }
+    match new_cookie(draft, directory)? {
+        Some(cookie) => ask_made(draft, directory, name, cookie),
+        None => Ok(()),
+    }
 }
 
 /// The checks of what is asked for.

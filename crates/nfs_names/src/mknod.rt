@@ -1,10 +1,12 @@
 //! MKNOD: a new device, socket or FIFO under a name (RFC 1813, 3.3.11).
 
+ghost use Rattle.std.specs.Prelude.{IfErr};
 ghost use Rattle.nfs_machine.specs.declared.calls.Call.TheVariants as calls;
 ghost use Rattle.nfs_objects.specs.Attempt.{EndsCall, EndsFirst};
 ghost use Rattle.nfs_objects.specs.Begins.{Begins};
+ghost use Rattle.nfs_names.specs.Plans.{MayHalt};
 
-use crate::make::{There, make};
+use crate::make::{self, There, make};
 use nfs_inodes::special_wanted;
 use nfs_machine::Reply;
 use nfs_objects::{Change, Draft, Halt};
@@ -19,4 +21,16 @@ pub(crate) fn attempt(mut draft: Draft<'_>, arguments: &MknodArguments) -> Resul
     let asked = special_wanted(&arguments.what);
     let reply = make(&mut draft, &arguments.place, asked, There::Refused)?;
     Ok(draft.answer(Reply::Nfs(NfsReply::Mknod(reply))))
+}
+
+/// Asks for all that MKNOD has to hold before it changes anything, where nothing has the name.
+///
+/// # Errors
+///
+/// `Fresh` where no number is reserved, `Need` of all else, and `Memory`.
+pub(crate) fn ask(draft: &Draft<'_>, arguments: &MknodArguments) -> Result<(), Halt>
+    requires { Begins (calls.Nfs (NfsCall.Mknod arguments.now)) draft.now }
+    ensures { IfErr result (MayHalt (calls.Nfs (NfsCall.Mknod arguments.now)) draft.now) }
+{
+    make::ask(draft, &arguments.place, special_wanted(&arguments.what))
 }

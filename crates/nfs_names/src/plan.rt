@@ -3,9 +3,10 @@
 //! A call on names has a name that is there, which it looks up or takes away, its old name; or one that it adds, its
 //! new name; or both. Behind its first directory the plan goes to the second one, to the parts of its names and to what
 //! these lead to. Where RENAME moves a directory it goes up from its target (3.3.14: a directory may not move into
-//! itself or below). A call that lists a directory goes through its pages.
+//! itself or below). Where the checks of a call pass, all comes last that it has to hold to change its directories. A
+//! call that lists a directory goes through its pages.
 
-ghost use Rattle.std.specs.Prelude.{◌≡◌, [], IfSome, option_copied, slice_get};
+ghost use Rattle.std.specs.Prelude.{◌≡◌, [], IfErr, IfSome, option_copied, slice_get};
 ghost use Rattle.nfs_machine.specs.declared.calls.Call.TheVariants as calls;
 ghost use Rattle.nfs_objects.specs.Asks.{IsThere};
 ghost use Rattle.nfs_objects.specs.Begins.{Begins};
@@ -14,19 +15,20 @@ ghost use Rattle.nfs_objects.specs.Modes.{Suits, modes_of};
 ghost use Rattle.nfs_objects.specs.declared.address.Addr.TheVariants as addresses;
 ghost use Rattle.nfs_inodes.specs.Gathers.{MayWish};
 ghost use Rattle.nfs_inodes.specs.Wants.{IsWanted};
-ghost use Rattle.nfs_names.specs.Plans.{MayGoOn, MayWant, second_number};
+ghost use Rattle.nfs_names.specs.Plans.{MayGoOn, MayHalt, MayWant, second_number};
 
 use crate::page::{PageAsked, listable};
-use crate::{readdir, readdirplus};
+use crate::remove::Taking;
+use crate::{create, link, mkdir, mknod, readdir, readdirplus, remove, rename, symlink};
 use bytes::Bytes;
 use nfs_inodes::names::{is_above, is_self};
 use nfs_inodes::wishes::{
-    PagesLeft, Want, Wish, leaf_shown, pages_left, pages_wish, part_wish, shows_directory,
-    wish_there,
+    PagesLeft, Want, Wish, data_wish, leaf_shown, pages_left, pages_wish, part_wish,
+    shows_directory, wish_there,
 };
 use nfs_inodes::{above, named};
 use nfs_machine::{Call, Ctx, Handle};
-use nfs_objects::{Addr, Draft, Leaf, Modes, View};
+use nfs_objects::{Addr, Draft, Halt, Leaf, Modes, View};
 use nfs_wire::{NfsCall, Place};
 use std::alloc::Global;
 
@@ -54,6 +56,10 @@ pub enum Plan {
     Listing,
     /// Its next pages.
     Pages(PagesLeft),
+    /// What else it has to hold before it changes anything.
+    Rest,
+    /// The data of a file that goes with its last name.
+    Data,
     /// Nothing.
     Over,
 }
@@ -96,6 +102,8 @@ fn go_on(draft: &Draft<'_>, call: &NfsCall, plan: Plan) -> Next
         Plan::Above { moved, number } => way_up(draft, call, moved, number),
         Plan::Listing => listing(draft, call),
         Plan::Pages(left) => next_pages(draft, call, left),
+        Plan::Rest => rest(draft, call, true),
+        Plan::Data => data(draft, call),
         Plan::Over => None,
     }
 }
@@ -198,25 +206,27 @@ fn parent(draft: &Draft<'_>, call: &NfsCall) -> Next
     Some((Want::Address(wish), Plan::Over))
 }
 
-/// What the new name leads to, where CREATE may answer it.
+/// What the new name leads to, where CREATE may answer it, and what is behind that.
 fn new_object(draft: &Draft<'_>, call: &NfsCall) -> Next
     requires { Begins (calls.Nfs call.now) draft.now }
     ensures { MayGoOn call.now draft.now result }
 {
     let NfsCall::Create(arguments) = call else {
-        return None;
+        return rest(draft, call, false);
     };
-    let wish = object_at(draft, &arguments.place)?;
-    Some((Want::Address(wish), Plan::Over))
+    match object_at(draft, &arguments.place) {
+        Some(wish) => Some((Want::Address(wish), Plan::Over)),
+        None => rest(draft, call, false),
+    }
 }
 
-/// What RENAME replaces, and what is behind that: the way up from its target.
+/// What RENAME replaces, and what is behind that: the way up from its target; and the rest of other calls.
 fn replaced(draft: &Draft<'_>, call: &NfsCall, moved: u64) -> Next
     requires { Begins (calls.Nfs call.now) draft.now }
     ensures { MayGoOn call.now draft.now result }
 {
     let NfsCall::Rename(arguments) = call else {
-        return None;
+        return rest(draft, call, false);
     };
     let number = number_of(&arguments.to.directory)?;
     match object_at(draft, &arguments.to) {
@@ -225,18 +235,71 @@ fn replaced(draft: &Draft<'_>, call: &NfsCall, moved: u64) -> Next
     }
 }
 
-/// What is above a directory, where RENAME moves a directory that is another.
+/// What is above a directory, where RENAME moves a directory that is another, and what is behind that.
 fn way_up(draft: &Draft<'_>, call: &NfsCall, moved: u64, number: u64) -> Next
     requires { Begins (calls.Nfs call.now) draft.now }
     ensures { MayGoOn call.now draft.now result }
 {
     if moved == number || !shows_directory(draft, moved) {
-        return None;
+        return rest(draft, call, false);
     }
-    let wish = above(draft, number)?;
+    let Some(wish) = above(draft, number) else {
+        return rest(draft, call, false);
+    };
     match wish.0 {
         Addr::Inode(number) => Some((Want::Address(wish), Plan::Above { moved, number })),
         _ => None,
+    }
+}
+
+/// What else a call has to hold before it changes anything, where its checks pass; and what is behind that, if some of
+/// it was taken already.
+fn rest(draft: &Draft<'_>, call: &NfsCall, begun: bool) -> Next
+    requires { Begins (calls.Nfs call.now) draft.now }
+    ensures { MayGoOn call.now draft.now result }
+{
+    match ask(draft, call) {
+        Err(Halt::Need(asked)) => Some((Want::Addresses(asked), behind_rest(call))),
+        Err(Halt::Fresh(count)) => Some((Want::Numbers(count), Plan::Rest)),
+        Ok(()) if begun => data(draft, call),
+        _ => None,
+    }
+}
+
+/// Where the plan is once a call has what it lacked: RENAME asks bit by bit, and others once.
+fn behind_rest(call: &NfsCall) -> Plan {
+    match call {
+        NfsCall::Rename(_) => Plan::Rest,
+        NfsCall::Remove(_) => Plan::Data,
+        _ => Plan::Over,
+    }
+}
+
+/// The data of a file that goes with its last name.
+fn data(draft: &Draft<'_>, call: &NfsCall) -> Next
+    requires { Begins (calls.Nfs call.now) draft.now }
+    ensures { MayGoOn call.now draft.now result }
+{
+    let leaf = leaf_at(draft, lost_name(call)?)?;
+    let asked = data_wish(draft, leaf.number)?;
+    Some((Want::Addresses(asked), Plan::Data))
+}
+
+/// Asks for what else a call has to hold before it changes anything, where its checks pass.
+fn ask(draft: &Draft<'_>, call: &NfsCall) -> Result<(), Halt>
+    requires { Begins (calls.Nfs call.now) draft.now }
+    ensures { IfErr result (MayHalt (calls.Nfs call.now) draft.now) }
+{
+    match call {
+        NfsCall::Create(arguments) => create::ask(draft, arguments),
+        NfsCall::Mkdir(arguments) => mkdir::ask(draft, arguments),
+        NfsCall::Symlink(arguments) => symlink::ask(draft, arguments),
+        NfsCall::Mknod(arguments) => mknod::ask(draft, arguments),
+        NfsCall::Link(arguments) => link::ask(draft, arguments),
+        NfsCall::Remove(place) => remove::ask(draft, Taking::Remove, place),
+        NfsCall::Rmdir(place) => remove::ask(draft, Taking::Rmdir, place),
+        NfsCall::Rename(arguments) => rename::ask(draft, arguments),
+        _ => Ok(()),
     }
 }
 
@@ -330,6 +393,15 @@ fn new_name(call: &NfsCall) -> Option<&Place> {
         NfsCall::Symlink(arguments) => Some(&arguments.place),
         NfsCall::Mknod(arguments) => Some(&arguments.place),
         NfsCall::Link(arguments) => Some(&arguments.place),
+        NfsCall::Rename(arguments) => Some(&arguments.to),
+        _ => None,
+    }
+}
+
+/// The name that a call takes from a file.
+fn lost_name(call: &NfsCall) -> Option<&Place> {
+    match call {
+        NfsCall::Remove(place) => Some(place),
         NfsCall::Rename(arguments) => Some(&arguments.to),
         _ => None,
     }

@@ -1,6 +1,6 @@
 //! REMOVE and RMDIR: a name is taken away (RFC 1813, 3.3.12 and 3.3.13).
 
-ghost use Rattle.std.specs.Prelude.{◌≡◌, ◌∷◌, [], IfOk, MatchResult, Some};
+ghost use Rattle.std.specs.Prelude.{◌≡◌, ◌∷◌, [], IfErr, IfOk, MatchResult, Some};
 ghost use Rattle.nfs_machine.specs.RemoveSteps.{empty_directory};
 ghost use Rattle.nfs_objects.specs.Attempt.{EndsCall, EndsFirst};
 ghost use Rattle.nfs_objects.specs.Begins.{Begins};
@@ -10,12 +10,13 @@ ghost use Rattle.nfs_objects.specs.Modes.{changing, led_at};
 ghost use Rattle.nfs_inodes.specs.Kinds.{IsShown};
 ghost use Rattle.nfs_inodes.specs.Known.{HasNumber, IsKnown, Names, content_at};
 ghost use Rattle.nfs_inodes.specs.Stops.{StopsAt};
+ghost use Rattle.nfs_names.specs.Plans.{MayHalt};
 ghost use Rattle.nfs_names.specs.Removes.{IsTakable, IsTakenEnd, above, call_of, judged, reply_of};
 
 use crate::checking::changed_directory;
 use nfs_inodes::{
-    Directory, Known, directory, entry, exports, is_empty, named, no_directory, nothing_shown,
-    object, take_name, wcc,
+    Directory, Known, ask_lost, directory, entry, exports, is_empty, named, no_directory,
+    nothing_shown, object, take_name, wcc,
 };
 use nfs_machine::Reply;
 use nfs_objects::{Addr, Change, Draft, Halt};
@@ -81,6 +82,42 @@ fn take(
     };
     take_name(draft, &directory, name, &object)?;
     Ok(Ok(()))
+}
+
+/// Asks for all that REMOVE or RMDIR has to hold before it changes anything.
+///
+/// # Errors
+///
+/// `Need` of that, and `Memory`.
+pub(crate) fn ask(draft: &Draft<'_>, taking: Taking, place: &Place) -> Result<(), Halt>
+    requires { Begins (call_of taking place.now) draft.now }
+    ensures { IfErr result (MayHalt (call_of taking place.now) draft.now) }
+{
+    let Ok(directory) = named(draft, place.directory.as_slice())? else {
+        return Ok(());
+    };
+    ask_taken(draft, taking, &directory, place)
+}
+
+/// The same in the directory that the handle names.
+fn ask_taken(draft: &Draft<'_>, taking: Taking, known: &Known, place: &Place) -> Result<(), Halt>
+    requires none { draft.now.writes ≡ [] }
+    requires names { Knows draft.now (λ k. Names draft.now.ctx place.now.directory k known.now) }
+    requires number { HasNumber place.now.directory known.now.number }
+    requires shown { IsShown draft.now known.now }
+    ensures { IfErr result (StopsAt draft.now (Addr.Exports ∷ locks_under draft.now.view place.now)) }
+{
+    let name = place.name.as_slice();
+    let own = NfsStatus::Invalid;
+    let exports = exports(draft)?;
+    let Ok(directory) = changed_directory(own, above(taking), draft.ctx(), exports, known, name)
+    else {
+        return Ok(());
+    };
+    let Ok(object) = takable(draft, taking, &directory, name)? else {
+        return Ok(());
+    };
+    ask_lost(draft, &directory, name, &object)
 }
 
 /// The status of a call that would take `..` away.

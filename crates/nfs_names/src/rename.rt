@@ -2,7 +2,7 @@
 
 ghost use Rattle.std.specs.Prelude.{◌≡◌, ◌≤◌, ◌==◌, ◌||◌, ◌++◌, ◌↔◌, [], true, false};
 ghost use Rattle.std.specs.Prelude.{length, not};
-ghost use Rattle.std.specs.Prelude.{IfOk, IfSome, MatchResult, Some, is_some, nat_lt};
+ghost use Rattle.std.specs.Prelude.{IfErr, IfOk, IfSome, MatchResult, Some, is_some, nat_lt};
 ghost use Rattle.std.specs.Option.{option_map_or};
 ghost use Rattle.nfs_machine.specs.Checks.{link_limit};
 ghost use Rattle.nfs_machine.specs.RenameSteps.{IsWithin, is_compatible};
@@ -22,15 +22,16 @@ ghost use Rattle.nfs_inodes.specs.Kinds.{IsShown};
 ghost use Rattle.nfs_inodes.specs.Known.{HasNumber, IsKnown, Names, content_at};
 ghost use Rattle.nfs_inodes.specs.Removes.{is_directory_type};
 ghost use Rattle.nfs_inodes.specs.Stops.{StopsAt, UsageLives};
+ghost use Rattle.nfs_names.specs.Plans.{MayHalt};
 ghost use Rattle.nfs_names.specs.Renames.{BothShown, ComesToBoth, IsRenameEnd, IsRenaming, IsUnder, MayRename};
 ghost use Rattle.nfs_names.specs.Renames.{brings_directory};
 ghost use Rattle.nfs_names.specs.Renames.{entry_moved, is_one_directory, links_given, links_left, locks_replaced};
 ghost use Rattle.nfs_names.specs.Renames.{names_counted, rename_checked, renamed, replaced_lost, replaces_directory};
 
 use nfs_inodes::{
-    Directory, Known, LINK_LIMIT, Right, changeable, directory, entry, exports, give_name,
-    is_empty, is_within, leave, lose_link, named, new_cookie, nothing_shown, object, permitted,
-    plain_name_checked, rehome, wcc,
+    Directory, Known, LINK_LIMIT, Right, ask_given, ask_left, ask_lost, changeable, directory,
+    entry, exports, give_name, is_empty, is_within, leave, lose_link, named, new_cookie,
+    nothing_shown, object, permitted, plain_name_checked, rehome, wcc,
 };
 use nfs_machine::{Ctx, Reply};
 use nfs_objects::{Change, Draft, Halt, LivingExport, Mode};
@@ -223,6 +224,101 @@ fn rename_found(
     };
     move_name(draft, renaming, arguments, cookie)?;
     Ok(Ok(()))
+}
+
+/// Asks for what RENAME has to hold before it changes anything: a bit of it, until it lacks nothing.
+///
+/// # Errors
+///
+/// `Need` of that, and `Memory`.
+pub(crate) fn ask(draft: &Draft<'_>, arguments: &RenameArguments) -> Result<(), Halt>
+    requires { Begins (calls.Nfs (NfsCall.Rename arguments.now)) draft.now }
+    ensures { IfErr result (MayHalt (calls.Nfs (NfsCall.Rename arguments.now)) draft.now) }
+{
+    let Ok(from) = named(draft, arguments.from.directory.as_slice())? else {
+        return Ok(());
+    };
+    let Ok(to) = named(draft, arguments.to.directory.as_slice())? else {
+        return Ok(());
+    };
+    ask_renamed(draft, &from, &to, arguments)
+}
+
+/// The same of what the handles name.
+fn ask_renamed(
+    draft: &Draft<'_>,
+    from: &Known,
+    to: &Known,
+    arguments: &RenameArguments,
+) -> Result<(), Halt>
+    requires none { draft.now.writes ≡ [] }
+    requires from { Knows draft.now (λ k. Names draft.now.ctx arguments.now.from.directory k from.now) }
+    requires to { Knows draft.now (λ k. Names draft.now.ctx arguments.now.to.directory k to.now) }
+    requires target { HasNumber arguments.now.to.directory to.now.number }
+    requires shown { BothShown draft.now from.now to.now }
+    ensures { IfErr result (StopsAt draft.now (named_by (calls.Nfs (NfsCall.Rename arguments.now)) draft.now.view)) }
+{
+    let Ok(places) = movable(draft.ctx(), exports(draft)?, from, to, arguments) else {
+        return Ok(());
+    };
+    let Some(moved) = object_under(draft, &places.from, arguments.from.name.as_slice())? else {
+        return Ok(());
+    };
+    let replaced = object_under(draft, &places.to, arguments.to.name.as_slice())?;
+    let renaming = Renaming {
+        from: places.from,
+        to: places.to,
+        moved,
+        replaced,
+    };
+    ask_found(draft, &renaming, arguments)
+}
+
+/// The same where the old name leads to an object.
+fn ask_found(
+    draft: &Draft<'_>,
+    renaming: &Renaming,
+    arguments: &RenameArguments,
+) -> Result<(), Halt>
+    requires none { draft.now.writes ≡ [] }
+    requires shown { BothShown draft.now renaming.now.from.known renaming.now.to.known }
+    requires finds { Knows draft.now (λ k. IsRenaming k draft.now.ctx arguments.now renaming.now) }
+    requires target { HasNumber arguments.now.to.directory renaming.now.to.known.number }
+    ensures { IfErr result
+        (StopsAt draft.now (added_at draft.now.view arguments.now.to ++ locks_replaced renaming.now)) }
+{
+    if is_one_object(renaming) || !has_room(renaming) || !is_replaceable(draft, renaming)? {
+        return Ok(());
+    }
+    match new_cookie(draft, &renaming.to)? {
+        Some(cookie) => ask_moved(draft, renaming, arguments, cookie),
+        None => Ok(()),
+    }
+}
+
+/// Asks for what both directories have to hold, and for what goes with an object that is replaced.
+fn ask_moved(
+    draft: &Draft<'_>,
+    renaming: &Renaming,
+    arguments: &RenameArguments,
+    cookie: u64,
+) -> Result<(), Halt>
+    requires none { draft.now.writes ≡ [] }
+    requires shown { BothShown draft.now renaming.now.from.known renaming.now.to.known }
+    requires from { IsThere draft.now.view (addresses.Inode renaming.now.from.known.number) }
+    requires to { IsThere draft.now.view (addresses.Inode renaming.now.to.known.number) }
+    requires lives { IfSome renaming.now.replaced (λ o. IsThere draft.now.view (addresses.Inode o.number)) }
+    requires target { HasNumber arguments.now.to.directory renaming.now.to.known.number }
+    requires next { IsNextCookie draft.now renaming.now.to.known.number cookie }
+    ensures { IfErr result
+        (StopsAt draft.now (added_at draft.now.view arguments.now.to ++ locks_replaced renaming.now)) }
+{
+    let name = arguments.to.name.as_slice();
+    ask_left(draft, &renaming.from, arguments.from.name.as_slice())?;
+    if let Some(replaced) = &renaming.replaced {
+        ask_lost(draft, &renaming.to, name, replaced)?;
+    }
+    ask_given(draft, &renaming.to, name, cookie)
 }
 
 /// Whether both names lead to one object.

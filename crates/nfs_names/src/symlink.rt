@@ -1,10 +1,12 @@
 //! SYMLINK: a new symbolic link under a name (RFC 1813, 3.3.10).
 
+ghost use Rattle.std.specs.Prelude.{IfErr};
 ghost use Rattle.nfs_machine.specs.declared.calls.Call.TheVariants as calls;
 ghost use Rattle.nfs_objects.specs.Attempt.{EndsCall, EndsFirst};
 ghost use Rattle.nfs_objects.specs.Begins.{Begins};
+ghost use Rattle.nfs_names.specs.Plans.{MayHalt};
 
-use crate::make::{There, make};
+use crate::make::{self, There, make};
 use nfs_inodes::link_wanted;
 use nfs_machine::Reply;
 use nfs_objects::{Change, Draft, Halt};
@@ -19,4 +21,20 @@ pub(crate) fn attempt(mut draft: Draft<'_>, arguments: &SymlinkArguments) -> Res
     let wanted = link_wanted(&arguments.attributes, arguments.text.as_slice());
     let reply = make(&mut draft, &arguments.place, Ok(wanted), There::Refused)?;
     Ok(draft.answer(Reply::Nfs(NfsReply::Symlink(reply))))
+}
+
+/// Asks for all that SYMLINK has to hold before it changes anything, where nothing has the name.
+///
+/// # Errors
+///
+/// `Fresh` where no number is reserved, `Need` of all else, and `Memory`.
+pub(crate) fn ask(draft: &Draft<'_>, arguments: &SymlinkArguments) -> Result<(), Halt>
+    requires { Begins (calls.Nfs (NfsCall.Symlink arguments.now)) draft.now }
+    ensures { IfErr result (MayHalt (calls.Nfs (NfsCall.Symlink arguments.now)) draft.now) }
+{
+    make::ask(
+        draft,
+        &arguments.place,
+        Ok(link_wanted(&arguments.attributes, arguments.text.as_slice())),
+    )
 }
