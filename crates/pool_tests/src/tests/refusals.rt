@@ -24,7 +24,9 @@ const MOST_STEPS: u64 = 64;
 
 /// NFS3ERR_JUKEBOX, MNT3ERR_SERVERFAULT and NLM4_DENIED_NOLOCKS (RFC 1813, 2.6, 5.1.5 and 6.1.4).
 const JUKEBOX: u32 = 10008;
+
 const SERVERFAULT: u32 = 10006;
+
 const DENIED_NOLOCKS: u32 = 2;
 
 /// Where the status of a LOCK is in its reply, behind its cookie of no bytes.
