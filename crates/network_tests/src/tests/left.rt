@@ -72,6 +72,20 @@ fn is_found<R: AllocGlobal + Clock>(rt: &R, stream: &TcpStream, name: u32) -> io
     Ok(false)
 }
 
+/// Whether a client beside one who left is answered, and what that one sent is done, also where it comes again.
+fn is_done<R: AllocGlobal + Clock>(
+    rt: &R,
+    beside: &TcpStream,
+    call: &[u32],
+    name: u32,
+) -> io::Result<bool> {
+    Ok(
+        exchange(rt.alloc(), beside, NULL)?
+            && is_found(rt, beside, name)?
+            && is_told(rt.alloc(), beside, call, OK)?,
+    )
+}
+
 /// Whether what clients sent who left is done, once, and a client beside them is answered all the while.
 pub(crate) fn are_done<R: AllocGlobal + Clock + Net<Listener = TcpListener, Stream = TcpStream>>(
     rt: &R,
@@ -83,10 +97,7 @@ pub(crate) fn are_done<R: AllocGlobal + Clock + Net<Listener = TcpListener, Stre
     for (xid, name, leaving) in CLIENTS {
         let call = mkdir(xid, name);
         leave(rt, tcp, &call, leaving)?;
-        is_well = is_well
-            && exchange(alloc, &beside, NULL)?
-            && is_found(rt, &beside, name)?
-            && is_told(alloc, &beside, &call, OK)?;
+        is_well = is_well && is_done(rt, &beside, &call, name).unwrap_or(false);
     }
     Ok(is_well && exchange(alloc, &beside, CHANGED)?)
 }
