@@ -84,6 +84,7 @@ fn is_served<
         + Threads
         + Wait
         + Clock
+        + Eprint
         + Copy
         + Drop
         + Send
@@ -101,6 +102,7 @@ fn is_served_within<
         + Threads
         + Wait
         + Clock
+        + Eprint
         + Copy
         + Drop
         + Send
@@ -125,6 +127,7 @@ fn serve_beside<
         + Threads
         + Wait
         + Clock
+        + Eprint
         + Copy
         + Drop
         + Send

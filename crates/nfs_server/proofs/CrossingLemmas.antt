@@ -13,6 +13,7 @@ use Rattle.nfs_server.proofs.callbacks.Callbacks.TheSendSync as callbacks
 use Rattle.nfs_server.proofs.clock.Latest.TheSendSync as latest
 use Rattle.nfs_server.proofs.clock.ServerClock.TheSendSync as clock
 use Rattle.nfs_server.proofs.network.bell.Bell.TheSendSync as bell
+use Rattle.nfs_server.proofs.network.counters.Counters.TheSendSync as counters
 use Rattle.nfs_server.proofs.network.failures.Failures.TheSendSync as failures
 use Rattle.nfs_server.proofs.network.jobs.Job.TheSendSync as job
 use Rattle.nfs_server.proofs.network.line.Line.TheSendSync as line
@@ -46,8 +47,11 @@ module _ (L : RattleType) (g : Ghosts L.Denot) (n : naming.Ghosts L.Denot) (s : 
           (
             search (sendable, crosses, bell.the_send, bell.the_sync) depth 20,
             (
-              search sendable depth 20,
-              (search (sendable, crosses, latest.the_send, latest.the_sync) depth 20, tt),
+              search (sendable, crosses, counters.the_send, counters.the_sync) depth 20,
+              (
+                search sendable depth 20,
+                (search (sendable, crosses, latest.the_send, latest.the_sync) depth 20, tt),
+              ),
             ),
           ),
         ),
@@ -59,7 +63,10 @@ module _ (L : RattleType) (g : Ghosts L.Denot) (n : naming.Ghosts L.Denot) (s : 
         places_send,
         (
           search (sendable, crosses, bell.the_send, bell.the_sync) depth 20,
-          (search (sendable, clock.the_send) depth 20, tt),
+          (
+            search (sendable, crosses, counters.the_send, counters.the_sync) depth 20,
+            (search (sendable, clock.the_send) depth 20, tt),
+          ),
         ),
       )
 

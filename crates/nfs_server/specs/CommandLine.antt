@@ -78,9 +78,10 @@ with_limits app =
     let workers = number_rule (codes "workers") (Unsigned 0 18446744073709551615) in
     let connections = number_rule (codes "connections") (Unsigned 0 18446744073709551615) in
     let accept = number_rule (codes "accept") (Unsigned 0 18446744073709551615) in
+    let stats = number_rule (codes "stats") (Unsigned 0 18446744073709551615) in
     let era = number_rule (codes "era") (Unsigned 0 18446744073709551615) in
     let cache = number_rule (codes "cache") (Unsigned 0 18446744073709551615) in
-    with_rule (with_rule (with_rule (with_rule (with_rule app workers) connections) accept) era) cache
+    with_rule (with_rule (with_rule (with_rule (with_rule (with_rule app workers) connections) accept) stats) era) cache
 
 -- the program's options
 unfoldable pub nfsd : App
@@ -167,6 +168,7 @@ pub record ReadsNetwork (rows : List Row) (limits : Limits) (network : NetworkOp
   pub workers : network.workers ≡ limits.workers
   pub connections : network.connections ≡ limits.connections
   pub accept : NamesNumber (codes "accept") 0 rows network.accept
+  pub stats : NamesNumber (codes "stats") 0 rows network.stats
 
 -- so many workers as a pool has seats for, beside those of connections
 abbrev pub HasWorkers : Transport → Type 0

@@ -93,6 +93,9 @@ const CONNECTIONS_HELP: &str = "Have so many connections open at most, 1 to 1024
 
 const ACCEPT_HELP: &str = "End after so many connections have come and ended [default: 0, never]";
 
+const STATS_HELP: &str =
+    "Tell the counts on standard error every so many seconds, and at the end [default: 0, never]";
+
 const ERA_HELP: &str = "Keep so many records at most, 1 to 65536 [default: 65536]";
 
 const CACHE_HELP: &str = "Keep so many replies of each host at most, 1 to 65536 [default: 1024]";
@@ -190,6 +193,7 @@ fn with_limits<'a>(alloc: Global, command: Command<'a>) -> Result<Command<'a>, A
             CONNECTIONS_HELP,
         ))?
         .arg(number(alloc, "accept", "K", value_parser!(u64), ACCEPT_HELP))?
+        .arg(number(alloc, "stats", "SECONDS", value_parser!(u64), STATS_HELP))?
         .arg(number(alloc, "era", "N", value_parser!(u64), ERA_HELP))?
         .arg(number(alloc, "cache", "N", value_parser!(u64), CACHE_HELP))
 }
@@ -412,6 +416,7 @@ fn named_network(
         workers: limits.workers,
         connections: limits.connections,
         accept: matches.get_one("accept").unwrap_or(0),
+        stats: matches.get_one("stats").unwrap_or(0),
         patience: Patience::USUAL,
     })
 }

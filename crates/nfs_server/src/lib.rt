@@ -29,7 +29,9 @@ pub use commands::{Commands, Taken};
 pub use controlling::{Applied, control};
 pub use exit::Exit;
 pub use limits::{Limit, Limits};
-pub use network::{Nobody, Operator, Sockets, serve_network, serve_operated, serve_sockets};
+pub use network::{
+    Counters, Event, Nobody, Operator, Sockets, serve_network, serve_operated, serve_sockets,
+};
 pub use nfs_engine::Host;
 pub use nfs_streams::{Served, StreamFault, serve_stream};
 pub use options::{Network, Options, Transport};

@@ -6,6 +6,7 @@
 mod attendance;
 mod bell;
 mod clerk;
+mod counters;
 mod failures;
 mod jobs;
 mod line;
@@ -16,6 +17,7 @@ mod operating;
 mod places;
 mod queue;
 mod reading;
+mod reporting;
 mod sending;
 mod sorting;
 
@@ -27,6 +29,7 @@ use crate::callbacks::Callbacks;
 use crate::clock::{ServerClock, start_number};
 use crate::exit::Exit;
 use crate::network::attendance::Attendance;
+pub use crate::network::counters::{Counters, Event};
 use crate::network::failures::Failures;
 use crate::network::jobs::{JOBS, Job};
 pub use crate::network::listening::Sockets;
@@ -34,6 +37,7 @@ use crate::network::listening::{DATAGRAM_SIZE, Service, let_in, take_datagrams};
 use crate::network::mailbox::Mailbox;
 pub use crate::network::operating::{Nobody, Operator};
 use crate::network::places::{Gathering, Keeper, Places, hand_out};
+use crate::network::reporting::{Reporter, tell};
 use crate::network::sending::Sender;
 use crate::network::sorting::Sorter;
 use crate::options::{Network, Options, Transport};
@@ -94,6 +98,7 @@ pub fn serve_sockets<
         + Threads
         + Wait
         + Clock
+        + Eprint
         + Copy
         + Drop
         + Send
@@ -117,6 +122,7 @@ pub fn serve_operated<
         + Threads
         + Wait
         + Clock
+        + Eprint
         + Copy
         + Drop
         + Send
@@ -160,6 +166,7 @@ fn serve_from<
         + Threads
         + Wait
         + Clock
+        + Eprint
         + Copy
         + Drop
         + Send
@@ -207,6 +214,7 @@ fn serve_pool<
         + Threads
         + Wait
         + Clock
+        + Eprint
         + Copy
         + Drop
         + Send
@@ -236,16 +244,30 @@ fn serve_pool<
     let Ok((pool, seats)) = Pool::<L>::new(alloc, blank, opened, engine, count) else {
         return Err(Exit::Memory);
     };
-    let (places, keeper, seats, room) = open_places(&rt, alloc, pool, seats, count)?;
+    let counters = Counters::new(alloc)?;
+    let (places, keeper, seats, room) = open_places(&rt, alloc, pool, seats, count, &counters)?;
     let (jobs, queue) = bounded(alloc, JOBS)?;
-    let service = Service::new(alloc, places, jobs, clock, begin)?;
+    let service = Service::new(
+        alloc,
+        places,
+        jobs,
+        Arc::try_clone(&counters)?,
+        clock,
+        begin,
+    )?;
+    let stats = network.stats;
+    start_reporter(rt, alloc, &counters, stats)?;
     start_workers(rt, alloc, &service, queue, network.workers)?;
     start_senders(rt, alloc, &service, callbacks)?;
     if network.control {
         start_operator(rt, alloc, &service, operator)?;
     }
     attend(rt, alloc, sockets, network, service)?;
-    keeper.work(&rt, alloc, seats, room)
+    let ended = keeper.work(&rt, alloc, seats, room);
+    if stats > 0 {
+        tell(&rt, alloc, &counters);
+    }
+    ended
 }
 
 /// A place for each seat, and what ends eras, with room for all seats and to end an era in.
@@ -255,6 +277,7 @@ fn open_places<L: Ledger + Naming, R: Wait>(
     pool: Pool<L>,
     seats: Vec<Seat<L>>,
     count: usize,
+    counters: &Arc<Counters>,
 ) -> Result<(Places<L>, Keeper<L>, Vec<Seat<L>>, EraRoom), AllocError> {
     let (back, free) = bounded(alloc, count)?;
     let (full, filled) = bounded(alloc, count)?;
@@ -268,9 +291,25 @@ fn open_places<L: Ledger + Naming, R: Wait>(
         full: filled,
         count,
         gathering: Arc::try_clone(&gathering)?,
+        counters: Arc::try_clone(counters)?,
     };
     let places = Places::new(free, back, full, gathering);
     Ok((places, keeper, seats, room))
+}
+
+/// Starts the thread that says how the server is.
+fn start_reporter<R: Threads + Wait + Clock + Eprint + Copy + Drop + Send + Sync + 'static>(
+    rt: R,
+    alloc: Global,
+    counters: &Arc<Counters>,
+    stats: u64,
+) -> Result<(), AllocError> {
+    let reporter = Reporter {
+        counters: Arc::try_clone(counters)?,
+        stats,
+    };
+    thread::spawn(&rt, move || reporter.work(&rt, alloc))?;
+    Ok(())
 }
 
 /// Starts the workers.

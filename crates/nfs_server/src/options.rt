@@ -52,6 +52,8 @@ pub struct Network {
     pub connections: u64,
     /// After how many connections, which have ended, the server ends; 0: never.
     pub accept: u64,
+    /// Every how many seconds the counts are told on standard error, and at the end; 0: never.
+    pub stats: u64,
     /// How long peers are waited for over connections. No option of the command line gives that.
     pub patience: Patience,
 }

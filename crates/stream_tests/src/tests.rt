@@ -12,6 +12,7 @@ mod clocks;
 mod command_lines;
 mod connections;
 mod controls;
+mod counts;
 mod exit_lines;
 mod from_options;
 mod full_memory;

@@ -294,6 +294,7 @@ fn calls_back<
         + Threads
         + Wait
         + Clock
+        + Eprint
         + Copy
         + Drop
         + Send

@@ -270,6 +270,7 @@ fn is_served_with<
         + Threads
         + Wait
         + Clock
+        + Eprint
         + Copy
         + Drop
         + Send

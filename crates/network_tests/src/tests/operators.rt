@@ -112,6 +112,7 @@ fn serve_operator<
         + Threads
         + Wait
         + Clock
+        + Eprint
         + Copy
         + Drop
         + Send
@@ -138,6 +139,7 @@ fn serve_beside<
         + Threads
         + Wait
         + Clock
+        + Eprint
         + Copy
         + Drop
         + Send
@@ -163,6 +165,7 @@ fn is_served<
         + Threads
         + Wait
         + Clock
+        + Eprint
         + Copy
         + Drop
         + Send

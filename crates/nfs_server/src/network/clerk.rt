@@ -11,6 +11,7 @@ ghost use Rattle.nfs_server.specs.CalledBack.{MayHavePosted};
 use crate::clock::ServerClock;
 use crate::controlling::Applied;
 use crate::network::bell::Bell;
+use crate::network::counters::Counters;
 use crate::network::line::Line;
 use crate::network::places::{Place, Places};
 use nfs_engine::{Arrival, Asked, Faulted, Host, Incoming, Reading, Receipt, Received};
@@ -22,6 +23,7 @@ use nfs_schedule::{Answer, Declined};
 use nfs_streams::Connection;
 use std::alloc::{AllocError, Global};
 use std::io;
+use std::io::ErrorKind;
 use std::rt::Clock;
 use std::sync::ledger::Ledger;
 use std::sync::{Arc, Wait};
@@ -34,6 +36,8 @@ const MOST_RECORDS: usize = 64;
 pub(crate) enum Closed {
     /// A read or a write failed, or a record was too large.
     Failed,
+    /// The peer was waited for too long.
+    Late,
     /// There was no memory for a record or its answer.
     Memory,
 }
@@ -45,8 +49,11 @@ impl From<AllocError> for Closed {
 }
 
 impl From<io::Error> for Closed {
-    fn from(_error: io::Error) -> Closed {
-        Closed::Failed
+    fn from(error: io::Error) -> Closed {
+        match error.kind() {
+            ErrorKind::TimedOut | ErrorKind::WouldBlock => Closed::Late,
+            _ => Closed::Failed,
+        }
     }
 }
 
@@ -59,6 +66,8 @@ pub(crate) struct Clerk<L: Ledger + Naming, C> {
     pub(crate) places: Places<L>,
     /// Rung when messages wait to be sent.
     pub(crate) bell: Arc<Bell>,
+    /// What is counted.
+    pub(crate) counters: Arc<Counters>,
     pub(crate) clock: ServerClock<C>,
 }
 
@@ -117,6 +126,7 @@ impl<L: Ledger + Naming, C: Clock> Clerk<L, C> {
         ensures { connection.new.full ≡ false }
     {
         let (place, answered) = self.answer(rt, alloc, &line.host, place, record);
+        self.counters.answered(&answered);
         match answered {
             Ok(answer) => {
                 let is_refused = is_refusal(&answer);
@@ -152,6 +162,7 @@ impl<L: Ledger + Naming, C: Clock> Clerk<L, C> {
         let place = self.places.take(rt);
         let (place, answered) = self.answer(rt, alloc, host, place, message);
         self.places.give(rt, place);
+        self.counters.answered(&answered);
         answered
     }
 

@@ -1,6 +1,7 @@
 //! What workers do: they answer datagrams.
 
 use crate::network::clerk::Clerk;
+use crate::network::counters::Event;
 use crossbeam_channel::Receiver;
 use nfs_engine::Host;
 use nfs_pool::Naming;
@@ -51,7 +52,10 @@ impl<L: Ledger + Naming, C: Clock> Clerk<L, C> {
                 }
                 drop(answer);
             }
-            Err(_) => self.places.relieve(rt),
+            Err(_) => {
+                self.counters.happened(Event::DatagramDropped);
+                self.places.relieve(rt);
+            }
         }
     }
 }

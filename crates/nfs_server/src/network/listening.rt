@@ -5,6 +5,7 @@ use crate::exit::Exit;
 use crate::network::attendance::Attendance;
 use crate::network::bell::Bell;
 use crate::network::clerk::Clerk;
+use crate::network::counters::{Counters, Event};
 use crate::network::jobs::Job;
 use crate::network::line::Line;
 use crate::network::places::Places;
@@ -138,6 +139,8 @@ pub(crate) struct Service<L: Ledger + Naming> {
     pub(crate) jobs: Sender<Job>,
     /// Rung when messages wait to be sent.
     pub(crate) bell: Arc<Bell>,
+    /// What is counted.
+    pub(crate) counters: Arc<Counters>,
     /// The second at which every moment is, if any.
     pub(crate) clock: Option<u32>,
     /// The latest moment that was given.
@@ -150,6 +153,7 @@ impl<L: Ledger + Naming> Service<L> {
         alloc: Global,
         places: Places<L>,
         jobs: Sender<Job>,
+        counters: Arc<Counters>,
         clock: Option<u32>,
         begin: Moment,
     ) -> Result<Service<L>, AllocError> {
@@ -157,6 +161,7 @@ impl<L: Ledger + Naming> Service<L> {
             places,
             jobs,
             bell: Arc::new(alloc, Bell::new())?,
+            counters,
             clock,
             latest: Arc::new(alloc, Latest::new(begin))?,
         })
@@ -168,6 +173,7 @@ impl<L: Ledger + Naming> Service<L> {
             places: self.places.share()?,
             jobs: self.jobs.clone()?,
             bell: Arc::try_clone(&self.bell)?,
+            counters: Arc::try_clone(&self.counters)?,
             clock: self.clock,
             latest: Arc::try_clone(&self.latest)?,
         })
@@ -178,6 +184,7 @@ impl<L: Ledger + Naming> Service<L> {
         Ok(Clerk {
             places: self.places.share()?,
             bell: Arc::try_clone(&self.bell)?,
+            counters: Arc::try_clone(&self.counters)?,
             clock: ServerClock::beside(clock, self.clock, &self.latest)?,
         })
     }
@@ -201,20 +208,16 @@ pub(crate) fn let_in<
         match listener.accept() {
             Ok((stream, peer)) => {
                 came = came.saturating_add(1);
-                if attendance.enter(rt, network.connections as usize)
-                    && start(
-                        rt,
-                        alloc,
-                        stream,
-                        peer,
-                        network.patience,
-                        service,
-                        attendance,
-                    )
-                    .is_err()
-                {
-                    attendance.leave(rt);
-                    service.places.relieve(rt);
+                if attendance.enter(rt, network.connections as usize) {
+                    service.counters.happened(Event::Opened);
+                    let patience = network.patience;
+                    if start(rt, alloc, stream, peer, patience, service, attendance).is_err() {
+                        service.counters.happened(Event::Starved);
+                        attendance.leave(rt);
+                        service.places.relieve(rt);
+                    }
+                } else {
+                    service.counters.happened(Event::TurnedAway);
                 }
             }
             Err(_) => thread::sleep(rt, Duration::from_millis(PAUSE)),
@@ -266,8 +269,10 @@ pub(crate) fn take_datagrams<R: Wait + Clock, L: Ledger + Naming>(
     for _ in rt.forever() {
         match socket.recv_from(buffer.as_mut_slice()) {
             Ok((count, peer)) => {
+                service.counters.happened(Event::Datagram);
                 // One that can't be taken in is dropped.
                 if take(rt, alloc, socket, peer, &buffer[..count], service).is_err() {
+                    service.counters.happened(Event::DatagramDropped);
                     service.places.relieve(rt);
                 }
             }

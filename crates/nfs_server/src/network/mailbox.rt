@@ -26,13 +26,14 @@ impl Mailbox {
         })
     }
 
-    /// Puts a message, as `Queue::put` has it.
-    pub(crate) fn put<R: Wait>(&self, rt: &R, posted: Posted) {
+    /// Puts a message, as `Queue::put` has it. Whether one was dropped.
+    pub(crate) fn put<R: Wait>(&self, rt: &R, posted: Posted) -> bool {
         let mut guard = self.queue.lock(rt);
         let queue = &mut *guard;
-        queue.put(posted);
+        let is_dropped = queue.put(posted);
         drop(guard);
         self.put.notify_all();
+        is_dropped
     }
 
     /// Takes the oldest message, once there is one.

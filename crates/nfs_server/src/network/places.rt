@@ -4,6 +4,7 @@
 //! places are gathered nobody else has the pool, and its era can be ended: no thread has to be joined for that.
 
 use crate::exit::Exit;
+use crate::network::counters::{Counters, Event};
 use crossbeam_channel::{Receiver, Sender};
 use nfs_pool::{Ended, EraRoom, Naming, Pool, Seat};
 use std::alloc::{AllocError, Global};
@@ -147,6 +148,7 @@ pub(crate) struct Keeper<L: Ledger + Naming> {
     /// How many places there are.
     pub(crate) count: usize,
     pub(crate) gathering: Arc<Gathering>,
+    pub(crate) counters: Arc<Counters>,
 }
 
 impl<L: Ledger + Naming> Keeper<L> {
@@ -195,6 +197,7 @@ impl<L: Ledger + Naming> Keeper<L> {
         let (pool, is_last) = self.gather(rt, first, &mut seats)?;
         let mut pool = pool;
         let (ended, seats) = next_era(alloc, &mut pool, seats, room)?;
+        self.counters.happened(Event::Era);
         let seats = if is_last {
             drop(pool);
             seats

@@ -37,7 +37,7 @@ impl Model for Queue {
 }
 
 impl Queue {
-    ghost use Rattle.std.specs.Prelude.{[], ◌≤◌, ◌==◌, length, IfOk};
+    ghost use Rattle.std.specs.Prelude.{[], ◌≤◌, ◌==◌, length, nat_lt, not, IfOk};
 
     /// Nothing waits.
     ///
@@ -60,18 +60,22 @@ impl Queue {
     }
 
     /// Puts a message behind those that wait. Where so many wait already a result of a call is dropped: this message,
-    /// or for a grant the oldest one that waits. Where grants alone wait it is dropped too.
-    pub(crate) fn put(&mut self, posted: Posted)
+    /// or for a grant the oldest one that waits. Where grants alone wait it is dropped too. Whether one was dropped.
+    pub(crate) fn put(&mut self, posted: Posted) -> bool
         ensures puts { self.new ≡ put self.old posted }
         ensures bounded { length self.new ≤ MOST_WAITING }
+        ensures dropped { result ≡ not (nat_lt (length self.old) MOST_WAITING) }
     {
         if self.list.len() < MOST_WAITING {
             self.list.push_back_reserved(posted);
-        } else if is_grant(&posted) {
+            return false;
+        }
+        if is_grant(&posted) {
             self.put_grant(posted);
         } else {
             drop(posted);
         }
+        true
     }
 
     /// Puts a grant, for which the oldest result is dropped. Where grants alone wait, this one is.

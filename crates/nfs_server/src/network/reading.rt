@@ -4,6 +4,7 @@ ghost use Rattle.std.specs.Io.{ReadsAtMost};
 ghost use Rattle.std.specs.Prelude.{◌≡◌, false, length, OnOk};
 
 use crate::network::clerk::{Clerk, Closed};
+use crate::network::counters::Event;
 use crate::network::line::Line;
 use crate::patience::Watch;
 use nfs_pool::Naming;
@@ -31,7 +32,9 @@ pub(crate) struct Reader<L: Ledger + Naming, C> {
 impl<L: Ledger + Naming, C: Clock> Reader<L, C> {
     /// Serves the connection to its end. Where that is for want of memory the era is ended.
     pub(crate) fn work<R: Wait + Clock>(&mut self, rt: &R, alloc: Global) {
-        if let Err(Closed::Memory) = self.read(rt, alloc) {
+        let served = self.read(rt, alloc);
+        self.clerk.counters.happened(end_of(served));
+        if let Err(Closed::Memory) = served {
             self.clerk.places.relieve(rt);
         }
     }
@@ -88,7 +91,7 @@ impl<L: Ledger + Naming, C: Clock> Reader<L, C> {
         let mut now = now;
         let patience = self.line.patience;
         'waits: for _ in rt.forever() {
-            let seconds = watch.left(patience, now).ok_or(Closed::Failed)?;
+            let seconds = watch.left(patience, now).ok_or(Closed::Late)?;
             // No wait is longer than that for a record: so in most reads the socket's own need not be set.
             if let Some(count) = self.line.read(seconds.min(patience.record), buffer)? {
                 return Ok(count);
@@ -140,6 +143,16 @@ impl<L: Ledger + Naming, C: Clock> Reader<L, C> {
             is_refused = is_refused || refused;
         }
         unreachable!()
+    }
+}
+
+/// What is counted of the end of a connection.
+fn end_of(served: Result<(), Closed>) -> Event {
+    match served {
+        Ok(()) => Event::Ended,
+        Err(Closed::Failed) => Event::Failed,
+        Err(Closed::Late) => Event::Late,
+        Err(Closed::Memory) => Event::Starved,
     }
 }
 

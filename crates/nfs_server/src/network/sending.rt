@@ -3,6 +3,7 @@
 
 use crate::callbacks::Callbacks;
 use crate::network::clerk::{Clerk, is_refusal};
+use crate::network::counters::Event;
 use crate::network::failures::Failures;
 use crate::network::line::read_some;
 use crate::network::mailbox::Mailbox;
@@ -84,10 +85,11 @@ impl<L: Ledger + Naming, C: Clock> Sender<L, C> {
                     drop(letter);
                     return;
                 }
-                Ok(None) => return,
+                Ok(None) => break,
                 Err(_) => self.clerk.make_room(rt),
             }
         }
+        self.clerk.counters.happened(Event::Dropped);
     }
 }
 
@@ -106,12 +108,21 @@ fn deliver<
 ) {
     let address = letter.callback.address;
     if is_passed_over(rt, failures, address) {
+        clerk.counters.happened(Event::Dropped);
         return;
     }
     match asked(rt, alloc, clerk, letter, posted) {
-        Ok(Some(answer)) => clerk.take_in(rt, alloc, &letter.callback.host, posted, &answer),
-        Ok(None) => {}
-        Err(_) => pass_over(rt, failures, address),
+        Ok(answer) => {
+            clerk.counters.happened(Event::Sent);
+            if let Some(answer) = answer {
+                clerk.take_in(rt, alloc, &letter.callback.host, posted, &answer);
+            }
+        }
+        Err(_) => {
+            clerk.counters.happened(Event::CallbackFailed);
+            clerk.counters.happened(Event::Dropped);
+            pass_over(rt, failures, address);
+        }
     }
 }
 

@@ -2,6 +2,7 @@
 
 use crate::callbacks::Callbacks;
 use crate::network::clerk::Clerk;
+use crate::network::counters::Event;
 use crate::network::mailbox::Mailbox;
 use nfs_engine::Posted;
 use nfs_pool::Naming;
@@ -51,9 +52,15 @@ impl<L: Ledger + Naming, C: Clock> Sorter<L, C> {
 
     /// Hands a message on. One whose host is not called back is dropped.
     fn hand_on<R: Wait>(&self, rt: &R, posted: Posted) {
-        match self.mailbox(&posted) {
+        let is_dropped = match self.mailbox(&posted) {
             Some(mailbox) => mailbox.put(rt, posted),
-            None => drop(posted),
+            None => {
+                drop(posted);
+                true
+            }
+        };
+        if is_dropped {
+            self.clerk.counters.happened(Event::Dropped);
         }
     }
 

@@ -272,7 +272,7 @@ fn help_and_version_are_no_fault(rt: HostRuntime) -> Result<(), Fail> {
     Ok(())
 }
 
-const NETWORK: [&str; 13] = [
+const NETWORK: [&str; 15] = [
     "nfsd",
     "--export",
     "/data,rw,*",
@@ -286,6 +286,8 @@ const NETWORK: [&str; 13] = [
     "1024",
     "--accept",
     "3",
+    "--stats",
+    "60",
 ];
 
 /// Whether the network is as it is given.
@@ -293,8 +295,13 @@ fn is_network(network: &Network) -> bool {
     let (Some(tcp), Some(udp)) = (&network.tcp, &network.udp) else {
         return false;
     };
-    let numbers = (network.workers, network.connections, network.accept);
-    tcp.as_str() == "127.0.0.1:2049" && udp.as_str() == "[::1]:2049" && numbers == (64, 1024, 3)
+    let numbers = (
+        network.workers,
+        network.connections,
+        network.accept,
+        network.stats,
+    );
+    tcp.as_str() == "127.0.0.1:2049" && udp.as_str() == "[::1]:2049" && numbers == (64, 1024, 3, 60)
 }
 
 #[test]
@@ -331,6 +338,7 @@ fn the_defaults_of_the_network(rt: HostRuntime) -> Result<(), Fail> {
                 workers: 4,
                 connections: 64,
                 accept: 0,
+                stats: 0,
                 ..
             })
         )

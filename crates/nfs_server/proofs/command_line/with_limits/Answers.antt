@@ -16,14 +16,17 @@ returns c =
     c.number-2.ensures.rule ∙ ap (number_rule (codes "connections")) c.value_parser-2.ensures in
     let accept : rule_of c.number-3.result ≡ number_rule (codes "accept") (Unsigned 0 18446744073709551615) =
     c.number-3.ensures.rule ∙ ap (number_rule (codes "accept")) c.value_parser-3.ensures in
-    let era : rule_of c.number-4.result ≡ number_rule (codes "era") (Unsigned 0 18446744073709551615) =
-    c.number-4.ensures.rule ∙ ap (number_rule (codes "era")) c.value_parser-4.ensures in
-    let cache : rule_of c.number-5.result ≡ number_rule (codes "cache") (Unsigned 0 18446744073709551615) =
-    c.number-5.ensures.rule ∙ ap (number_rule (codes "cache")) c.value_parser-5.ensures in
+    let stats : rule_of c.number-4.result ≡ number_rule (codes "stats") (Unsigned 0 18446744073709551615) =
+    c.number-4.ensures.rule ∙ ap (number_rule (codes "stats")) c.value_parser-4.ensures in
+    let era : rule_of c.number-5.result ≡ number_rule (codes "era") (Unsigned 0 18446744073709551615) =
+    c.number-5.ensures.rule ∙ ap (number_rule (codes "era")) c.value_parser-5.ensures in
+    let cache : rule_of c.number-6.result ≡ number_rule (codes "cache") (Unsigned 0 18446744073709551615) =
+    c.number-6.ensures.rule ∙ ap (number_rule (codes "cache")) c.value_parser-6.ensures in
     let headed = ap app_of_fields c.next_help_heading.ensures in
     let with_workers = c.in_ok-arg.ensures.shape (search rules) ∙ ap₂ with_rule headed workers in
     let with_connections = c.in_ok-arg-2.ensures.shape (search rules) ∙ ap₂ with_rule with_workers connections in
     let with_accept = c.in_ok-arg-3.ensures.shape (search rules) ∙ ap₂ with_rule with_connections accept in
-    let with_era = c.in_ok-arg-4.ensures.shape (search rules) ∙ ap₂ with_rule with_accept era in
-    IfOk-weaker c.arg-5.result _ _ (λ command adds. adds.shape (search rules) ∙ ap₂ with_rule with_era cache)
-    c.arg-5.ensures
+    let with_stats = c.in_ok-arg-4.ensures.shape (search rules) ∙ ap₂ with_rule with_accept stats in
+    let with_era = c.in_ok-arg-5.ensures.shape (search rules) ∙ ap₂ with_rule with_stats era in
+    IfOk-weaker c.arg-6.result _ _ (λ command adds. adds.shape (search rules) ∙ ap₂ with_rule with_era cache)
+    c.arg-6.ensures

@@ -1,0 +1,302 @@
+//! What the server counts while it serves, so that whoever operates it sees how it is.
+
+use crate::network::clerk::Answered;
+use nfs_engine::Incoming;
+use nfs_rpc::{Program, Record};
+use nfs_schedule::Answer;
+use std::alloc::{AllocError, Global};
+use std::sync::Arc;
+use std::sync::atomic::{AtomicU64, Ordering};
+
+/// The procedures of NFS version 3 by number (RFC 1813, section 3).
+const NFS: [&str; 22] = [
+    "null",
+    "getattr",
+    "setattr",
+    "lookup",
+    "access",
+    "readlink",
+    "read",
+    "write",
+    "create",
+    "mkdir",
+    "symlink",
+    "mknod",
+    "remove",
+    "rmdir",
+    "rename",
+    "link",
+    "readdir",
+    "readdirplus",
+    "fsstat",
+    "fsinfo",
+    "pathconf",
+    "commit",
+];
+
+/// Those of MOUNT version 3 (RFC 1813, section 5.2).
+const MOUNT: [&str; 6] = ["null", "mnt", "dump", "umnt", "umntall", "export"];
+
+/// Those of NLM version 4 (RFC 1813, section 6.3); none has one of the numbers 16 to 19.
+const NLM: [&str; 24] = [
+    "null",
+    "test",
+    "lock",
+    "cancel",
+    "unlock",
+    "granted",
+    "test_msg",
+    "lock_msg",
+    "cancel_msg",
+    "unlock_msg",
+    "granted_msg",
+    "test_res",
+    "lock_res",
+    "cancel_res",
+    "unlock_res",
+    "granted_res",
+    "",
+    "",
+    "",
+    "",
+    "share",
+    "unshare",
+    "nm_lock",
+    "free_all",
+];
+
+/// What is counted beside calls.
+#[derive(Clone, Copy)]
+pub enum Event {
+    /// A call came again, and got the reply that is kept of it.
+    Repeated,
+    /// A call was refused, for want of memory or of a number.
+    Refused,
+    /// A record had a fault, which was answered, or for which it was dropped (RFC 5531, section 9).
+    Faulty,
+    /// There was no memory to answer a record.
+    Unanswered,
+    /// A connection was let in.
+    Opened,
+    /// A connection was ended by its peer.
+    Ended,
+    /// A connection failed, or brought a record that was too large.
+    Failed,
+    /// A connection was closed, since its peer was waited for too long.
+    Late,
+    /// A connection was closed for want of memory.
+    Starved,
+    /// A connection was closed at once, since as many were open as may be.
+    TurnedAway,
+    /// A datagram came.
+    Datagram,
+    /// A datagram was dropped for want of memory.
+    DatagramDropped,
+    /// A message was sent to its host.
+    Sent,
+    /// A message was dropped: its host is not called back, did not take it, or has too many that wait.
+    Dropped,
+    /// An address did not take a message, or did not answer it in time.
+    CallbackFailed,
+    /// An era ended.
+    Era,
+}
+
+/// The names by which that is told, each at the place of its count.
+const EVENTS: [&str; 16] = [
+    "repeated",
+    "refused",
+    "faulty",
+    "unanswered",
+    "opened",
+    "ended",
+    "failed",
+    "late",
+    "starved",
+    "turned_away",
+    "datagrams",
+    "datagrams_dropped",
+    "messages_sent",
+    "messages_dropped",
+    "callbacks_failed",
+    "eras",
+];
+
+impl Event {
+    /// Where its count stands.
+    fn place(self) -> usize {
+        match self {
+            Event::Repeated => 0,
+            Event::Refused => 1,
+            Event::Faulty => 2,
+            Event::Unanswered => 3,
+            Event::Opened => 4,
+            Event::Ended => 5,
+            Event::Failed => 6,
+            Event::Late => 7,
+            Event::Starved => 8,
+            Event::TurnedAway => 9,
+            Event::Datagram => 10,
+            Event::DatagramDropped => 11,
+            Event::Sent => 12,
+            Event::Dropped => 13,
+            Event::CallbackFailed => 14,
+            Event::Era => 15,
+        }
+    }
+}
+
+/// Counts of what happened since the server began. Who counts waits for nobody, and takes no memory.
+#[derive(Drop)]
+pub struct Counters {
+    nfs: Vec<AtomicU64>,
+    mount: Vec<AtomicU64>,
+    nlm: Vec<AtomicU64>,
+    events: Vec<AtomicU64>,
+}
+
+impl Counters {
+    /// Nothing happened.
+    ///
+    /// # Errors
+    ///
+    /// There is no memory for the counts.
+    pub fn new(alloc: Global) -> Result<Arc<Counters>, AllocError> {
+        let counters = Counters {
+            nfs: zeros(alloc, NFS.len())?,
+            mount: zeros(alloc, MOUNT.len())?,
+            nlm: zeros(alloc, NLM.len())?,
+            events: zeros(alloc, EVENTS.len())?,
+        };
+        Ok(Arc::new(alloc, counters)?)
+    }
+
+    /// Counts what a record was answered, and its call by program and procedure.
+    pub(crate) fn answered(&self, answered: &Answered) {
+        match answered {
+            Ok(Answer::Early(_)) => self.happened(Event::Faulty),
+            Ok(answer) => self.count_answer(answer),
+            Err(_) => self.happened(Event::Unanswered),
+        }
+    }
+
+    /// Counts a call, and that it came again or was refused.
+    fn count_answer(&self, answer: &Answer) {
+        if let Incoming::Record(received) = answer.received() {
+            self.count_call(&received.message);
+        }
+        match answer {
+            Answer::Repeated(_) => self.happened(Event::Repeated),
+            Answer::Refused(_) => self.happened(Event::Refused),
+            Answer::Executed(_) | Answer::Early(_) | Answer::Unanswered(_) => {}
+        }
+    }
+
+    /// Counts the call that a record asks.
+    pub fn count_call(&self, record: &Record) {
+        if let Some((program, procedure)) = called(record) {
+            count(self.calls(program), procedure as usize);
+        }
+    }
+
+    /// Counts this.
+    pub fn happened(&self, event: Event) {
+        count(&self.events, event.place());
+    }
+
+    /// How often this happened.
+    pub fn of(&self, event: Event) -> u64 {
+        counted(&self.events, event.place())
+    }
+
+    /// How many connections are open.
+    pub fn connections(&self) -> u64 {
+        self.of(Event::Opened)
+            .saturating_sub(self.of(Event::Ended))
+            .saturating_sub(self.of(Event::Failed))
+            .saturating_sub(self.of(Event::Late))
+            .saturating_sub(self.of(Event::Starved))
+    }
+
+    /// All counts as words `NAME=VALUE`; of the procedures those that were called.
+    ///
+    /// # Errors
+    ///
+    /// There is no memory for the text.
+    pub fn words(&self, alloc: Global) -> Result<String, AllocError> {
+        let mut text = String::new(alloc);
+        add_calls(&mut text, "nfs", &NFS, &self.nfs)?;
+        add_calls(&mut text, "mount", &MOUNT, &self.mount)?;
+        add_calls(&mut text, "nlm", &NLM, &self.nlm)?;
+        let connections = self.connections();
+        write!(text, " connections={connections}")?;
+        for (place, name) in EVENTS.iter().enumerate() {
+            let value = counted(&self.events, place);
+            write!(text, " {name}={value}")?;
+        }
+        Ok(text)
+    }
+
+    fn calls(&self, program: Program) -> &Vec<AtomicU64> {
+        match program {
+            Program::Nfs => &self.nfs,
+            Program::Mount => &self.mount,
+            Program::Nlm => &self.nlm,
+        }
+    }
+}
+
+/// So many counts of nothing.
+fn zeros(alloc: Global, count: usize) -> Result<Vec<AtomicU64>, AllocError> {
+    let mut counts = Vec::with_capacity(alloc, count)?;
+    for _ in 0..count {
+        counts.push(AtomicU64::new(0))?;
+    }
+    Ok(counts)
+}
+
+/// Counts one more at a place.
+fn count(counts: &Vec<AtomicU64>, place: usize) {
+    if let Some(count) = counts.get(place) {
+        count.fetch_add(1, Ordering::Relaxed);
+    }
+}
+
+/// The count at a place.
+fn counted(counts: &Vec<AtomicU64>, place: usize) -> u64 {
+    match counts.get(place) {
+        Some(count) => count.load(Ordering::Relaxed),
+        None => 0,
+    }
+}
+
+/// Adds the procedures of a program that were called.
+fn add_calls(
+    text: &mut String,
+    program: &str,
+    names: &[&str],
+    counts: &Vec<AtomicU64>,
+) -> Result<(), AllocError> {
+    for (place, name) in names.iter().enumerate() {
+        let value = counted(counts, place);
+        if value > 0 {
+            write!(text, " {program}_{name}={value}")?;
+        }
+    }
+    Ok(())
+}
+
+/// The program and the procedure that a record calls: its fourth and its sixth word (RFC 5531, section 9).
+fn called(record: &Record) -> Option<(Program, u32)> {
+    let bytes = record.as_slice();
+    let program = Program::from_number(word_at(bytes, 12)?)?;
+    Some((program, word_at(bytes, 20)?))
+}
+
+/// The word at a place.
+fn word_at(bytes: &[u8], place: usize) -> Option<u32> {
+    match bytes.get(place..)? {
+        [a, b, c, d, ..] => Some(u32::from_be_bytes([*a, *b, *c, *d])),
+        _ => None,
+    }
+}

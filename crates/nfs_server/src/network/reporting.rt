@@ -1,0 +1,89 @@
+//! The thread that says how the server is: in lines on standard error.
+
+use crate::network::counters::{Counters, Event};
+use std::alloc::Global;
+use std::rt::Clock;
+use std::sync::{Arc, Wait};
+use std::thread;
+use std::time::Duration;
+
+/// How many seconds lie between two lines on one kind of trouble, at least.
+const REST: u64 = 10;
+
+/// A kind of trouble that whoever operates the server has to know of.
+struct Trouble {
+    event: Event,
+    /// What happened so often.
+    text: &'static str,
+}
+
+/// The kinds of trouble.
+const TROUBLES: [Trouble; 5] = [
+    Trouble {
+        event: Event::TurnedAway,
+        text: "connections above --connections, closed at once",
+    },
+    Trouble {
+        event: Event::Refused,
+        text: "calls refused, for want of memory or of a number",
+    },
+    Trouble {
+        event: Event::Starved,
+        text: "connections closed for want of memory",
+    },
+    Trouble {
+        event: Event::CallbackFailed,
+        text: "callbacks that failed",
+    },
+    Trouble {
+        event: Event::Dropped,
+        text: "messages dropped",
+    },
+];
+
+/// What says how the server is.
+#[derive(Drop)]
+pub(crate) struct Reporter {
+    pub(crate) counters: Arc<Counters>,
+    /// Every how many seconds the counts are told; 0: never.
+    pub(crate) stats: u64,
+}
+
+impl Reporter {
+    /// Says what is to be said, for ever.
+    pub(crate) fn work<R: Wait + Clock + Eprint>(&self, rt: &R, alloc: Global) {
+        let mut told = [0u64; 5];
+        let mut seconds: u64 = 0;
+        for _ in rt.forever() {
+            thread::sleep(rt, Duration::from_secs(1));
+            seconds = seconds.saturating_add(1);
+            if seconds % REST == 0 {
+                self.tell_troubles(rt, &mut told);
+            }
+            if self.stats > 0 && seconds % self.stats == 0 {
+                tell(rt, alloc, &self.counters);
+            }
+        }
+        unreachable!()
+    }
+
+    /// Says which trouble there was since it was said last.
+    fn tell_troubles<R: Eprint>(&self, rt: &R, told: &mut [u64; 5]) {
+        for (trouble, before) in TROUBLES.iter().zip(told.iter_mut()) {
+            let now = self.counters.of(trouble.event);
+            let count = now.saturating_sub(*before);
+            if count > 0 {
+                let text = trouble.text;
+                let _ = eprintln!(rt; "nfsd: {text}: {count}");
+            }
+            *before = now;
+        }
+    }
+}
+
+/// Says all counts, in one line.
+pub(crate) fn tell<R: Eprint>(rt: &R, alloc: Global, counters: &Counters) {
+    if let Ok(words) = counters.words(alloc) {
+        let _ = eprintln!(rt; "nfsd: stats{words}");
+    }
+}
