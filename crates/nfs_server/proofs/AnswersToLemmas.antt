@@ -1,5 +1,5 @@
 -- What came in is told by its seat, and answered so.
-use Rattle.std.proofs.Common.{◌≡◌, ℕ, ◌-◌, List, [], ◌∷◌, ◌++◌, length, length-append, slice_get, Option, Some, Result, Ok, Err, IfErr, IfOk, IsSome, get_or, refl, sym, ◌∙◌, ap, subst, arith}
+use Rattle.std.proofs.Common.{◌≡◌, ℕ, ◌-◌, ◌≤◌, List, [], ◌∷◌, ◌++◌, length, length-append, slice_get, Option, Some, Result, Ok, Err, IfErr, IfOk, IsSome, get_or, refl, sym, ◌∙◌, ap, subst, arith}
 use Rattle.std.proofs.Math.Seq.{get_or-append_seam}
 use Rattle.std.proofs.lemmas.Option.{get_or_from_slice_get}
 use Rattle.nfs_machine.specs.Run.{Arrival, FromHost}
@@ -19,23 +19,25 @@ use Rattle.nfs_server.specs.AnswersTo.{AnswersRecord, HandsBack, HasReceipt, IsA
 use Rattle.nfs_server.specs.declared.network.clerk.Closed.{Closed}
 
 -- a seat's last receipt is of what came in
-receipt_told : (a : ArrivalValue) (old new : SeatValue) → Gains a old new → HasReceipt a.received new
-receipt_told a old new gains = record {
+receipt_told : (n : ℕ) (a : ArrivalValue) (old new : SeatValue) → n ≤ old.last → Gains a old new →
+    HasReceipt n a.received new
+receipt_told n a old new low gains = record {
   before = old.receipts;
   receipt = gains.receipt;
   last = gains.more;
   of_call = gains.of_call;
+  above = omega (arith, low, gains.past);
 }
 
 -- as the pool tells it
-pub pool_told : (a : ArrivalValue) → IsArrival a → (old new : SeatValue) (sent : Sent) → Tells a old new (Ok sent) →
-    IsTold a.received new sent
-pool_told a is old new Executed t = receipt_told a old new t
-pool_told a is old new (Repeated kept) t = t.0
-pool_told a is old new (Refused declined) t = t.0
-pool_told a is old new (Early faulted) t =
+pub pool_told : (n : ℕ) (a : ArrivalValue) → IsArrival a → (old new : SeatValue) → n ≤ old.last → (sent : Sent) →
+    Tells a old new (Ok sent) → IsTold n a.received new sent
+pool_told n a is old new low Executed t = receipt_told n a old new low t
+pool_told n a is old new low (Repeated kept) t = t.0
+pool_told n a is old new low (Refused declined) t = t.0
+pool_told n a is old new low (Early faulted) t =
     (t.1, subst (λ (x : Reading). IsReading a.received x) t.0 is.reading)
-pool_told a is old new (Unanswered received) t = t.0
+pool_told n a is old new low (Unanswered received) t = t.0
 
 pub pool_back : (a : ArrivalValue) (old new : SeatValue) (error : PoolError) → Tells a old new (Err error) →
     HandsBack a.received error
@@ -65,39 +67,42 @@ last_of before x own all is there =
     ∙ get_or_from_slice_get all (length all - 1) own own there
 
 -- the last receipt of the seat, shared, is the answer
-pub receipt_answers : (r : Arrival) (s : SeatValue) → HasReceipt r s → (list : List Receipt) → list ≡ s.receipts →
+pub receipt_answers : (n : ℕ) (r : Arrival) (s : SeatValue) → HasReceipt n r s → (list : List Receipt) → list ≡ s.receipts →
     (found : Option Receipt) → found ≡ slice_get list (length list - 1) → (own : Receipt) → found ≡ Some own →
-    (shared : Receipt) → shared_value shared.executed ≡ shared_value own.executed → shared.answer ≡ own.answer →
-    IsAnswerTo r (answers.Executed shared)
-receipt_answers r s has list same found there own some shared executed answer =
+    (shared : Receipt) → shared.number ≡ own.number → shared_value shared.executed ≡ shared_value own.executed →
+    shared.answer ≡ own.answer → IsAnswerTo n r (answers.Executed shared)
+receipt_answers n r s has list same found there own some shared number executed answer =
     let is = last_of has.before has.receipt own list (same ∙ has.last) (sym there ∙ some) in
-    receipt_shared r own shared (subst (λ (x : Receipt). IsReceiptOf r x) is has.of_call) executed answer
+    let number_is : has.receipt.number ≡ own.number = ap (λ (x : Receipt). x.number) is in (
+      receipt_shared r own shared (subst (λ (x : Receipt). IsReceiptOf r x) is has.of_call) executed answer,
+      omega (arith, has.above, number_is, number),
+    )
 
 -- an answer to what came in is one to the record that it is
-pub record_answered : (host bytes : List ℕ) (moment : Moment) (r : Arrival) →
+pub record_answered : (n : ℕ) (host bytes : List ℕ) (moment : Moment) (r : Arrival) →
     r ≡ FromHost (record { host = host; bytes = bytes; moment = moment }) → (x : Result Answer Closed) →
-    IfOk x (IsAnswerTo r) → IfOk x (AnswersRecord host bytes)
-record_answered host bytes moment r same (Ok answer) is =
-    record { moment = moment; answers = subst (λ (a : Arrival). IsAnswerTo a answer) same is }
-record_answered host bytes moment r same (Err closed) is = tt
+    IfOk x (IsAnswerTo n r) → IfOk x (AnswersRecord n host bytes)
+record_answered n host bytes moment r same (Ok answer) is =
+    record { moment = moment; answers = subst (λ (a : Arrival). IsAnswerTo n a answer) same is }
+record_answered n host bytes moment r same (Err closed) is = tt
 
 -- ---- refusals
-pub told_along : (r other : Arrival) → r ≡ other → (s : SeatValue) (sent : Sent) → IsTold r s sent →
-    IsTold other s sent
-told_along r other same s sent = subst (λ (x : Arrival). IsTold x s sent) same
+pub told_along : (n : ℕ) (r other : Arrival) → r ≡ other → (s : SeatValue) (sent : Sent) → IsTold n r s sent →
+    IsTold n other s sent
+told_along n r other same s sent = subst (λ (x : Arrival). IsTold n x s sent) same
 
-pub refused_told : (r : Arrival) (s : SeatValue) (declined : Declined) → IsDeclined r declined →
-    (x : Result Sent PoolError) → IfOk x (λ sent. sent ≡ Refused declined) → IfOk x (IsTold r s)
-refused_told r s declined is (Ok sent) same = subst (λ (x : Sent). IsTold r s x) (sym same) is
-refused_told r s declined is (Err error) same = tt
+pub refused_told : (n : ℕ) (r : Arrival) (s : SeatValue) (declined : Declined) → IsDeclined r declined →
+    (x : Result Sent PoolError) → IfOk x (λ sent. sent ≡ Refused declined) → IfOk x (IsTold n r s)
+refused_told n r s declined is (Ok sent) same = subst (λ (x : Sent). IsTold n r s x) (sym same) is
+refused_told n r s declined is (Err error) same = tt
 
 pub refused_back : (r : Arrival) (declined : Declined) → IsDeclined r declined → (x : Result Sent PoolError) →
     IfErr x (HandsBack (incoming_value declined.received)) → IfErr x (HandsBack r)
 refused_back r declined is x back = subst (λ (other : Arrival). IfErr x (HandsBack other)) is.received back
 
-pub refusal_answers : (r : Arrival) (declined : Declined) → IsDeclined r declined →
+pub refusal_answers : (n : ℕ) (r : Arrival) (declined : Declined) → IsDeclined r declined →
     (x : Result Answer Closed) → IfOk x (λ answer. (answer ≡ answers.Refused declined) × IsSome declined.answer) →
-    IfOk x (IsAnswerTo r)
-refusal_answers r declined is (Ok answer) t =
-    subst (λ (x : Answer). IsAnswerTo r x) (sym t.0) (is, t.1)
-refusal_answers r declined is (Err closed) t = tt
+    IfOk x (IsAnswerTo n r)
+refusal_answers n r declined is (Ok answer) t =
+    subst (λ (x : Answer). IsAnswerTo n r x) (sym t.0) (is, t.1)
+refusal_answers n r declined is (Err closed) t = tt

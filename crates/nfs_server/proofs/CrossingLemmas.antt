@@ -65,7 +65,7 @@ module _ (L : RattleType) (g : Ghosts L.Denot) (n : naming.Ghosts L.Denot) (s : 
           search (sendable, crosses, bell.the_send, bell.the_sync) depth 20,
           (
             search (sendable, crosses, counters.the_send, counters.the_sync) depth 20,
-            (search (sendable, clock.the_send) depth 20, tt),
+            (search (sendable, clock.the_send) depth 20, (search sendable depth 20, tt)),
           ),
         ),
       )

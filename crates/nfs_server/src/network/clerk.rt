@@ -1,11 +1,12 @@
 //! What answers records: each is executed on a place, and no place is held while answers are sent.
 
-ghost use Rattle.std.specs.Prelude.{◌≡◌, false, true, IfErr, IfOk, IsSome};
+ghost use Rattle.std.specs.Prelude.{◌≡◌, ℕ, false, true, IfErr, IfOk, IsSome};
 ghost use Rattle.nfs_machine.specs.Run as machine;
 ghost use Rattle.nfs_engine.specs.Arrivals.{incoming_value, received_value};
 ghost use Rattle.nfs_engine.specs.Asked.{IsAskedBy};
 ghost use Rattle.nfs_pool.specs.Seats.{IsDeclined};
 ghost use Rattle.nfs_server.specs.AnswersTo.{AnswersRecord, HandsBack, HasReceipt, IsAnswerTo, IsTold};
+ghost use Rattle.nfs_server.specs.AnswersTo.{number_after};
 ghost use Rattle.nfs_server.specs.CalledBack.{MayHavePosted};
 
 use crate::clock::ServerClock;
@@ -69,6 +70,8 @@ pub(crate) struct Clerk<L: Ledger + Naming, C> {
     /// What is counted.
     pub(crate) counters: Arc<Counters>,
     pub(crate) clock: ServerClock<C>,
+    /// The number of the last receipt that it answered by: those that come are above it.
+    pub(crate) last: u64,
 }
 
 impl<L: Ledger + Naming, C: Clock> Clerk<L, C> {
@@ -157,7 +160,8 @@ impl<L: Ledger + Naming, C: Clock> Clerk<L, C> {
         host: &Host,
         message: Record,
     ) -> Answered
-        ensures { IfOk result (AnswersRecord host.now message) }
+        ensures answers { IfOk result (AnswersRecord self.old.last host.now message) }
+        ensures last { self.new.last ≡ number_after self.old.last result }
     {
         let place = self.places.take(rt);
         let (place, answered) = self.answer(rt, alloc, host, place, message);
@@ -179,7 +183,8 @@ impl<L: Ledger + Naming, C: Clock> Clerk<L, C> {
         place: Place<L>,
         message: Record,
     ) -> (Place<L>, Answered)
-        ensures { IfOk result.1 (AnswersRecord host.now message) }
+        ensures answers { IfOk result.1 (AnswersRecord self.old.last host.now message) }
+        ensures last { self.new.last ≡ number_after self.old.last result.1 }
     {
         let moment = self.clock.moment();
         match host.share() {
@@ -217,19 +222,18 @@ impl<L: Ledger + Naming, C: Clock> Clerk<L, C> {
 
     /// Executes what a record asks.
     fn execute<R: Wait>(
-        &self,
+        &mut self,
         rt: &R,
         alloc: Global,
         place: Place<L>,
         arrival: Arrival,
     ) -> (Place<L>, Answered)
-        ensures { IfOk result.1 (IsAnswerTo arrival.received) }
+        ensures answers { IfOk result.1 (IsAnswerTo self.old.last arrival.received) }
+        ensures last { self.new.last ≡ number_after self.old.last result.1 }
     {
         let (place, submitted) = self.submit(rt, alloc, place, arrival);
-        let answered = match submitted {
-            Ok(sent) => answered(sent, &place.seat),
-            Err(back) => decline(alloc, back),
-        };
+        let answered = answered(alloc, submitted, &place.seat);
+        self.last = last_after(self.last, &answered);
         (place, answered)
     }
 
@@ -246,14 +250,14 @@ impl<L: Ledger + Naming, C: Clock> Clerk<L, C> {
         place: Place<L>,
         arrival: Arrival,
     ) -> (Place<L>, Result<Sent, Arrival>)
-        ensures told { IfOk result.1 (IsTold arrival.received result.0.seat) }
+        ensures told { IfOk result.1 (IsTold self.now.last arrival.received result.0.seat) }
         ensures back { IfErr result.1 (λ back. back.received ≡ arrival.received) }
     {
         let mut place = place;
         let mut arrival = arrival;
         let mut is_anew = false;
         'eras: for _ in rt.forever() {
-            let back = match submit(rt, alloc, &mut place, arrival) {
+            let back = match submit(rt, alloc, &mut place, self.last, arrival) {
                 Ok(sent) => return (place, Ok(sent)),
                 Err(PoolError::EraFull(back)) => back,
                 Err(PoolError::Memory(back)) => {
@@ -296,7 +300,17 @@ fn put(waiting: &mut Connection, answer: Answer) -> bool
     waiting.is_full()
 }
 
-/// Submits what came in to the pool of a place, whose seat gets its receipt.
+/// The number of the last receipt, behind an answer.
+fn last_after(last: u64, answered: &Answered) -> u64
+    ensures { result ≡ number_after last answered.now }
+{
+    match answered {
+        Ok(Answer::Executed(receipt)) => receipt.number,
+        _ => last,
+    }
+}
+
+/// Submits what came in to the pool of a place, whose seat gets its receipt, with a number above this one.
 ///
 /// # Errors
 ///
@@ -305,23 +319,40 @@ fn submit<R: Wait, L: Ledger + Naming>(
     rt: &R,
     alloc: Global,
     place: &mut Place<L>,
+    last: u64,
     arrival: Arrival,
 ) -> Result<Sent, PoolError>
-    ensures told { IfOk result (IsTold arrival.received place.new.seat) }
+    ensures told { IfOk result (IsTold last arrival.received place.new.seat) }
     ensures back { IfErr result (HandsBack arrival.received) }
 {
     // It brings that what came in is read so.
     arrival.reading();
     let Place { pool, seat, .. } = place;
+    seat.go_above(last);
     match pool.submit(rt, alloc, &Open, seat, arrival)? {
         Sent::Refused(declined) => refused(alloc, declined),
         sent => Ok(sent),
     }
 }
 
+/// What is told of a record that was submitted, on this seat, or handed back.
+fn answered<L: Ledger + Naming>(
+    alloc: Global,
+    submitted: Result<Sent, Arrival>,
+    seat: &Seat<L>,
+) -> Answered
+    ensures { (n : ℕ) (r : machine.Arrival) → IfOk submitted (IsTold n r seat.now) →
+        IfErr submitted (λ back. back.received ≡ r) → IfOk result (IsAnswerTo n r) }
+{
+    match submitted {
+        Ok(sent) => answer_to(sent, seat),
+        Err(back) => decline(alloc, back),
+    }
+}
+
 /// What is told of a record that was submitted, on this seat.
-fn answered<L: Ledger + Naming>(sent: Sent, seat: &Seat<L>) -> Answered
-    ensures { (r : machine.Arrival) → IsTold r seat.now sent → IfOk result (IsAnswerTo r) }
+fn answer_to<L: Ledger + Naming>(sent: Sent, seat: &Seat<L>) -> Answered
+    ensures { (n : ℕ) (r : machine.Arrival) → IsTold n r seat.now sent → IfOk result (IsAnswerTo n r) }
 {
     match sent {
         Sent::Executed => executed(seat),
@@ -334,7 +365,7 @@ fn answered<L: Ledger + Naming>(sent: Sent, seat: &Seat<L>) -> Answered
 
 /// The answer that a seat's last receipt tells, and shares with it.
 fn executed<L: Ledger + Naming>(seat: &Seat<L>) -> Answered
-    ensures { (r : machine.Arrival) → HasReceipt r seat.now → IfOk result (IsAnswerTo r) }
+    ensures { (n : ℕ) (r : machine.Arrival) → HasReceipt n r seat.now → IfOk result (IsAnswerTo n r) }
 {
     let receipt = seat.receipts().last().ok_or(Closed::Memory)?;
     Ok(Answer::Executed(Receipt {
@@ -384,7 +415,7 @@ fn read_again(alloc: Global, received: Received) -> Result<Arrival, AllocError>
 
 /// The answer to what came in and is not executed.
 fn decline(alloc: Global, arrival: Arrival) -> Answered
-    ensures { IfOk result (IsAnswerTo arrival.received) }
+    ensures { (n : ℕ) → IfOk result (IsAnswerTo n arrival.received) }
 {
     let (received, reading) = arrival.into_parts();
     match reading {

@@ -186,6 +186,7 @@ impl<L: Ledger + Naming> Service<L> {
             bell: Arc::try_clone(&self.bell)?,
             counters: Arc::try_clone(&self.counters)?,
             clock: ServerClock::beside(clock, self.clock, &self.latest)?,
+            last: 0,
         })
     }
 }

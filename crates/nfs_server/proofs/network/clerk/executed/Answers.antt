@@ -1,5 +1,5 @@
 -- The last receipt of the seat is of what came in, and what is shared of it too.
-use Rattle.std.proofs.Common.{Bor, Option, option_copied, ap}
+use Rattle.std.proofs.Common.{Bor, Option, option_copied, ap, refl}
 use Rattle.nfs_engine.specs.Arrivals.{record_value}
 use Rattle.nfs_engine.specs.declared.arrival.Executed.{Executed}
 use Rattle.nfs_engine.specs.declared.journal.Receipt.{Receipt}
@@ -7,8 +7,8 @@ use Rattle.nfs_server.proofs.AnswersToLemmas.{receipt_answers}
 use Rattle.nfs_server.proofs.network.clerk.executed.Goals as goal
 
 pub returns : goal.returns
-returns g c = λ r has.
-    receipt_answers r c.args.seat.now has c.receipts.result.now c.receipts.ensures (option_copied c.last.result)
+returns g c = λ n r has.
+    receipt_answers n r c.args.seat.now has c.receipts.result.now c.receipts.ensures (option_copied c.last.result)
     c.last.ensures.value c.in_ok-receipt.receipt.now
     (ap (λ (found : Option (Bor Receipt)). option_copied found) c.in_ok-receipt.ensures.ok_part)
     (record {
@@ -16,4 +16,4 @@ returns g c = λ r has.
       executed = c.in_ok-try_clone.field-0;
       answer = c.in_ok-clone.field-0;
     })
-    (ap (λ (x : Executed). record_value x) c.in_ok-try_clone.ensures) c.in_ok-clone.ensures.cases
+    refl (ap (λ (x : Executed). record_value x) c.in_ok-try_clone.ensures) c.in_ok-clone.ensures.cases

@@ -3,10 +3,11 @@ use Rattle.nfs_machine.specs.Run.{FromHost}
 use Rattle.nfs_server.proofs.AnswersToLemmas.{record_answered}
 use Rattle.nfs_server.proofs.network.clerk.Clerk.answer.Goals as goal
 
-pub returns-in-Ok-read : goal.returns-in-Ok-read
-returns-in-Ok-read g c =
-    record_answered c.args.host.now c.args.message c.moment-moment.result c.in-Ok-read.arrival.received
+pub returns-after-may_have_posted-clause-answers : goal.returns-after-may_have_posted-clause-answers
+returns-after-may_have_posted-clause-answers g c =
+    record_answered c.args.self.now.last c.args.host.now c.args.message c.moment-moment.result
+    c.in-Ok-read.arrival.received
     (c.in-Ok-read.ensures.received
     ∙ ap (λ (h : List ℕ). FromHost (record { host = h; bytes = c.args.message; moment = c.moment-moment.result }))
     c.in-Ok.ensures)
-    c.execute-place.result.1 c.execute-place.ensures
+    c.execute-place.result.1 c.execute-place.ensures.answers
