@@ -315,11 +315,11 @@ fn told_without_memory(alloc: Global, lines: &[u8]) -> Result<(Vec<u8>, u64), Al
 }
 
 /// This passes whichever one of its allocations is refused: the line that there is no memory for is answered so, and
-/// the others as if it had not come; but a list that is not handed in is empty then.
+/// the others as if it had not come; but where the line is there, a list that is not handed in is empty then.
 #[test]
 fn lines_are_refused_for_want_of_memory(rt: HostRuntime) -> Result<(), Fail> {
     let lines = b"add /data,rw,*\nadd /new,rw,*\napply\nadd data,rw,*\napply\napply\n";
-    let rows: [(&[u8], u64); 6] = [
+    let rows: [(&[u8], u64); 8] = [
         (b"applied\nrefused: export 1: bad path\napplied\n", 20),
         (
             b"refused: out of memory\napplied\nrefused: export 1: bad path\napplied\n",
@@ -329,8 +329,16 @@ fn lines_are_refused_for_want_of_memory(rt: HostRuntime) -> Result<(), Fail> {
             b"refused: out of memory\nrefused: export 1: bad path\napplied\n",
             0,
         ),
+        (
+            b"refused: out of memory\nrefused: export 3: bad path\napplied\n",
+            0,
+        ),
         (b"applied\nrefused: out of memory\napplied\napplied\n", 200),
         (b"applied\nrefused: out of memory\napplied\n", 20),
+        (
+            b"applied\nrefused: out of memory\nrefused: export 1: bad path\n",
+            2,
+        ),
         (
             b"applied\nrefused: export 1: bad path\nrefused: out of memory\n",
             2,
