@@ -116,8 +116,9 @@ class Runs:
         for window in windows(self.given, growths, before):
             self.count += 1
             try:
-                judged(self.ran(window, source))
+                ended = self.ran(window, source)
                 self.refused += self.orders.refused() > 0
+                judged(ended)
             except Wrong as fault:
                 self.wrong.append((window, fault))
 
