@@ -104,8 +104,14 @@ impl<L: Ledger + Naming> Places<L> {
     pub(crate) fn give<R: Wait>(&self, rt: &R, place: Place<L>) {
         if self.gathering.is_on() {
             drop(self.full.send(rt, place));
-        } else {
-            drop(self.back.send(rt, place));
+            return;
+        }
+        drop(self.back.send(rt, place));
+        // The keeper may have begun to gather them in between, and have found none free.
+        if self.gathering.is_on() {
+            if let Ok(place) = self.free.try_recv(rt) {
+                drop(self.full.send(rt, place));
+            }
         }
     }
 
@@ -123,7 +129,7 @@ impl<L: Ledger + Naming> Places<L> {
     }
 
     /// Hands a place in, so that the era is ended, and takes one that was handed out after that. One that it takes
-    /// before is handed in too, as one may have been given back just before the keeper began to gather them.
+    /// before is handed in too.
     pub(crate) fn turn<R: Wait>(&self, rt: &R, place: Place<L>) -> Place<L> {
         let before = place.turns;
         let mut place = place;
