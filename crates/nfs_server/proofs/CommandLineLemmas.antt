@@ -34,7 +34,7 @@ use Rattle.nfs_server.specs.declared.exit.Exit.{Exit}
 use Rattle.nfs_server.specs.declared.options.Options.{Options}
 use Rattle.nfs_server.specs.declared.options.Transport.{Transport}
 use Rattle.nfs_server.specs.declared.options.Transport.TheVariants.{Stdio, Network}
-use Rattle.nfs_server.specs.declared.exit.Exit.TheVariants.{Callback, CannotListen, CommandLine, Exports, Memory, NoTransport, StandardStream}
+use Rattle.nfs_server.specs.declared.exit.Exit.TheVariants.{Callback, CannotListen, CommandLine, Exports, Memory, NoTransport, Receipts, StandardStream}
 
 nfsd_is_simple : is_simple nfsd ≡ true
 unfolding nfsd clap_on_literals
@@ -148,6 +148,7 @@ refuses_limit limit rows value NoTransport names other refused = absurd refused
 refuses_limit limit rows value (Exports e) names other refused = absurd refused
 refuses_limit limit rows value (Callback number) names other refused = absurd refused
 refuses_limit limit rows value StandardStream names other refused = absurd refused
+refuses_limit limit rows value Receipts names other refused = absurd refused
 refuses_limit limit rows value (CannotListen text) names other refused = absurd refused
 
 -- two transports are refused
@@ -159,6 +160,7 @@ refuses_conflict rows NoTransport asks names refused = absurd refused
 refuses_conflict rows (Exports e) asks names refused = absurd refused
 refuses_conflict rows (Callback number) asks names refused = absurd refused
 refuses_conflict rows StandardStream asks names refused = absurd refused
+refuses_conflict rows Receipts asks names refused = absurd refused
 refuses_conflict rows (CannotListen text) asks names refused = absurd refused
 
 -- a value that is refused refuses its words
@@ -173,6 +175,7 @@ refused_host words m NoTransport parsed refused = absurd refused
 refused_host words m (Exports e) parsed refused = absurd refused
 refused_host words m (Callback number) parsed refused = absurd refused
 refused_host words m StandardStream parsed refused = absurd refused
+refused_host words m Receipts parsed refused = absurd refused
 refused_host words m (CannotListen text) parsed refused = absurd refused
 
 pub refused_limit : (words : List Text) (m : ArgMatches) (exit : Exit) → IsParsedFrom words m
@@ -186,6 +189,7 @@ refused_limit words m NoTransport parsed refused = absurd refused
 refused_limit words m (Exports e) parsed refused = absurd refused
 refused_limit words m (Callback number) parsed refused = absurd refused
 refused_limit words m StandardStream parsed refused = absurd refused
+refused_limit words m Receipts parsed refused = absurd refused
 refused_limit words m (CannotListen text) parsed refused = absurd refused
 
 -- and so does a transport; where none is named the words are taken
@@ -204,6 +208,7 @@ refused_transport words m host limits NoTransport parsed is its refused = (
 refused_transport words m host limits (Exports e) parsed is its refused = absurd refused
 refused_transport words m host limits (Callback number) parsed is its refused = absurd refused
 refused_transport words m host limits StandardStream parsed is its refused = absurd refused
+refused_transport words m host limits Receipts parsed is its refused = absurd refused
 refused_transport words m host limits (CannotListen text) parsed is its refused = absurd refused
 
 -- a transport that is read is the only one
@@ -284,6 +289,7 @@ refuses_options words m limits transport Memory parsed is_taken reads refused = 
 refuses_options words m limits transport (CommandLine e) parsed is_taken reads refused = absurd refused
 refuses_options words m limits transport NoTransport parsed is_taken reads refused = absurd refused
 refuses_options words m limits transport StandardStream parsed is_taken reads refused = absurd refused
+refuses_options words m limits transport Receipts parsed is_taken reads refused = absurd refused
 refuses_options words m limits transport (CannotListen text) parsed is_taken reads refused = absurd refused
 
 -- the texts of the callbacks that are read are those of the rows
@@ -322,4 +328,5 @@ refuses_host rows NoTransport other refused = absurd refused
 refuses_host rows (Exports e) other refused = absurd refused
 refuses_host rows (Callback number) other refused = absurd refused
 refuses_host rows StandardStream other refused = absurd refused
+refuses_host rows Receipts other refused = absurd refused
 refuses_host rows (CannotListen text) other refused = absurd refused
