@@ -47,6 +47,9 @@ const LOOKS: u64 = 2_000;
 
 const PAUSE: u64 = 5;
 
+/// How long a host's thread is given to find that nobody listens at its address, in milliseconds.
+const UNREACHED: u64 = 200;
+
 /// A LOCK of one byte by c2 that waits, exclusive, as a datagram.
 fn lock_of(alloc: Global, file: &[u8], request: Request) -> Result<Vec<u8>, AllocError> {
     let front = [
@@ -213,6 +216,7 @@ fn is_told_alone<R: AllocGlobal + Clock + Net<Listener = TcpListener, Stream = T
     third: &TcpListener,
     file: &[u8],
 ) -> io::Result<bool> {
+    thread::sleep(rt, Duration::from_millis(UNREACHED));
     let second = TcpListener::bind(rt, second)?;
     Ok(
         is_answered(rt.alloc(), stream, file, UNLOCK)?
