@@ -33,7 +33,7 @@ called_as uid = record {
   ids = user uid uid;
   moment = moment;
   start = 7;
-  limits = record { total_bytes = 0 };
+  limits = record { total_bytes = 0; name_key = [] };
 }
 
 -- the exports of that server, and a state with them

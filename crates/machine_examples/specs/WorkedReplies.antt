@@ -88,7 +88,7 @@ abbrev pub file_before : WeakAttributes
 file_before = record { size = 3; modified = time 1000 1; changed = time 1000 1 }
 
 abbrev pub with_room : ℕ → Ctx
-with_room bytes = record (called_as 0) { limits = record { total_bytes = bytes } }
+with_room bytes = record (called_as 0) { limits = record { total_bytes = bytes; name_key = [] } }
 
 -- a call that is answered so, puts no message and changes nothing
 abbrev pub IsReplied : State → Ctx → NfsCall → NfsReply → Type 0

@@ -54,7 +54,7 @@ use Rattle.nfs_machine.specs.declared.calls.Reply.TheVariants as replies
 use Rattle.nfs_machine.specs.declared.context.Ctx.{Ctx}
 
 abbrev pub setting : Setting
-setting = record { start = 7; limits = record { total_bytes = 0 } }
+setting = record { start = 7; limits = record { total_bytes = 0; name_key = [] } }
 
 -- what it exports
 abbrev pub exported : List ExportValue

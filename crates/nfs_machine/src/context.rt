@@ -7,11 +7,16 @@ use bytes::Bytes;
 use nfs_rpc::Ids;
 use std::alloc::AllocError;
 
+/// What a server keeps to itself, and places names by. No answer depends on it.
+pub type NameKey = [u8; 16];
+
 /// Figures that the server was started with.
 #[derive(Clone, Copy, PartialEq, Eq)]
 pub struct Limits {
     /// The total space that FSSTAT tells, in bytes.
     pub total_bytes: u64,
+    /// The names of directories that are made are placed by it.
+    pub name_key: NameKey,
 }
 
 /// Who calls and when, and what the server was started with.

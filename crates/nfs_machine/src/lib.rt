@@ -18,7 +18,7 @@ pub mod paths;
 mod refusals;
 
 pub use calls::{Call, Refusal, Reply};
-pub use context::{Ctx, Limits};
+pub use context::{Ctx, Limits, NameKey};
 pub use exports::{Export, ExportError, ExportText, Exports};
 pub use handle::Handle;
 pub use moment::{Moment, Moments};
