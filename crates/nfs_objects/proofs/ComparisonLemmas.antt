@@ -61,8 +61,11 @@ module _ (a b : Ctx) where
   abbrev same_moment : Bool
   same_moment = a.moment.seconds == b.moment.seconds && a.moment.nanoseconds == b.moment.nanoseconds
 
+  abbrev same_limits : Bool
+  same_limits = a.limits.total_bytes == b.limits.total_bytes && same_bytes a.limits.name_key b.limits.name_key
+
   abbrev same_start : Bool
-  same_start = a.start == b.start && a.limits.total_bytes == b.limits.total_bytes
+  same_start = a.start == b.start && same_limits
 
   context_same : context_test a b ≡ true → a ≡ b
   context_same e =
@@ -73,6 +76,7 @@ module _ (a b : Ctx) where
       let from_moment = second_so same_ids (same_moment && same_start) from_ids in
       let moment = first_so same_moment same_start from_moment in
       let start = second_so same_moment same_start from_moment in
+      let limits = second_so (a.start == b.start) same_limits start in
       λ i. record {
         host = (bytes_decides a.host b.host).0 (first_so (same_bytes a.host b.host) _ e) i;
         ids = record {
@@ -91,7 +95,9 @@ module _ (a b : Ctx) where
         start = (unsigned_Decides a.start b.start).0 (first_so (a.start == b.start) _ start) i;
         limits = record {
           total_bytes = (unsigned_Decides a.limits.total_bytes b.limits.total_bytes).0
-              (second_so (a.start == b.start) _ start) i;
+              (first_so (a.limits.total_bytes == b.limits.total_bytes) _ limits) i;
+          name_key = (bytes_decides a.limits.name_key b.limits.name_key).0
+              (second_so (a.limits.total_bytes == b.limits.total_bytes) _ limits) i;
         };
       }
 
@@ -101,7 +107,7 @@ context_own a =
     (both _ _ (nat_own a.ids.uid) (both _ _ (nat_own a.ids.gid)
     (both _ _ (bytes_own (padded a.ids.gids)) (nat_own (length a.ids.gids)))))
     (both _ _ (both _ _ (nat_own a.moment.seconds) (nat_own a.moment.nanoseconds))
-    (both _ _ (nat_own a.start) (nat_own a.limits.total_bytes))))
+    (both _ _ (nat_own a.start) (both _ _ (nat_own a.limits.total_bytes) (bytes_own a.limits.name_key)))))
 
 pub contexts : TellsApart context_test
 contexts = from_self context_test context_same context_own

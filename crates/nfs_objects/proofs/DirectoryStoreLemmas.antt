@@ -26,7 +26,8 @@ module _ (s t : Store) (n : ℕ) (pages : (page : ℕ) → t.at (addresses.Page 
     pages = λ page. pages page ∙ has.pages page;
     counted = has.counted;
     parts = λ bucket part. subst (IsPart (nat_lt part (width_in m.counts bucket))
-        (led_in_part (width_in m.counts bucket) bucket part entries)) (sym (parts bucket part)) (has.parts bucket part);
+        (led_in_part m.key (width_in m.counts bucket) bucket part entries)) (sym (parts bucket part))
+        (has.parts bucket part);
   }
 
   pub holds-frame : (m : Option EntryMap) (entries : List Entry) → HoldsEntries s n m entries → HoldsEntries t n m entries
@@ -57,16 +58,16 @@ directories-but number s k stand = λ n other. stand n
 
 -- ---- no entry
 -- where no page and no part stands, there are those of no entry
-pub no-entries : (s : Store) (n : ℕ) → HoldsEntries s n None [] → HasEntries s n no_entries []
-no-entries s n none = record {
+pub no-entries : (s : Store) (n : ℕ) (key : List ℕ) → HoldsEntries s n None [] → HasEntries s n (no_entries key) []
+no-entries s n key none = record {
   once = tt;
   buckets = refl;
   listed = λ page. refl;
   pages = λ page. none.0 page;
   counted = λ bucket. inl (zeros 64 bucket);
-  parts = λ bucket part. subst (λ width. IsPart (nat_lt part width) (led_in_part width bucket part [])
+  parts = λ bucket part. subst (λ width. IsPart (nat_lt part width) (led_in_part key width bucket part [])
       (s.at (addresses.Part n bucket part))) (sym (ap width_of (zeros 64 bucket)))
-      (subst (λ there. IsPart there (led_in_part 0 bucket part []) (s.at (addresses.Part n bucket part)))
+      (subst (λ there. IsPart there (led_in_part key 0 bucket part []) (s.at (addresses.Part n bucket part)))
       (sym (le-ltb part 0 (omega arith))) (none.1 bucket part));
 }
   where

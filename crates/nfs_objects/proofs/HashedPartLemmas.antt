@@ -164,18 +164,18 @@ part-more width hash some small = by (top-more width some small)
 
 -- ---- names
 -- a bucket gets one part more
-module _ (width bucket : ℕ) (name : List ℕ) (some : 0 < width) (small : suc width < 2 ^ 31) where
+module _ (key : List ℕ) (width bucket : ℕ) (name : List ℕ) (some : 0 < width) (small : suc width < 2 ^ 31) where
   abbrev before : ℕ
-  before = part_among width name
+  before = part_among key width name
 
   abbrev after : ℕ
-  after = part_among (suc width) name
+  after = part_among key (suc width) name
 
   abbrev source : ℕ
   source = source_of width
 
   within : before < width
-  within = part-below width (digest name) some (omega (arith, small))
+  within = part-below width (digest key name) some (omega (arith, small))
 
   below : source < width
   below = omega (
@@ -186,10 +186,11 @@ module _ (width bucket : ℕ) (name : List ℕ) (some : 0 < width) (small : suc 
   )
 
   moves : (after ≡ before) ⊎ ((before ≡ source) × (after ≡ width))
-  moves = part-more width (digest name) some small
+  moves = part-more width (digest key name) some small
 
   -- in the new part are names of the one that divides
-  pub in-new : is_in_part (suc width) bucket width name ≡ (is_in_part width bucket source name && (after == width))
+  pub in-new : is_in_part key (suc width) bucket width name ≡
+      (is_in_part key width bucket source name && (after == width))
   in-new = elim (bucket_of name == bucket) as
       (λ b. (b && (nat_lt width (suc width) && (after == width)))
       ≡ ((b && (nat_lt source width && (before == source))) && (after == width))) [
@@ -207,8 +208,8 @@ module _ (width bucket : ℕ) (name : List ℕ) (some : 0 < width) (small : suc 
       by (inr moved) = sym (ap (λ t. t && (after == width)) (eq-eqb before source moved.0))
 
   -- and the others of them stay
-  pub in-source : is_in_part (suc width) bucket source name
-      ≡ (is_in_part width bucket source name && (after == source))
+  pub in-source : is_in_part key (suc width) bucket source name
+      ≡ (is_in_part key width bucket source name && (after == source))
   in-source = elim (bucket_of name == bucket) as
       (λ b. (b && (nat_lt source (suc width) && (after == source)))
       ≡ ((b && (nat_lt source width && (before == source))) && (after == source))) [
@@ -230,7 +231,7 @@ module _ (width bucket : ℕ) (name : List ℕ) (some : 0 < width) (small : suc 
 
   -- in other parts are the names that were there
   pub in-other : (part : ℕ) → (part ≡ width → ⊥) → (part ≡ source → ⊥) →
-      is_in_part (suc width) bucket part name ≡ is_in_part width bucket part name
+      is_in_part key (suc width) bucket part name ≡ is_in_part key width bucket part name
   in-other part last first = ap (λ t. (bucket_of name == bucket) && t)
       (ap (λ t. t && (after == part)) (order (cases_order part width)) ∙ ap (λ t. nat_lt part width && t) (by moves))
     where
@@ -246,7 +247,7 @@ module _ (width bucket : ℕ) (name : List ℕ) (some : 0 < width) (small : suc 
           ne_eqb after part (λ is. last (sym is ∙ moved.1)) ∙ sym (ne_eqb before part (λ is. first (sym is ∙ moved.0)))
 
   -- names of the part that divides are in it then, or in the new one
-  pub in-either : is_in_part width bucket source name ≡ true → ((after == source) || (after == width)) ≡ true
+  pub in-either : is_in_part key width bucket source name ≡ true → ((after == source) || (after == width)) ≡ true
   in-either there = by moves
     where
       here : before ≡ source

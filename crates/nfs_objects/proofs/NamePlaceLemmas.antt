@@ -23,10 +23,12 @@ address_of directory place = addresses.Part directory place.bucket place.part
 pub place-tells : (m : EntryMap) (n : ℕ) (name : List ℕ) (place : Option NamePlace) → IsPlace m name place →
     part_place m n name ≡ option_map (address_of n) place
 place-tells m n name None none =
-    ap (λ b. cond b None (Some (addresses.Part n (bucket_of name) (part_among (width_in m.counts (bucket_of name)) name))))
+    ap (λ b. cond b None (Some (addresses.Part n (bucket_of name)
+    (part_among m.key (width_in m.counts (bucket_of name)) name))))
     (eq-eqb (width_in m.counts (bucket_of name)) 0 none)
 place-tells m n name (Some p) at =
-    ap (λ b. cond b None (Some (addresses.Part n (bucket_of name) (part_among (width_in m.counts (bucket_of name)) name))))
+    ap (λ b. cond b None (Some (addresses.Part n (bucket_of name)
+    (part_among m.key (width_in m.counts (bucket_of name)) name))))
     (ne_eqb (width_in m.counts (bucket_of name)) 0 (λ same. omega (arith, same, at.2)))
     ∙ (λ i. Some (addresses.Part n (sym at.0 i) (sym at.1 i)))
 

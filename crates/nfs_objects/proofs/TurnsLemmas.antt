@@ -391,14 +391,15 @@ nothing-listed s k n stands vacant = by (stands.directories n)
 
 -- the entries of a new directory: none
 new-listing : (s : Store) (n : ℕ) (i : Inode) → HoldsEntries s n None [] →
-    IfSome (entry_map_in i.content) (λ m. m ≡ no_entries) →
+    IfSome (entry_map_in i.content) (λ m. m ≡ no_entries m.key) →
     HasListing s n (directory_entries (content_of i.content)) i
 new-listing s n i none bare = by i.content bare
   where
-    by : (c : Content) → IfSome (entry_map_in c) (λ m. m ≡ no_entries) →
+    by : (c : Content) → IfSome (entry_map_in c) (λ m. m ≡ no_entries m.key) →
         HoldsEntries s n (entry_map_in c) (directory_entries (content_of c))
     by (contents.Regular map) bare = none
-    by (contents.Directory directory) bare = subst (λ m. HasEntries s n m []) (sym bare) (no-entries s n none)
+    by (contents.Directory directory) bare = subst (λ m. HasEntries s n m []) (sym bare)
+        (no-entries s n directory.entries.key none)
     by (contents.Link text) bare = none
     by (contents.BlockDevice device) bare = none
     by (contents.CharacterDevice device) bare = none
@@ -406,7 +407,8 @@ new-listing s n i none bare = by i.content bare
     by contents.Fifo bare = none
 
 pub new-stands : (s : Store) (k : Kept) (n : ℕ) (i : Inode) → Represents s k → s.at (addresses.Inode n) ≡ None
-    → pages_of (Some (objects.Inode i)) ≡ no_bits → IfSome (entry_map_in i.content) (λ m. m ≡ no_entries) → IsFitting n i → lives_in k.state.exports i.export ≡ true
+    → pages_of (Some (objects.Inode i)) ≡ no_bits → IfSome (entry_map_in i.content) (λ m. m ≡ no_entries m.key) →
+    IsFitting n i → lives_in k.state.exports i.export ≡ true
     → Represents (with_write s (addresses.Inode n) (Some (objects.Inode i)))
     (with_new k n (living_alone i) i.links (parent_in i.content))
 new-stands s k n i stands vacant none bare fits lives = subst (λ (o : Living).
@@ -776,7 +778,7 @@ module _ (d : DraftValue) (n : ℕ) where
   -- a new inode, once the draft was changed so; the exports stayed, and its own lived before
   pub new-turns : (old : DraftValue) (f : Kept → Kept) → Turns old d f → ((k : Kept) →
       (f k).state.exports ≡ k.state.exports) → (i : Inode) → known_at d (addresses.Inode n) ≡ Some None
-      → pages_of (Some (objects.Inode i)) ≡ no_bits → IfSome (entry_map_in i.content) (λ m. m ≡ no_entries)
+      → pages_of (Some (objects.Inode i)) ≡ no_bits → IfSome (entry_map_in i.content) (λ m. m ≡ no_entries m.key)
       → IsFitting n i → ShowsExport old i.export
       → Turns old (next (Some (objects.Inode i)))
       (λ k. with_new (f k) n (living_alone i) i.links (parent_in i.content))

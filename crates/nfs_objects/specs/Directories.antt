@@ -62,9 +62,9 @@ abbrev pub width_in : List ℕ → (bucket : ℕ) → ℕ
 width_in counts bucket = width_of (count_in counts bucket)
 
 -- ---- parts
--- the hash of a name: SipHash-1-3 of its bytes
-unfoldable pub digest : List ℕ → ℕ
-digest bytes = sip.finish (sip.write sip.initial bytes)
+-- the hash of a name under a key: SipHash-1-3 of the bytes of both, one after the other
+unfoldable pub digest : (key name : List ℕ) → ℕ
+digest key name = sip.finish (sip.write (sip.write sip.initial key) name)
 
 -- the greatest power of two up to a width
 abbrev pub top_of : (width : ℕ) → ℕ
@@ -77,47 +77,47 @@ abbrev pub part_hashed : (width hash : ℕ) → ℕ
 part_hashed width hash =
     let place = hash % (top_of width * 2) in if nat_lt place width then place else hash % top_of width
 
-abbrev pub part_among : (width : ℕ) → List ℕ → ℕ
-part_among width name = part_hashed width (digest name)
+abbrev pub part_among : (key : List ℕ) → (width : ℕ) → List ℕ → ℕ
+part_among key width name = part_hashed width (digest key name)
 
 -- that one part
 abbrev pub source_of : (width : ℕ) → ℕ
 source_of width = width - top_of width
 
 -- whether a name is in this part of a bucket of so many
-abbrev pub is_in_part : (width bucket part : ℕ) → List ℕ → Bool
-is_in_part width bucket part name =
-    (bucket_of name == bucket) && (nat_lt part width && (part_among width name == part))
+abbrev pub is_in_part : (key : List ℕ) → (width bucket part : ℕ) → List ℕ → Bool
+is_in_part key width bucket part name =
+    (bucket_of name == bucket) && (nat_lt part width && (part_among key width name == part))
 
 -- what a name leads to among these, where it is in the part
-abbrev pub led_in_part : (width bucket part : ℕ) → List Entry → List ℕ → Option Entry
-led_in_part width bucket part entries name =
-    if is_in_part width bucket part name then entry_of entries name else None
+abbrev pub led_in_part : (key : List ℕ) → (width bucket part : ℕ) → List Entry → List ℕ → Option Entry
+led_in_part key width bucket part entries name =
+    if is_in_part key width bucket part name then entry_of entries name else None
 
 -- no name of the one list is in the other
 abbrev pub AreApart : List Entry → List Entry → Type 0
 AreApart entries others = (name : List ℕ) → (entry_of entries name ≡ None) ⊎ (entry_of others name ≡ None)
 
 -- ---- maps
--- that of no entry
-abbrev pub no_entries : EntryMap
-no_entries = record { pages = []; counts = replicate 64 0 }
+-- that of no entry, where names are placed under this key
+abbrev pub no_entries : (key : List ℕ) → EntryMap
+no_entries key = record { key = key; pages = []; counts = replicate 64 0 }
 
 -- a directory with no entry, in this one
-abbrev pub bare_directory : (parent : ℕ) → Directory
-bare_directory parent = record { parent = parent; last_cookie = 2; entries = no_entries }
+abbrev pub bare_directory : (parent : ℕ) → (key : List ℕ) → Directory
+bare_directory parent key = record { parent = parent; last_cookie = 2; entries = no_entries key }
 
 -- the address of the part that a name is in, if its bucket has parts
 abbrev pub part_place : EntryMap → (directory : ℕ) → List ℕ → Option Addr
 part_place m directory name =
     let width = width_in m.counts (bucket_of name) in
-    if width == 0 then None else Some (addresses.Part directory (bucket_of name) (part_among width name))
+    if width == 0 then None else Some (addresses.Part directory (bucket_of name) (part_among m.key width name))
 
 -- the same as its bucket and its part
 abbrev pub IsPlace : EntryMap → List ℕ → Option NamePlace → Type 0
 IsPlace m name None = width_in m.counts (bucket_of name) ≡ 0
 IsPlace m name (Some place) = (place.bucket ≡ bucket_of name) ×
-    (place.part ≡ part_among (width_in m.counts (bucket_of name)) name) ×
+    (place.part ≡ part_among m.key (width_in m.counts (bucket_of name)) name) ×
     (place.part < width_in m.counts (bucket_of name))
 
 -- ---- addresses

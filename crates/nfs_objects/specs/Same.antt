@@ -47,7 +47,8 @@ abbrev pub same_run : PageRun → PageRun → Bool
 same_run a b = a.first == b.first && a.last == b.last
 
 abbrev pub same_entry_map : EntryMap → EntryMap → Bool
-same_entry_map a b = same_bytes a.counts b.counts && pointwise same_run a.pages b.pages
+same_entry_map a b =
+    same_bytes a.key b.key && (same_bytes a.counts b.counts && pointwise same_run a.pages b.pages)
 
 abbrev pub same_directory : Directory → Directory → Bool
 same_directory a b =

@@ -117,14 +117,17 @@ pub runs_decide : (a b : List PageRun) → Decides (pointwise same_run a b) (a �
 runs_decide = pointwise_decides run_decides
 
 entry_map_same : (a b : EntryMap) → same_entry_map a b ≡ true → a ≡ b
-entry_map_same a b e = λ i. record {
-  pages = (runs_decide a.pages b.pages).0 (second_so (same_bytes a.counts b.counts) _ e) i;
-  counts = (bytes_decides a.counts b.counts).0 (first_so (same_bytes a.counts b.counts) _ e) i;
-}
+entry_map_same a b e =
+    let rest = second_so (same_bytes a.key b.key) _ e in
+    λ i. record {
+      key = (bytes_decides a.key b.key).0 (first_so (same_bytes a.key b.key) _ e) i;
+      pages = (runs_decide a.pages b.pages).0 (second_so (same_bytes a.counts b.counts) _ rest) i;
+      counts = (bytes_decides a.counts b.counts).0 (first_so (same_bytes a.counts b.counts) _ rest) i;
+    }
 
 pub entry_map_decides : (a b : EntryMap) → Decides (same_entry_map a b) (a ≡ b)
 entry_map_decides = from_self same_entry_map entry_map_same
-    (λ a. both _ _ (bytes_own a.counts) ((runs_decide a.pages a.pages).1 refl))
+    (λ a. both _ _ (bytes_own a.key) (both _ _ (bytes_own a.counts) ((runs_decide a.pages a.pages).1 refl)))
 
 directory_same : (a b : Directory) → same_directory a b ≡ true → a ≡ b
 directory_same a b e =

@@ -302,7 +302,7 @@ pub record HasEntries (s : Store) (n : ℕ) (m : EntryMap) (entries : List machi
   pub counted : (bucket : ℕ) → IsCount (count_in m.counts bucket)
       (count_by (λ (e : machine.Entry). bucket_of e.name == bucket) entries)
   pub parts : (bucket part : ℕ) → IsPart (nat_lt part (width_in m.counts bucket))
-      (led_in_part (width_in m.counts bucket) bucket part entries) (s.at (addresses.Part n bucket part))
+      (led_in_part m.key (width_in m.counts bucket) bucket part entries) (s.at (addresses.Part n bucket part))
 
 -- the same of a directory, if one stands there; of what is none, nothing
 abbrev pub HoldsEntries : Store → (number : ℕ) → Option EntryMap → List machine.Entry → Type 0

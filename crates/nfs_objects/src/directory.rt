@@ -16,6 +16,7 @@ use crate::entry_map::EntryMap;
 use crate::hashing::part_among;
 use bytes::Bytes;
 use indexmap::{Equivalent, IndexMap};
+use nfs_machine::NameKey;
 use std::alloc::{AllocError, Global};
 use std::hash::{Hash, Hasher};
 use std::marker::Model;
@@ -136,20 +137,21 @@ impl Entries {
         Ok(Entries { map })
     }
 
-    /// Those of them whose names are in this part of a bucket of so many. The entries themselves stay as they are.
+    /// Those of them whose names are by this key in this part of a bucket of so many. The entries themselves stay as
+    /// they are.
     ///
     /// # Errors
     ///
     /// There is no memory for the copy.
-    pub fn in_part(&self, width: u32, part: u32) -> Result<Entries, AllocError>
+    pub fn in_part(&self, key: &NameKey, width: u32, part: u32) -> Result<Entries, AllocError>
         ensures { IfOk result (λ entries.
-            entries ≡ filter (λ e. part_among width e.name == part) self.now) }
+            entries ≡ filter (λ e. part_among key.now width e.name == part) self.now) }
     {
         let mut map = self.map.clone()?;
         map.retain(
-            |key: &Bytes, leaf: &mut Leaf| -> bool
-                ensures { (result ≡ (part_among width key.now == part)) × (leaf.new ≡ leaf.old) }
-            { part_among(width, key.as_slice()) == part },
+            |name: &Bytes, leaf: &mut Leaf| -> bool
+                ensures { (result ≡ (part_among key.entry.now width name.now == part)) × (leaf.new ≡ leaf.old) }
+            { part_among(key, width, name.as_slice()) == part },
         );
         Ok(Entries { map })
     }
@@ -213,18 +215,18 @@ const ABOVE_COOKIE: u64 = 2;
 impl Directory {
     ghost use Rattle.nfs_objects.specs.Directories.{bare_directory};
 
-    /// A directory with no entry, which is named in this one.
+    /// A directory with no entry, which is named in this one, and whose names are placed by this key.
     ///
     /// # Errors
     ///
     /// There is no memory for it.
-    pub fn empty(alloc: Global, parent: u64) -> Result<Directory, AllocError>
-        ensures { IfOk result (λ directory. directory ≡ bare_directory parent) }
+    pub fn empty(alloc: Global, parent: u64, key: NameKey) -> Result<Directory, AllocError>
+        ensures { IfOk result (λ directory. directory ≡ bare_directory parent key) }
     {
         Ok(Directory {
             parent,
             last_cookie: ABOVE_COOKIE,
-            entries: EntryMap::none(alloc)?,
+            entries: EntryMap::none(alloc, key)?,
         })
     }
 }

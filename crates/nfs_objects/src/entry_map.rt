@@ -9,12 +9,15 @@ use crate::address::Addr;
 use crate::counts::Counts;
 use crate::hashing::{BUCKETS, bucket_of, part_among};
 use crate::page_list::PageList;
+use nfs_machine::NameKey;
 use std::alloc::{AllocError, Global};
 
 /// Which pages of a directory are there, and how many names are in each bucket, from which follows which parts are
 /// there.
 #[derive(Drop)]
 pub struct EntryMap {
+    /// A name's part follows from it. It stays as long as the directory does.
+    pub key: NameKey,
     pub pages: PageList,
     pub counts: Counts,
 }
@@ -29,15 +32,16 @@ pub struct NamePlace {
 }
 
 impl EntryMap {
-    /// That of no entry.
+    /// That of no entry, where names are placed by this key.
     ///
     /// # Errors
     ///
     /// There is no memory for it.
-    pub fn none(alloc: Global) -> Result<EntryMap, AllocError>
-        ensures { IfOk result (λ map. map ≡ no_entries) }
+    pub fn none(alloc: Global, key: NameKey) -> Result<EntryMap, AllocError>
+        ensures { IfOk result (λ map. map ≡ no_entries key) }
     {
         Ok(EntryMap {
+            key,
             pages: PageList::new(alloc)?,
             counts: Counts::none(alloc)?,
         })
@@ -61,7 +65,7 @@ impl EntryMap {
         }
         Some(NamePlace {
             bucket,
-            part: part_among(width, name),
+            part: part_among(&self.key, width, name),
         })
     }
 
@@ -119,6 +123,7 @@ impl Clone for EntryMap {
 
     fn clone(&self) -> Result<EntryMap, AllocError> {
         Ok(EntryMap {
+            key: self.key,
             pages: self.pages.clone()?,
             counts: self.counts.clone()?,
         })
@@ -139,7 +144,7 @@ impl PartialEq for EntryMap {
         ensures test { result ≡ same_entry_map self.now other.now }
         ensures same { Decides result (self.now ≡ other.now) }
     {
-        self.counts == other.counts && self.pages == other.pages
+        self.key == other.key && self.counts == other.counts && self.pages == other.pages
     }
 }
 

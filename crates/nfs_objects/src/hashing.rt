@@ -7,6 +7,7 @@ ghost use Rattle.std.specs.Prelude.{◌≡◌, ◌<◌, ◌≤◌, ◌^◌};
 ghost use Rattle.nfs_objects.specs.Directories.{bucket_of, digest, part_among, part_hashed, source_of, top_of};
 ghost use Rattle.nfs_objects.specs.Directories.{width_of};
 
+use nfs_machine::NameKey;
 use std::hash::{DefaultHasher, Hasher};
 
 /// How many buckets the names of a directory stand in.
@@ -35,16 +36,17 @@ pub fn width_of(names: u32) -> u32
     names.div_ceil(PART_NAMES)
 }
 
-/// The part of a name in a bucket of so many parts, where it has any.
-pub fn part_among(width: u32, name: &[u8]) -> u32
-    ensures which { result ≡ part_among width name.now }
+/// The part of a name in a bucket of so many parts, where it has any. Whoever does not know the key of the directory
+/// can't choose names that come into one part.
+pub fn part_among(key: &NameKey, width: u32, name: &[u8]) -> u32
+    ensures which { result ≡ part_among key.now width name.now }
     ensures within { 0 < width → result < width }
 {
     if width < 2 {
         // It needs no hash.
         return 0;
     }
-    part_hashed(width, digest(name))
+    part_hashed(width, digest(key, name))
 }
 
 /// The part of a name with this hash in a bucket of so many parts.
@@ -81,12 +83,13 @@ fn top_of(width: u32) -> u32
     1 << (31 - width.leading_zeros())
 }
 
-/// The hash of a name. It reads all of its bytes, eight at a time.
+/// The hash of a name under a key. It reads all of its bytes, eight at a time.
 #[tactic(auto, unfolding(crate::specs::Directories::digest))]
-fn digest(name: &[u8]) -> u64
-    ensures { result ≡ digest name.now }
+fn digest(key: &NameKey, name: &[u8]) -> u64
+    ensures { result ≡ digest key.now name.now }
 {
     let mut hasher = DefaultHasher::new();
+    hasher.write(key);
     hasher.write(name);
     hasher.finish()
 }
