@@ -180,29 +180,30 @@ module _ (d new : DraftValue) (n : ℕ) (before after : List PageRun) (e : Entry
   })
 
 -- ---- a part divides
-module _ (d mid new : DraftValue) (n bucket width wide : ℕ) (whole : List Entry) (some : 0 < width)
+module _ (key : List ℕ) (d mid new : DraftValue) (n bucket width wide : ℕ) (whole : List Entry) (some : 0 < width)
     (small : width ≤ 2 ^ 29) (is-wide : wide ≡ suc width)
     (tells : option_map part_of (known_at d (addresses.Part n bucket (source_of width))) ≡ Some (Some whole))
     (stays : mid ≡ with_written d (addresses.Part n bucket (source_of width))
-    (Some (objects.Part (filter (λ (e : Entry). part_among wide e.name == source_of width) whole))))
+    (Some (objects.Part (filter (λ (e : Entry). part_among key wide e.name == source_of width) whole))))
     (moves : new ≡ with_written mid (addresses.Part n bucket width)
-    (Some (objects.Part (filter (λ (e : Entry). part_among wide e.name == width) whole)))) where
+    (Some (objects.Part (filter (λ (e : Entry). part_among key wide e.name == width) whole)))) where
   abbrev source : ℕ
   source = source_of width
 
   abbrev kept : (among to : ℕ) → Option Object
-  kept among to = Some (objects.Part (filter (λ (e : Entry). part_among among e.name == to) whole))
+  kept among to = Some (objects.Part (filter (λ (e : Entry). part_among key among e.name == to) whole))
 
   below : source < width
   below = source-below width some (omega (arith, small))
 
-  pub part-divides : Divides d new n bucket width
+  pub part-divides : Divides key d new n bucket width
   part-divides = record {
     keeps = keeps-both d mid new n bucket (keeps-part d mid n bucket source (kept wide source) stays)
         (keeps-part mid new n bucket width (kept wide width) moves);
     divides = λ s entries fits has.
         let known = told part_of (known_at d (addresses.Part n bucket source)) (Some whole) tells in
-        divided n bucket width entries some (omega (arith, small)) (with_writes s d.writes) (with_writes s new.writes) whole
+        divided key n bucket width entries some (omega (arith, small)) (with_writes s d.writes)
+        (with_writes s new.writes) whole
         (known-stands d s (addresses.Part n bucket source) known.0 fits known.1 ∙ is-part known.0 whole known.2)
         (part-here mid new n bucket width (kept wide width) moves s ∙ ap (λ w. kept w width) is-wide)
         (part-there mid new n bucket width (kept wide width) moves s source (λ same. omega (arith, same, below))
@@ -213,15 +214,16 @@ module _ (d mid new : DraftValue) (n bucket width wide : ℕ) (whole : List Entr
   }
 
 -- nothing stands where a part should, so that no directory has so many
-pub none-divides : (d : DraftValue) (n bucket width : ℕ) → 0 < width → width ≤ 2 ^ 29 →
-    option_map part_of (known_at d (addresses.Part n bucket (source_of width))) ≡ Some None → Divides d d n bucket width
-none-divides d n bucket width some small tells = record {
+pub none-divides : (key : List ℕ) (d : DraftValue) (n bucket width : ℕ) → 0 < width → width ≤ 2 ^ 29 →
+    option_map part_of (known_at d (addresses.Part n bucket (source_of width))) ≡ Some None → Divides key d d n bucket
+    width
+none-divides key d n bucket width some small tells = record {
   keeps = keeps-none d n bucket;
   divides = λ s entries fits has.
       let known = told part_of (known_at d (addresses.Part n bucket (source_of width))) None tells in
-      let stands : IsPart true (led_in_part width bucket (source_of width) entries)
+      let stands : IsPart true (led_in_part key width bucket (source_of width) entries)
       ((with_writes s d.writes).at (addresses.Part n bucket (source_of width))) =
-      subst (λ b. IsPart b (led_in_part width bucket (source_of width) entries)
+      subst (λ b. IsPart b (led_in_part key width bucket (source_of width) entries)
       ((with_writes s d.writes).at (addresses.Part n bucket (source_of width))))
       (lt-ltb (source_of width) width (source-below width some (omega (arith, small)))) (has (source_of width)) in
       absurd (let clash : None ≡ Some stands.0 =
@@ -256,17 +258,17 @@ width-some count =
     cond_both (nat_lt count many) (count + 1) many (λ c. 0 < width_of c) (λ less. omega arith) (λ more. omega arith)
 
 -- a part of the bucket divided; or none had to, since the bucket has none or has as many then
-abbrev pub MayDivide : (d mid : DraftValue) (n bucket before after : ℕ) → Type 0
-MayDivide d mid n bucket before after = (Divides d mid n bucket before × (before ≡ after → ⊥)) ⊎
+abbrev pub MayDivide : (key : List ℕ) → (d mid : DraftValue) (n bucket before after : ℕ) → Type 0
+MayDivide key d mid n bucket before after = (Divides key d mid n bucket before × (before ≡ after → ⊥)) ⊎
     ((mid ≡ d) × ((before ≡ 0) ⊎ (before ≡ after)))
 
 -- a part of a bucket gets one name more, last, once a part may have divided
-pub record Comes (d mid new : DraftValue) (n : ℕ) (counts wider : List ℕ) (e : Entry) (part : ℕ)
+pub record Comes (key : List ℕ) (d mid new : DraftValue) (n : ℕ) (counts wider : List ℕ) (e : Entry) (part : ℕ)
     (was : Option (List Entry)) (names : List Entry) (bucket : ℕ) : Type 0 where
   pub counted : wider ≡ with_count counts bucket (counted_up (count_in counts bucket))
   pub small : width_in counts bucket ≤ 2 ^ 29
-  pub divides : MayDivide d mid n bucket (width_in counts bucket) (width_of (counted_up (count_in counts bucket)))
-  pub place : part ≡ part_among (width_of (counted_up (count_in counts bucket))) e.name
+  pub divides : MayDivide key d mid n bucket (width_in counts bucket) (width_of (counted_up (count_in counts bucket)))
+  pub place : part ≡ part_among key (width_of (counted_up (count_in counts bucket))) e.name
   pub within : part < width_of (counted_up (count_in counts bucket))
   pub tells : option_map part_of (known_at mid (addresses.Part n bucket part)) ≡ Some was
   pub comes : entry_of (unwrap_or was []) e.name ≡ None → names ≡ unwrap_or was [] ++ e ∷ []
@@ -290,14 +292,16 @@ part-stops d mid n bucket width part halt keeps lives less lacks = by (cases_eq 
         (lives-stops mid (lacked_of d named) (addresses.Part n bucket part) halt
         (inr (parts-live-on n d mid keeps.enters n bucket width keeps.knows lives part (omega (arith, less, other)))) lacks)
 
-pub may-divide-keeps : (d mid : DraftValue) (n bucket before after : ℕ) → MayDivide d mid n bucket before after →
+pub may-divide-keeps : (key : List ℕ) (d mid : DraftValue) (n bucket before after : ℕ) → MayDivide key d mid n bucket
+    before after →
     KeepsButBucket d mid n bucket
-may-divide-keeps d mid n bucket before after (inl divides) = divides.0.keeps
-may-divide-keeps d mid n bucket before after (inr stays) =
+may-divide-keeps key d mid n bucket before after (inl divides) = divides.0.keeps
+may-divide-keeps key d mid n bucket before after (inr stays) =
     subst (λ x. KeepsButBucket d x n bucket) (sym stays.0) (keeps-none d n bucket)
 
-module _ (d mid new : DraftValue) (n : ℕ) (counts wider : List ℕ) (e : Entry) (part : ℕ) (was : Option (List Entry))
-    (names : List Entry) (it : Comes d mid new n counts wider e part was names (bucket_of e.name)) where
+module _ (key : List ℕ) (d mid new : DraftValue) (n : ℕ) (counts wider : List ℕ) (e : Entry) (part : ℕ)
+    (was : Option (List Entry))
+    (names : List Entry) (it : Comes key d mid new n counts wider e part was names (bucket_of e.name)) where
   abbrev bucket : ℕ
   bucket = bucket_of e.name
 
@@ -311,7 +315,7 @@ module _ (d mid new : DraftValue) (n : ℕ) (counts wider : List ℕ) (e : Entry
   own_part = addresses.Part n bucket part
 
   first : KeepsButBucket d mid n bucket
-  first = may-divide-keeps d mid n bucket before after it.divides
+  first = may-divide-keeps key d mid n bucket before after it.divides
 
   module _ (s : Store) (es : List Entry) (fits : Fits d.view s) (full : length counts ≡ 64)
       (absent : entry_of es e.name ≡ None) where
@@ -324,12 +328,12 @@ module _ (d mid new : DraftValue) (n : ℕ) (counts wider : List ℕ) (e : Entry
         ∙ get_or-set_same counts bucket (counted_up (count_in counts bucket)) 0
         (let less : bucket < 64 = mod-lt _ (omega arith) in omega (arith, full, less)))
 
-    own : is_in_part after bucket part e.name ≡ true
+    own : is_in_part key after bucket part e.name ≡ true
     own =
-        and_from (bucket_of e.name == bucket) (nat_lt part after && (part_among after e.name == part))
+        and_from (bucket_of e.name == bucket) (nat_lt part after && (part_among key after e.name == part))
         (eq-eqb (bucket_of e.name) bucket refl)
-        (and_from (nat_lt part after) (part_among after e.name == part) (lt-ltb part after it.within)
-        (eq-eqb (part_among after e.name) part (sym it.place)))
+        (and_from (nat_lt part after) (part_among key after e.name == part) (lt-ltb part after it.within)
+        (eq-eqb (part_among key after e.name) part (sym it.place)))
 
     -- what the draft knows stands there
     known : (o : Option Object) × (known_at mid own_part ≡ Some o) × (part_of o ≡ was)
@@ -342,73 +346,77 @@ module _ (d mid new : DraftValue) (n : ℕ) (counts wider : List ℕ) (e : Entry
 
     -- the entry comes behind what was there
     gained : (old : List Entry) → unwrap_or was [] ≡ old →
-        ((x : List ℕ) → entry_of old x ≡ led_in_part after bucket part es x) →
-        ((q : ℕ) → (q ≡ part → ⊥) → IsPart (nat_lt q after) (led_in_part after bucket q es) (old-at q)) →
-        HasParts (with_writes s new.writes) n bucket after (es ++ e ∷ [])
+        ((x : List ℕ) → entry_of old x ≡ led_in_part key after bucket part es x) →
+        ((q : ℕ) → (q ≡ part → ⊥) → IsPart (nat_lt q after) (led_in_part key after bucket q es) (old-at q)) →
+        HasParts key (with_writes s new.writes) n bucket after (es ++ e ∷ [])
     gained old same leads others =
-        part-gained (with_writes s mid.writes) (with_writes s new.writes) n bucket after part es old leads it.within
+        part-gained key (with_writes s mid.writes) (with_writes s new.writes) n bucket after part es old leads it.within
         (part-there mid new n bucket part (Some (objects.Part names)) it.is s) others e own
         (part-here mid new n bucket part (Some (objects.Part names)) it.is s
         ∙ ap (λ x. Some (objects.Part x)) (subst (λ x. entry_of x e.name ≡ None → names ≡ x ++ e ∷ []) same it.comes
         (leads e.name ∙ ap (λ b. cond b (entry_of es e.name) None) own ∙ absent)))
 
     -- its part was there
-    to-some : HasParts (with_writes s mid.writes) n bucket after es →
-        HasParts (with_writes s new.writes) n bucket after (es ++ e ∷ [])
+    to-some : HasParts key (with_writes s mid.writes) n bucket after es →
+        HasParts key (with_writes s new.writes) n bucket after (es ++ e ∷ [])
     to-some has =
-        let stands : IsPart true (led_in_part after bucket part es) (old-at part) =
-        subst (λ b. IsPart b (led_in_part after bucket part es) (old-at part)) (lt-ltb part after it.within) (has part) in
+        let stands : IsPart true (led_in_part key after bucket part es) (old-at part) =
+        subst (λ b. IsPart b (led_in_part key after bucket part es) (old-at part)) (lt-ltb part after it.within)
+        (has part) in
         gained stands.0 (ap (λ w. unwrap_or w []) (was-there ∙ ap part_of stands.1)) stands.2 (λ q apart. has q)
 
     -- the bucket had no part
     to-none : before ≡ 0 → after ≡ suc before → ((x : List ℕ) → bucket_of x ≡ bucket → entry_of es x ≡ None) →
-        HasParts (with_writes s mid.writes) n bucket before es →
-        HasParts (with_writes s new.writes) n bucket after (es ++ e ∷ [])
+        HasParts key (with_writes s mid.writes) n bucket before es →
+        HasParts key (with_writes s new.writes) n bucket after (es ++ e ∷ [])
     to-none zero one none has =
         gained [] (ap (λ w. unwrap_or w []) (was-there ∙ ap part_of (nothing part)))
         (λ x. nowhere x (bucket_of x == bucket) refl)
-        (λ q apart. subst (λ b. IsPart b (led_in_part after bucket q es) (old-at q))
+        (λ q apart. subst (λ b. IsPart b (led_in_part key after bucket q es) (old-at q))
         (sym (le-ltb q after (omega (arith, zero, one, it.within, apart)))) (nothing q))
       where
         nothing : (q : ℕ) → old-at q ≡ None
-        nothing q = subst (λ b. IsPart b (led_in_part before bucket q es) (old-at q)) (le-ltb q before (omega (arith, zero)))
+        nothing q = subst (λ b. IsPart b (led_in_part key before bucket q es) (old-at q))
+            (le-ltb q before (omega (arith, zero)))
             (has q)
 
         nowhere : (x : List ℕ) (b : Bool) → (bucket_of x == bucket) ≡ b → ◌≡◌ {A = Option Entry} None
-            (cond (b && (nat_lt part after && (part_among after x == part))) (entry_of es x) None)
+            (cond (b && (nat_lt part after && (part_among key after x == part))) (entry_of es x) None)
         nowhere x true is =
-            sym (ap (λ o. cond (nat_lt part after && (part_among after x == part)) o None)
+            sym (ap (λ o. cond (nat_lt part after && (part_among key after x == part)) o None)
             (none x (eqb-true (bucket_of x) bucket is))
-            ∙ elim (nat_lt part after && (part_among after x == part)) as (λ b. ◌≡◌ {A = Option Entry} (cond b None None) None) [
+            ∙ elim (nat_lt part after && (part_among key after x == part)) as
+            (λ b. ◌≡◌ {A = Option Entry} (cond b None None) None) [
               | true ↦ refl
               | false ↦ refl
             ])
         nowhere x false is = refl
 
     gains : (before ≡ 0 → (x : List ℕ) → bucket_of x ≡ bucket → entry_of es x ≡ None) →
-        HasParts (with_writes s d.writes) n bucket before es →
-        HasParts (with_writes s new.writes) n bucket after (es ++ e ∷ [])
+        HasParts key (with_writes s d.writes) n bucket before es →
+        HasParts key (with_writes s new.writes) n bucket after (es ++ e ∷ [])
     gains none has = by it.divides (width-more (count_in counts bucket) it.small)
       where
-        by : MayDivide d mid n bucket before after → (after ≡ before) ⊎ (after ≡ suc before) →
-            HasParts (with_writes s new.writes) n bucket after (es ++ e ∷ [])
+        by : MayDivide key d mid n bucket before after → (after ≡ before) ⊎ (after ≡ suc before) →
+            HasParts key (with_writes s new.writes) n bucket after (es ++ e ∷ [])
         by (inl divides) (inl same) = absurd (divides.1 (sym same))
         by (inl divides) (inr more) =
-            to-some (subst (λ w. HasParts (with_writes s mid.writes) n bucket w es) (sym more)
+            to-some (subst (λ w. HasParts key (with_writes s mid.writes) n bucket w es) (sym more)
             (divides.0.divides s es fits has))
         by (inr (same, inl zero)) (inl equal) = absurd (omega (arith, zero, equal, width-some (count_in counts bucket)))
         by (inr (same, inl zero)) (inr more) =
             to-none zero more (none zero)
-            (subst (λ (x : DraftValue). HasParts (with_writes s x.writes) n bucket before es) (sym same) has)
+            (subst (λ (x : DraftValue). HasParts key (with_writes s x.writes) n bucket before es) (sym same) has)
         by (inr (same, inr equal)) either =
-            to-some (subst (λ w. HasParts (with_writes s mid.writes) n bucket w es) equal
-            (subst (λ (x : DraftValue). HasParts (with_writes s x.writes) n bucket before es) (sym same) has))
+            to-some (subst (λ w. HasParts key (with_writes s mid.writes) n bucket w es) equal
+            (subst (λ (x : DraftValue). HasParts key (with_writes s x.writes) n bucket before es) (sym same) has))
 
-  pub part-comes : PartsGain d new n counts wider e
+  pub part-comes : PartsGain key d new n counts wider e
   part-comes = record {
     keeps = keeps-both d mid new n bucket first (keeps-part mid new n bucket part (Some (objects.Part names)) it.is);
     counts = it.counted;
     parts = λ s es fits full absent none has.
-        subst (λ w. HasParts (with_writes s new.writes) n bucket w (es ++ e ∷ [])) (sym (after-is s es fits full absent))
+        subst (λ w. HasParts key (with_writes s new.writes) n bucket w (es ++ e ∷ []))
+        (sym (after-is s es fits full absent))
         (gains s es fits full absent none has);
   }

@@ -45,7 +45,8 @@ beside-stands s n m entries has (addresses.Page q page) told =
 beside-stands s n m entries has (addresses.Part q bucket part) told =
     let parts = and_parts (n == q) (nat_lt part (width_in m.counts bucket)) told in
     subst (λ x. IsSome (s.at (addresses.Part x bucket part))) (eqb-true n q parts.0)
-    (part-some (nat_lt part (width_in m.counts bucket)) (led_in_part (width_in m.counts bucket) bucket part entries)
+    (part-some (nat_lt part (width_in m.counts bucket))
+    (led_in_part m.key (width_in m.counts bucket) bucket part entries)
     (s.at (addresses.Part n bucket part)) parts.1 (has.parts bucket part))
 beside-stands s n m entries has addresses.Exports told = cc
 beside-stands s n m entries has (addresses.Inode q) told = cc
@@ -105,6 +106,7 @@ module _ (s t : Store) (n : ℕ) (m : EntryMap) (entries : List Entry) (listed :
     λ bucket part. parts bucket part
         ∙ ap (λ b. cond b None (s.at (addresses.Part n bucket part)))
         (beside (addresses.Part n bucket part) ∙ self (nat_lt part (width_in m.counts bucket)))
-        ∙ part-gone (nat_lt part (width_in m.counts bucket)) (led_in_part (width_in m.counts bucket) bucket part entries)
+        ∙ part-gone (nat_lt part (width_in m.counts bucket))
+        (led_in_part m.key (width_in m.counts bucket) bucket part entries)
         (s.at (addresses.Part n bucket part)) (has.parts bucket part),
   )

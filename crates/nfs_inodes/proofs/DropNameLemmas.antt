@@ -215,13 +215,16 @@ record PartTold (s : Store) (a : Addr) (found : Option (List Entry)) (leads : Li
   at : s.at a ≡ Some (objects.Part names)
   lead : (name : List ℕ) → entry_of names name ≡ leads name
 
-part-told : (d : DraftValue) (s : Store) (n bucket part width : ℕ) (es : List Entry) (found : Option (List Entry)) →
+part-told : (key : List ℕ) (d : DraftValue) (s : Store) (n bucket part width : ℕ) (es : List Entry)
+    (found : Option (List Entry)) →
     Fits d.view s → part < width → option_map part_of (known_at d (addresses.Part n bucket part)) ≡ Some found →
-    HasParts (with_writes s d.writes) n bucket width es →
-    PartTold (with_writes s d.writes) (addresses.Part n bucket part) found (led_in_part width bucket part es)
-part-told d s n bucket part width es found fits below known has =
-    let was : IsPart true (led_in_part width bucket part es) ((with_writes s d.writes).at (addresses.Part n bucket part)) =
-    subst (λ b. IsPart b (led_in_part width bucket part es) ((with_writes s d.writes).at (addresses.Part n bucket part)))
+    HasParts key (with_writes s d.writes) n bucket width es →
+    PartTold (with_writes s d.writes) (addresses.Part n bucket part) found (led_in_part key width bucket part es)
+part-told key d s n bucket part width es found fits below known has =
+    let was : IsPart true (led_in_part key width bucket part es)
+    ((with_writes s d.writes).at (addresses.Part n bucket part)) =
+    subst (λ b. IsPart b (led_in_part key width bucket part es)
+    ((with_writes s d.writes).at (addresses.Part n bucket part)))
     (lt-ltb part width below) (has part) in
     record {
       names = was.0;
@@ -245,7 +248,8 @@ module _ (d : DraftValue) (n bucket width : ℕ) (some : 0 < width) (small : wid
   pub absent-last : option_map part_of (known_at d (addresses.Part n bucket width)) ≡ Some None → Joins d d n bucket width
   absent-last none = record {
     keeps = keeps-none d n bucket;
-    joins = λ s es fits has. absurd (let told = part-told d s n bucket width (suc width) es None fits (omega arith) none has in
+    joins = λ key s es fits has. absurd (let told = part-told key d s n bucket width (suc width) es None fits
+        (omega arith) none has in
         let e = told.is in cc);
   }
 
@@ -253,7 +257,7 @@ module _ (d : DraftValue) (n bucket width : ℕ) (some : 0 < width) (small : wid
       Joins d d n bucket width
   absent-source none = record {
     keeps = keeps-none d n bucket;
-    joins = λ s es fits has. absurd (let told = part-told d s n bucket source (suc width) es None fits
+    joins = λ key s es fits has. absurd (let told = part-told key d s n bucket source (suc width) es None fits
         (omega (arith, under)) none has in let e = told.is in cc);
   }
 
@@ -267,18 +271,19 @@ module _ (d : DraftValue) (n bucket width : ℕ) (some : 0 < width) (small : wid
       record {
         keeps = keeps-both d mid new n bucket (keeps-part d mid n bucket source (Some (objects.Part both)) put)
             (keeps-part mid new n bucket width None freed);
-        joins = λ s es fits has. by s es
-            (part-told d s n bucket source (suc width) es (Some stays) fits (omega (arith, under)) first has)
-            (part-told d s n bucket width (suc width) es (Some moves) fits (omega arith) last has) has;
+        joins = λ key s es fits has. by key s es
+            (part-told key d s n bucket source (suc width) es (Some stays) fits (omega (arith, under)) first has)
+            (part-told key d s n bucket width (suc width) es (Some moves) fits (omega arith) last has) has;
       }
     where
-      by : (s : Store) (es : List Entry) →
+      by : (key : List ℕ) (s : Store) (es : List Entry) →
           PartTold (with_writes s d.writes) (addresses.Part n bucket source) (Some stays)
-          (led_in_part (suc width) bucket source es) →
+          (led_in_part key (suc width) bucket source es) →
           PartTold (with_writes s d.writes) (addresses.Part n bucket width) (Some moves)
-          (led_in_part (suc width) bucket width es) → HasParts (with_writes s d.writes) n bucket (suc width) es →
-          HasParts (with_writes s new.writes) n bucket width es
-      by s es front back has =
+          (led_in_part key (suc width) bucket width es) → HasParts key (with_writes s d.writes) n bucket (suc width)
+          es →
+          HasParts key (with_writes s new.writes) n bucket width es
+      by key s es front back has =
           let own : front.names ≡ stays = (let e = front.is in cc) in
           let other : back.names ≡ moves = (let e = back.is in cc) in
           let at-front : (with_writes s d.writes).at (addresses.Part n bucket source) ≡ Some (objects.Part stays) =
@@ -286,8 +291,9 @@ module _ (d : DraftValue) (n bucket width : ℕ) (some : 0 < width) (small : wid
           let at-back : (with_writes s d.writes).at (addresses.Part n bucket width) ≡ Some (objects.Part moves) =
           back.at ∙ ap (λ l. Some (objects.Part l)) other in
           let all : both ≡ stays ++ moves =
-          is (parts-apart n bucket width es some roomy (with_writes s d.writes) stays moves at-front at-back has) in
-          joined n bucket width es some roomy (with_writes s d.writes) (with_writes s new.writes) stays moves at-front
+          is (parts-apart key n bucket width es some roomy (with_writes s d.writes) stays moves at-front at-back has) in
+          joined key n bucket width es some roomy (with_writes s d.writes) (with_writes s new.writes) stays moves
+          at-front
           at-back
           (part-there mid new n bucket width None freed s source (λ same. absurd (omega (arith, same, under)))
           ∙ part-here d mid n bucket source (Some (objects.Part both)) put s ∙ ap (λ l. Some (objects.Part l)) all)
@@ -387,7 +393,7 @@ module _ (counts after : List ℕ) (bucket : ℕ)
 pub tells-less : (m : EntryMap) (pages : List PageRun) (counts : List ℕ) (bucket : ℕ) →
     ((p : ℕ) → lists pages p ≡ true → lists m.pages p ≡ true) →
     counts ≡ with_count m.counts bucket (counted_down (count_in m.counts bucket)) →
-    TellsLess (record { pages = pages; counts = counts }) m
+    TellsLess (record { key = m.key; pages = pages; counts = counts }) m
 tells-less m pages counts bucket fewer is n (addresses.Page q p) told =
     let parts = and_parts (n == q) (lists pages p) told in
     and_from (n == q) (lists m.pages p) parts.0 (fewer p parts.1)
@@ -406,8 +412,8 @@ tells-less m pages counts bucket fewer is n (addresses.Usage export group) told 
 tells-less m pages counts bucket fewer is n (addresses.Locks index) told = cc
 
 -- ---- a name of a part
-module _ (d : DraftValue) (n : ℕ) (before after : List ℕ) (name : List ℕ) (part : ℕ)
-    (place : part ≡ part_among (width_in before (bucket_of name)) name)
+module _ (key : List ℕ) (d : DraftValue) (n : ℕ) (before after : List ℕ) (name : List ℕ) (part : ℕ)
+    (place : part ≡ part_among key (width_in before (bucket_of name)) name)
     (below : part < width_in before (bucket_of name))
     (counts : after ≡ with_count before (bucket_of name) (counted_down (count_in before (bucket_of name)))) where
   abbrev bucket : ℕ
@@ -416,33 +422,33 @@ module _ (d : DraftValue) (n : ℕ) (before after : List ℕ) (name : List ℕ) 
   abbrev width : ℕ
   width = width_in before bucket
 
-  own : is_in_part width bucket part name ≡ true
+  own : is_in_part key width bucket part name ≡ true
   own =
-      and_from (bucket == bucket) (nat_lt part width && (part_among width name == part)) (eq-eqb bucket bucket refl)
-      (and_from (nat_lt part width) (part_among width name == part) (lt-ltb part width below)
-      (eq-eqb (part_among width name) part (sym place)))
+      and_from (bucket == bucket) (nat_lt part width && (part_among key width name == part)) (eq-eqb bucket bucket refl)
+      (and_from (nat_lt part width) (part_among key width name == part) (lt-ltb part width below)
+      (eq-eqb (part_among key width name) part (sym place)))
 
   pub absent-part : option_map part_of (known_at d (addresses.Part n bucket part)) ≡ Some None →
-      PartsLose d d n before after name
+      PartsLose key d d n before after name
   absent-part none = record {
     keeps = keeps-none d n bucket;
     counts = counts;
-    parts = λ s es fits has. absurd (let told = part-told d s n bucket part width es None fits below none has in
+    parts = λ s es fits has. absurd (let told = part-told key d s n bucket part width es None fits below none has in
         let e = told.is in cc);
   }
 
   -- the only part goes
   pub whole-lost : (new : DraftValue) → new ≡ with_written d (addresses.Part n bucket part) None →
-      width_in after bucket ≡ 0 → PartsLose d new n before after name
+      width_in after bucket ≡ 0 → PartsLose key d new n before after name
   whole-lost new freed none = record {
     keeps = keeps-part d new n bucket part None freed;
     counts = counts;
-    parts = λ s es fits has q. subst (λ b. IsPart b (led_in_part (width_in after bucket) bucket q (without es name))
+    parts = λ s es fits has q. subst (λ b. IsPart b (led_in_part key (width_in after bucket) bucket q (without es name))
         ((with_writes s new.writes).at (addresses.Part n bucket q)))
         (sym (le-ltb q (width_in after bucket) (omega (arith, none)))) (by s es has q (cases_eq q part));
   }
     where
-      by : (s : Store) (es : List Entry) → HasParts (with_writes s d.writes) n bucket width es → (q : ℕ) →
+      by : (s : Store) (es : List Entry) → HasParts key (with_writes s d.writes) n bucket width es → (q : ℕ) →
           (q ≡ part) ⊎ (q ≡ part → ⊥) → (with_writes s new.writes).at (addresses.Part n bucket q) ≡ None
       by s es has q (inl same) =
           ap (λ p. (with_writes s new.writes).at (addresses.Part n bucket p)) same
@@ -450,7 +456,8 @@ module _ (d : DraftValue) (n : ℕ) (before after : List ℕ) (name : List ℕ) 
       by s es has q (inr other) =
           let one = was-one before after bucket counts (omega (arith, below)) none in
           part-there d new n bucket part None freed s q other
-          ∙ subst (λ b. IsPart b (led_in_part width bucket q es) ((with_writes s d.writes).at (addresses.Part n bucket q)))
+          ∙ subst (λ b. IsPart b (led_in_part key width bucket q es)
+          ((with_writes s d.writes).at (addresses.Part n bucket q)))
           (le-ltb q width (omega (arith, one, below, other))) (has q)
 
   -- its part has the others
@@ -461,35 +468,38 @@ module _ (d : DraftValue) (n : ℕ) (before after : List ℕ) (name : List ℕ) 
     keeps-mid : KeepsButBucket d mid n bucket
     keeps-mid = keeps-part d mid n bucket part (Some (objects.Part rest)) put
 
-    parts-mid : (s : Store) (es : List Entry) → Fits d.view s → HasParts (with_writes s d.writes) n bucket width es →
-        HasParts (with_writes s mid.writes) n bucket width (without es name)
-    parts-mid s es fits has = by (part-told d s n bucket part width es (Some old) fits below known has)
+    parts-mid : (s : Store) (es : List Entry) → Fits d.view s → HasParts key (with_writes s d.writes) n bucket width
+        es →
+        HasParts key (with_writes s mid.writes) n bucket width (without es name)
+    parts-mid s es fits has = by (part-told key d s n bucket part width es (Some old) fits below known has)
       where
-        by : PartTold (with_writes s d.writes) (addresses.Part n bucket part) (Some old) (led_in_part width bucket part es) →
-            HasParts (with_writes s mid.writes) n bucket width (without es name)
+        by : PartTold (with_writes s d.writes) (addresses.Part n bucket part) (Some old)
+            (led_in_part key width bucket part es) →
+            HasParts key (with_writes s mid.writes) n bucket width (without es name)
         by told =
             let same : told.names ≡ old = (let e = told.is in cc) in
-            part-lost (with_writes s d.writes) (with_writes s mid.writes) n bucket width part es told.names told.lead below
+            part-lost key (with_writes s d.writes) (with_writes s mid.writes) n bucket width part es told.names
+            told.lead below
             (part-there d mid n bucket part (Some (objects.Part rest)) put s) (λ q other. has q) name own
             (part-here d mid n bucket part (Some (objects.Part rest)) put s
             ∙ ap (λ l. Some (objects.Part l)) (is ∙ ap (λ l. without l name) (sym same)))
 
-    pub rest-lost : width ≡ width_in after bucket → PartsLose d mid n before after name
+    pub rest-lost : width ≡ width_in after bucket → PartsLose key d mid n before after name
     rest-lost same = record {
       keeps = keeps-mid;
       counts = counts;
-      parts = λ s es fits has. subst (λ w. HasParts (with_writes s mid.writes) n bucket w (without es name)) same
+      parts = λ s es fits has. subst (λ w. HasParts key (with_writes s mid.writes) n bucket w (without es name)) same
           (parts-mid s es fits has);
     }
 
     -- and takes those of the last one
     pub joined-lost : (new : DraftValue) → (width ≡ width_in after bucket → ⊥) →
-        Joins mid new n bucket (width_in after bucket) → PartsLose d new n before after name
+        Joins mid new n bucket (width_in after bucket) → PartsLose key d new n before after name
     joined-lost new other joins = record {
       keeps = keeps-both d mid new n bucket keeps-mid joins.keeps;
       counts = counts;
       parts = λ s es fits has.
-          joins.joins s (without es name) (subst (λ v. Fits v s) (sym keeps-mid.enters.view) fits)
-          (subst (λ w. HasParts (with_writes s mid.writes) n bucket w (without es name))
+          joins.joins key s (without es name) (subst (λ v. Fits v s) (sym keeps-mid.enters.view) fits)
+          (subst (λ w. HasParts key (with_writes s mid.writes) n bucket w (without es name))
           (one-less before after bucket counts (omega (arith, below)) other) (parts-mid s es fits has));
     }

@@ -106,18 +106,18 @@ differs bucket e name away is = by (same_bytes e.name name) refl
         let clash : true ≡ false = sym (eq-eqb (bucket_of e.name) bucket here) ∙ away in cc)
     by false other = other
 
-module _ (width bucket part : ℕ) (es : List Entry) where
+module _ (key : List ℕ) (width bucket part : ℕ) (es : List Entry) where
   abbrev led : List ℕ → Bool → List Entry → Option Entry
   led name b entries =
-      cond (b && (nat_lt part width && (part_among width name == part))) (entry_of entries name) None
+      cond (b && (nat_lt part width && (part_among key width name == part))) (entry_of entries name) None
 
   -- an entry of another bucket changes nothing of what leads in a part
   other-gains : (e : Entry) → is_of bucket e ≡ false → (name : List ℕ) →
-      led_in_part width bucket part es name ≡ led_in_part width bucket part (es ++ e ∷ []) name
+      led_in_part key width bucket part es name ≡ led_in_part key width bucket part (es ++ e ∷ []) name
   other-gains e away name = by (bucket_of name == bucket) refl
     where
       by : (b : Bool) → (bucket_of name == bucket) ≡ b → led name b es ≡ led name b (es ++ e ∷ [])
-      by true here = ap (λ o. cond (nat_lt part width && (part_among width name == part)) o None)
+      by true here = ap (λ o. cond (nat_lt part width && (part_among key width name == part)) o None)
           (sym (find-append es (e ∷ []) name
           ∙ ap (λ b. first-of (entry_of es name) (cond b (Some e) None))
           (differs bucket e name away (eqb-true (bucket_of name) bucket here)) ∙ first-none (entry_of es name)))
@@ -125,7 +125,7 @@ module _ (width bucket part : ℕ) (es : List Entry) where
 
   -- and so does a name of another one that goes
   other-loses : (gone : List ℕ) → (bucket_of gone == bucket) ≡ false → (name : List ℕ) →
-      led_in_part width bucket part es name ≡ led_in_part width bucket part (without es gone) name
+      led_in_part key width bucket part es name ≡ led_in_part key width bucket part (without es gone) name
   other-loses gone away name = by (bucket_of name == bucket) refl
     where
       apart : bucket_of name ≡ bucket → same_bytes name gone ≡ false
@@ -138,7 +138,7 @@ module _ (width bucket part : ℕ) (es : List Entry) where
           by-same false other = other
 
       by : (b : Bool) → (bucket_of name == bucket) ≡ b → led name b es ≡ led name b (without es gone)
-      by true here = ap (λ o. cond (nat_lt part width && (part_among width name == part)) o None)
+      by true here = ap (λ o. cond (nat_lt part width && (part_among key width name == part)) o None)
           (sym (find-filter (λ x. not (same_bytes x gone)) es name
           ∙ ap (λ b. cond (not b) (entry_of es name) None) (apart (eqb-true (bucket_of name) bucket here))))
       by false there = refl
@@ -155,7 +155,7 @@ found-named (x ∷ es) name e found = by (same_bytes x.name name) refl found (fo
 
 module _ (old mid new : DraftValue) (n : ℕ) (before : EntryMap) (pages : List PageRun) (counts : List ℕ) where
   abbrev after : EntryMap
-  after = record { pages = pages; counts = counts }
+  after = record { key = before.key; pages = pages; counts = counts }
 
   -- the counts of a bucket and of another one, where one is changed
   count-here : (bucket count : ℕ) → counts ≡ with_count before.counts bucket count → bucket < 64 →
@@ -170,7 +170,8 @@ module _ (old mid new : DraftValue) (n : ℕ) (before : EntryMap) (pages : List 
       ap (λ cs. count_in cs other) is ∙ get_or-set_other before.counts bucket other count 0 apart
 
   -- ---- an entry more
-  pub entered : (e : Entry) → PagesGain old mid n before.pages pages e → PartsGain mid new n before.counts counts e →
+  pub entered : (e : Entry) → PagesGain old mid n before.pages pages e → PartsGain before.key mid new n before.counts
+      counts e →
       Relists n old new before after (λ es. es ++ e ∷ []) (λ es. entry_of es e.name ≡ None)
   entered e gains parts = record {
     enters = enters-both n old mid new gains.enters parts.keeps.enters;
@@ -209,32 +210,36 @@ module _ (old mid new : DraftValue) (n : ℕ) (before : EntryMap) (pages : List 
 
       leads : (s : Store) (es : List Entry) → Fits old.view s → entry_of es e.name ≡ None →
           HasEntries (with_writes s old.writes) n before es → (b part : ℕ) → (b ≡ bucket) ⊎ (b ≡ bucket → ⊥) →
-          IsPart (nat_lt part (width_in counts b)) (led_in_part (width_in counts b) b part (es ++ e ∷ []))
+          IsPart (nat_lt part (width_in counts b)) (led_in_part before.key (width_in counts b) b part (es ++ e ∷ []))
           ((with_writes s new.writes).at (addresses.Part n b part))
       leads s es fits absent has b part (inl same) =
-          subst (λ q. IsPart (nat_lt part (width_in counts q)) (led_in_part (width_in counts q) q part (es ++ e ∷ []))
+          subst (λ q. IsPart (nat_lt part (width_in counts q))
+          (led_in_part before.key (width_in counts q) q part (es ++ e ∷ []))
           ((with_writes s new.writes).at (addresses.Part n q part))) (sym same)
           (parts.parts s es (subst (λ v. Fits v s) (sym gains.enters.view) fits) has.buckets absent
           (λ none. none-there bucket (count_in before.counts bucket) es (has.counted bucket) none)
           (λ p. subst (IsPart (nat_lt p (width_in before.counts bucket))
-          (led_in_part (width_in before.counts bucket) bucket p es)) (sym (gains.parts s bucket p)) (has.parts bucket p))
+          (led_in_part before.key (width_in before.counts bucket) bucket p es)) (sym (gains.parts s bucket p))
+          (has.parts bucket p))
           part)
       leads s es fits absent has b part (inr apart) =
-          subst (IsPart (nat_lt part (width_in counts b)) (led_in_part (width_in counts b) b part (es ++ e ∷ [])))
+          subst (IsPart (nat_lt part (width_in counts b)) (led_in_part before.key (width_in counts b) b part
+          (es ++ e ∷ [])))
           (sym (parts.keeps.others s b part (ne_eqb bucket b (λ is. apart (sym is))) ∙ gains.parts s b part))
-          (subst (λ c. IsPart (nat_lt part (width_of c)) (led_in_part (width_of c) b part (es ++ e ∷ []))
+          (subst (λ c. IsPart (nat_lt part (width_of c)) (led_in_part before.key (width_of c) b part (es ++ e ∷ []))
           ((with_writes s old.writes).at (addresses.Part n b part)))
           (sym (count-there bucket (counted_up (count_in before.counts bucket)) b parts.counts apart))
-          (part-as (nat_lt part (width_in before.counts b)) (led_in_part (width_in before.counts b) b part es)
-          (led_in_part (width_in before.counts b) b part (es ++ e ∷ []))
-          (other-gains (width_in before.counts b) b part es e (ne_eqb bucket b (λ is. apart (sym is))))
+          (part-as (nat_lt part (width_in before.counts b)) (led_in_part before.key (width_in before.counts b) b part
+          es)
+          (led_in_part before.key (width_in before.counts b) b part (es ++ e ∷ []))
+          (other-gains before.key (width_in before.counts b) b part es e (ne_eqb bucket b (λ is. apart (sym is))))
           ((with_writes s old.writes).at (addresses.Part n b part)) (has.parts b part)))
 
   -- ---- a name less
   pub left : (name : List ℕ) (leaf : Leaf) →
       ((s : Store) (es : List Entry) → Fits old.view s → HasEntries (with_writes s old.writes) n before es →
       option_map leaf_of (entry_of es name) ≡ Some leaf)
-      → PagesLose old mid n before.pages pages leaf name → PartsLose mid new n before.counts counts name
+      → PagesLose old mid n before.pages pages leaf name → PartsLose before.key mid new n before.counts counts name
       → Relists n old new before after (λ es. without es name) always
   left name leaf shows loses parts = record {
     enters = enters-both n old mid new loses.enters parts.keeps.enters;
@@ -287,24 +292,27 @@ module _ (old mid new : DraftValue) (n : ℕ) (before : EntryMap) (pages : List 
 
       leads : (s : Store) (es : List Entry) → Fits old.view s → HasEntries (with_writes s old.writes) n before es →
           (b part : ℕ) → (b ≡ bucket) ⊎ (b ≡ bucket → ⊥) →
-          IsPart (nat_lt part (width_in counts b)) (led_in_part (width_in counts b) b part (without es name))
+          IsPart (nat_lt part (width_in counts b)) (led_in_part before.key (width_in counts b) b part (without es name))
           ((with_writes s new.writes).at (addresses.Part n b part))
       leads s es fits has b part (inl same) =
-          subst (λ q. IsPart (nat_lt part (width_in counts q)) (led_in_part (width_in counts q) q part (without es name))
+          subst (λ q. IsPart (nat_lt part (width_in counts q))
+          (led_in_part before.key (width_in counts q) q part (without es name))
           ((with_writes s new.writes).at (addresses.Part n q part))) (sym same)
           (parts.parts s es (subst (λ v. Fits v s) (sym loses.enters.view) fits)
           (λ p. subst (IsPart (nat_lt p (width_in before.counts bucket))
-          (led_in_part (width_in before.counts bucket) bucket p es)) (sym (loses.parts s bucket p))
+          (led_in_part before.key (width_in before.counts bucket) bucket p es)) (sym (loses.parts s bucket p))
           (has.parts bucket p)) part)
       leads s es fits has b part (inr apart) =
-          subst (IsPart (nat_lt part (width_in counts b)) (led_in_part (width_in counts b) b part (without es name)))
+          subst (IsPart (nat_lt part (width_in counts b)) (led_in_part before.key (width_in counts b) b part
+          (without es name)))
           (sym (parts.keeps.others s b part (ne_eqb bucket b (λ is. apart (sym is))) ∙ loses.parts s b part))
-          (subst (λ c. IsPart (nat_lt part (width_of c)) (led_in_part (width_of c) b part (without es name))
+          (subst (λ c. IsPart (nat_lt part (width_of c)) (led_in_part before.key (width_of c) b part (without es name))
           ((with_writes s old.writes).at (addresses.Part n b part)))
           (sym (count-there bucket (counted_down (count_in before.counts bucket)) b parts.counts apart))
-          (part-as (nat_lt part (width_in before.counts b)) (led_in_part (width_in before.counts b) b part es)
-          (led_in_part (width_in before.counts b) b part (without es name))
-          (other-loses (width_in before.counts b) b part es name
+          (part-as (nat_lt part (width_in before.counts b)) (led_in_part before.key (width_in before.counts b) b part
+          es)
+          (led_in_part before.key (width_in before.counts b) b part (without es name))
+          (other-loses before.key (width_in before.counts b) b part es name
           (ne_eqb bucket b (λ is. apart (sym is))))
           ((with_writes s old.writes).at (addresses.Part n b part)) (has.parts b part)))
 

@@ -63,14 +63,15 @@ root-vacant d late n vacant keeps same s fits =
     known-stands late s (addresses.Inode n) None (subst (λ v. Fits v s) (sym same) fits) (keeps.inodes n ∙ vacant)
 
 -- once it is counted
-pub root-turns : (d late new : DraftValue) (export : ℕ) (r : Reserved) (time : Time) (root : Inode) (after : Usage)
-    → root ≡ inode_of_root export r time → ShowsExport d export → known_at d (addresses.Inode r.number) ≡ Some None
+pub root-turns : (d late new : DraftValue) (export : ℕ) (r : Reserved) (time : Time) (key : List ℕ) (root : Inode)
+    (after : Usage) → root ≡ inode_of_root export r time key → ShowsExport d export → known_at d
+    (addresses.Inode r.number) ≡ Some None
     → Turns d late (recounted r.number (in_export export no_usage) (in_export export after))
     → after ≡ one_using block → KeepsInodes d late
     → new ≡ with_written late (addresses.Inode r.number) (Some (objects.Inode root)) → IsFitting r.number root
     → Turns d new (root_made time export (choice_of (Some r)))
-root-turns d late new export r time root after made lives vacant counts is keeps put fits =
-    made-turns d d late new (λ k. k) r (inode_of_root export r time) (new_root export r.generation time) 2 r.number
+root-turns d late new export r time key root after made lives vacant counts is keeps put fits =
+    made-turns d d late new (λ k. k) r (inode_of_root export r time key) (new_root export r.generation time) 2 r.number
     export after (turns-none d) (λ k. refl) lives counts
     (put ∙ ap (λ i. with_written late (addresses.Inode r.number) (Some (objects.Inode i))) made)
     (root-vacant d late r.number vacant keeps counts.view) refl refl refl refl refl

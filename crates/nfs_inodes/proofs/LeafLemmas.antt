@@ -31,22 +31,23 @@ module _ (d : DraftValue) (s : Store) (n : ℕ) (m : EntryMap) (entries : List E
   width = width_in m.counts bucket
 
   -- a name is in the part that it has its place in
-  own : (part : ℕ) → part ≡ part_among width name → part < width → is_in_part width bucket part name ≡ true
+  own : (part : ℕ) → part ≡ part_among m.key width name → part < width → is_in_part m.key width bucket part name ≡ true
   own part is less =
-      and_from (bucket_of name == bucket) (nat_lt part width && (part_among width name == part))
+      and_from (bucket_of name == bucket) (nat_lt part width && (part_among m.key width name == part))
       (eq-eqb (bucket_of name) bucket refl)
-      (and_from (nat_lt part width) (part_among width name == part) (lt-ltb part width less)
-      (eq-eqb (part_among width name) part (sym is)))
+      (and_from (nat_lt part width) (part_among m.key width name == part) (lt-ltb part width less)
+      (eq-eqb (part_among m.key width name) part (sym is)))
 
   -- and leads there to what it leads to
-  part-leads : (part : ℕ) (o : Option Object) (names : Option (List Entry)) → part ≡ part_among width name → part < width →
+  part-leads : (part : ℕ) (o : Option Object) (names : Option (List Entry)) → part ≡ part_among m.key width name →
+      part < width →
       (with_writes s d.writes).at (addresses.Part n bucket part) ≡ o → part_of o ≡ names →
       option_map leaf_of (entry_of entries name)
       ≡ elim names [ None ↦ None | Some es ↦ option_map leaf_of (entry_of es name) ]
   part-leads part o names is less at shown =
-      let stands : IsPart true (led_in_part width bucket part entries)
+      let stands : IsPart true (led_in_part m.key width bucket part entries)
       ((with_writes s d.writes).at (addresses.Part n bucket part)) =
-      subst (λ b. IsPart b (led_in_part width bucket part entries)
+      subst (λ b. IsPart b (led_in_part m.key width bucket part entries)
       ((with_writes s d.writes).at (addresses.Part n bucket part))) (lt-ltb part width less) (has.parts bucket part) in
       let same : names ≡ Some stands.0 = sym shown ∙ ap part_of (sym at ∙ stands.1) in
       sym (ap (λ x. elim x [ None ↦ None | Some es ↦ option_map leaf_of (entry_of es name) ]) same

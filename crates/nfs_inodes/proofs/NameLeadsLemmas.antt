@@ -141,7 +141,8 @@ module _ (d : DraftValue) (n : ℕ) (name : List ℕ) (i : Inode) (m : EntryMap)
       by : (width ≡ 0) ⊎ (width ≢ 0) → part_place m n name ≡ Some (addresses.Part n p.bucket p.part)
       by (inl wide) = absurd (omega (arith, wide, at.2))
       by (inr wide) =
-          ap (λ b. cond b None (Some (addresses.Part n (bucket_of name) (part_among width name)))) (ne_eqb width 0 wide)
+          ap (λ b. cond b None (Some (addresses.Part n (bucket_of name) (part_among m.key width name))))
+          (ne_eqb width 0 wide)
           ∙ (λ j. Some (addresses.Part n (sym at.0 j) (sym at.1 j)))
 
   led-there : (l : Leaf) (p : NamePlace) (part : Option (List Entry)) → IsPlace m name (Some p)

@@ -18,94 +18,101 @@ use Rattle.nfs_inodes.proofs.DividePartLemmas.{first-none, first-of, part-as}
 use Rattle.nfs_inodes.specs.Entered.{HasParts}
 
 -- what leads in a part but for this one
-abbrev pub HasOthers : Store → (n bucket width part : ℕ) → List Entry → Type 0
-HasOthers s n bucket width part entries = (q : ℕ) → (q ≡ part → ⊥) →
-    IsPart (nat_lt q width) (led_in_part width bucket q entries) (s.at (addresses.Part n bucket q))
+abbrev pub HasOthers : (key : List ℕ) → Store → (n bucket width part : ℕ) → List Entry → Type 0
+HasOthers key s n bucket width part entries = (q : ℕ) → (q ≡ part → ⊥) →
+    IsPart (nat_lt q width) (led_in_part key width bucket q entries) (s.at (addresses.Part n bucket q))
 
 -- ---- which names are meant
-module _ (width bucket part : ℕ) (name : List ℕ) (own : is_in_part width bucket part name ≡ true) where
+module _ (key : List ℕ) (width bucket part : ℕ) (name : List ℕ)
+    (own : is_in_part key width bucket part name ≡ true) where
   -- a name is in no other part
-  nowhere-else : (q : ℕ) → (q ≡ part → ⊥) → is_in_part width bucket q name ≡ false
+  nowhere-else : (q : ℕ) → (q ≡ part → ⊥) → is_in_part key width bucket q name ≡ false
   nowhere-else q other =
-      let inner = and_parts (bucket_of name == bucket) (nat_lt part width && (part_among width name == part)) own in
-      let here : part_among width name ≡ part =
-      eqb-true (part_among width name) part (and_parts (nat_lt part width) (part_among width name == part) inner.1).1 in
-      let away : (part_among width name == q) ≡ false =
-      ne_eqb (part_among width name) q (λ is. other (sym is ∙ here)) in
-      and_right (bucket_of name == bucket) (nat_lt q width && (part_among width name == q))
-      (and_right (nat_lt q width) (part_among width name == q) away)
+      let inner = and_parts (bucket_of name == bucket) (nat_lt part width && (part_among key width name == part)) own in
+      let here : part_among key width name ≡ part =
+      eqb-true (part_among key width name) part (and_parts (nat_lt part width) (part_among key width name == part)
+      inner.1).1 in
+      let away : (part_among key width name == q) ≡ false =
+      ne_eqb (part_among key width name) q (λ is. other (sym is ∙ here)) in
+      and_right (bucket_of name == bucket) (nat_lt q width && (part_among key width name == q))
+      (and_right (nat_lt q width) (part_among key width name == q) away)
 
   -- so a name that is in another part is another name, and one that is not in this part
-  others-differ : (q : ℕ) (x : List ℕ) → is_in_part width bucket q name ≡ false → is_in_part width bucket q x ≡ true →
+  others-differ : (q : ℕ) (x : List ℕ) → is_in_part key width bucket q name ≡ false → is_in_part key width bucket q x
+      ≡ true →
       same_bytes name x ≡ false
   others-differ q x out there = by (same_bytes name x) refl
     where
       by : (b : Bool) → same_bytes name x ≡ b → same_bytes name x ≡ false
       by true same = absurd (let one : name ≡ x = (bytes_decides name x).0 same in
-          let clash : true ≡ false = sym there ∙ ap (is_in_part width bucket q) (sym one) ∙ out in cc)
+          let clash : true ≡ false = sym there ∙ ap (is_in_part key width bucket q) (sym one) ∙ out in cc)
       by false other = other
 
-  outside-differ : (x : List ℕ) → is_in_part width bucket part x ≡ false → same_bytes name x ≡ false
+  outside-differ : (x : List ℕ) → is_in_part key width bucket part x ≡ false → same_bytes name x ≡ false
   outside-differ x out = by (same_bytes name x) refl
     where
       by : (b : Bool) → same_bytes name x ≡ b → same_bytes name x ≡ false
       by true same = absurd (let one : name ≡ x = (bytes_decides name x).0 same in
-          let clash : true ≡ false = sym own ∙ ap (is_in_part width bucket part) one ∙ out in cc)
+          let clash : true ≡ false = sym own ∙ ap (is_in_part key width bucket part) one ∙ out in cc)
       by false other = other
 
-module _ (s t : Store) (n bucket width part : ℕ) (entries names : List Entry)
-    (leads : (x : List ℕ) → entry_of names x ≡ led_in_part width bucket part entries x) (below : part < width)
+module _ (key : List ℕ) (s t : Store) (n bucket width part : ℕ) (entries names : List Entry)
+    (leads : (x : List ℕ) → entry_of names x ≡ led_in_part key width bucket part entries x) (below : part < width)
     (others : (q : ℕ) → (q ≡ part → ⊥) → t.at (addresses.Part n bucket q) ≡ s.at (addresses.Part n bucket q))
-    (has : HasOthers s n bucket width part entries) where
+    (has : HasOthers key s n bucket width part entries) where
   -- ---- a name comes
-  pub part-gained : (e : Entry) → is_in_part width bucket part e.name ≡ true →
+  pub part-gained : (e : Entry) → is_in_part key width bucket part e.name ≡ true →
       t.at (addresses.Part n bucket part) ≡ Some (objects.Part (names ++ e ∷ []))
-      → HasParts t n bucket width (entries ++ e ∷ [])
+      → HasParts key t n bucket width (entries ++ e ∷ [])
   part-gained e own at q = by (cases_eq q part)
     where
       last : List ℕ → Option Entry
       last x = cond (same_bytes e.name x) (Some e) None
 
       standing : (p : ℕ) → Type 0
-      standing p = IsPart (nat_lt p width) (led_in_part width bucket p (entries ++ e ∷ []))
+      standing p = IsPart (nat_lt p width) (led_in_part key width bucket p (entries ++ e ∷ []))
           (t.at (addresses.Part n bucket p))
 
-      here : (x : List ℕ) (b : Bool) → is_in_part width bucket part x ≡ b →
+      here : (x : List ℕ) (b : Bool) → is_in_part key width bucket part x ≡ b →
           first-of (cond b (entry_of entries x) None) (last x) ≡ cond b (entry_of (entries ++ e ∷ []) x) None
       here x true is = sym (find-append entries (e ∷ []) x)
-      here x false is = ap (λ c. cond c (Some e) None) (outside-differ width bucket part e.name own x is)
+      here x false is = ap (λ c. cond c (Some e) None) (outside-differ key width bucket part e.name own x is)
 
-      there : (p : ℕ) (x : List ℕ) (b : Bool) → (p ≡ part → ⊥) → is_in_part width bucket p x ≡ b →
+      there : (p : ℕ) (x : List ℕ) (b : Bool) → (p ≡ part → ⊥) → is_in_part key width bucket p x ≡ b →
           cond b (entry_of entries x) None ≡ cond b (entry_of (entries ++ e ∷ []) x) None
       there p x true other is =
           sym (find-append entries (e ∷ []) x
           ∙ ap (λ c. first-of (entry_of entries x) (cond c (Some e) None))
-          (others-differ width bucket part e.name own p x (nowhere-else width bucket part e.name own p other) is)
+          (others-differ key width bucket part e.name own p x (nowhere-else key width bucket part e.name own p other)
+          is)
           ∙ first-none (entry_of entries x))
       there p x false other is = refl
 
       by : (q ≡ part) ⊎ (q ≡ part → ⊥) → standing q
       by (inl same) = subst standing (sym same)
-          (subst (λ b. IsPart b (led_in_part width bucket part (entries ++ e ∷ [])) (t.at (addresses.Part n bucket part)))
+          (subst (λ b. IsPart b (led_in_part key width bucket part (entries ++ e ∷ []))
+          (t.at (addresses.Part n bucket part)))
           (sym (lt-ltb part width below)) (
             names ++ e ∷ [],
             at,
             λ x. find-append names (e ∷ []) x ∙ ap (λ o. first-of o (last x)) (leads x)
-                ∙ here x (is_in_part width bucket part x) refl,
+                ∙ here x (is_in_part key width bucket part x) refl,
           ))
-      by (inr other) = subst (IsPart (nat_lt q width) (led_in_part width bucket q (entries ++ e ∷ [])))
+      by (inr other) = subst (IsPart (nat_lt q width) (led_in_part key width bucket q (entries ++ e ∷ [])))
           (sym (others q other))
-          (part-as (nat_lt q width) (led_in_part width bucket q entries) (led_in_part width bucket q (entries ++ e ∷ []))
-          (λ x. there q x (is_in_part width bucket q x) other refl) (s.at (addresses.Part n bucket q)) (has q other))
+          (part-as (nat_lt q width) (led_in_part key width bucket q entries)
+          (led_in_part key width bucket q (entries ++ e ∷ []))
+          (λ x. there q x (is_in_part key width bucket q x) other refl) (s.at (addresses.Part n bucket q))
+          (has q other))
 
   -- ---- a name goes
-  pub part-lost : (name : List ℕ) → is_in_part width bucket part name ≡ true →
+  pub part-lost : (name : List ℕ) → is_in_part key width bucket part name ≡ true →
       t.at (addresses.Part n bucket part) ≡ Some (objects.Part (without names name))
-      → HasParts t n bucket width (without entries name)
+      → HasParts key t n bucket width (without entries name)
   part-lost name own at q = by (cases_eq q part)
     where
       standing : (p : ℕ) → Type 0
-      standing p = IsPart (nat_lt p width) (led_in_part width bucket p (without entries name))
+      standing p = IsPart (nat_lt p width) (led_in_part key width bucket p (without entries name))
           (t.at (addresses.Part n bucket p))
 
       found : (es : List Entry) (x : List ℕ) →
@@ -125,27 +132,29 @@ module _ (s t : Store) (n bucket width part : ℕ) (entries names : List Entry)
               let clash : true ≡ false = sym ((bytes_decides name x).1 one) ∙ other in cc)
           by-name false is = is
 
-      there : (p : ℕ) (x : List ℕ) (b : Bool) → (p ≡ part → ⊥) → is_in_part width bucket p x ≡ b →
+      there : (p : ℕ) (x : List ℕ) (b : Bool) → (p ≡ part → ⊥) → is_in_part key width bucket p x ≡ b →
           cond b (entry_of entries x) None ≡ cond b (entry_of (without entries name) x) None
       there p x true other is =
           sym (found entries x
           ∙ ap (λ c. cond (not c) (entry_of entries x) None) (differs x
-          (others-differ width bucket part name own p x (nowhere-else width bucket part name own p other) is)))
+          (others-differ key width bucket part name own p x (nowhere-else key width bucket part name own p other) is)))
       there p x false other is = refl
 
       by : (q ≡ part) ⊎ (q ≡ part → ⊥) → standing q
       by (inl same) = subst standing (sym same)
-          (subst (λ b. IsPart b (led_in_part width bucket part (without entries name)) (t.at (addresses.Part n bucket part)))
+          (subst (λ b. IsPart b (led_in_part key width bucket part (without entries name))
+          (t.at (addresses.Part n bucket part)))
           (sym (lt-ltb part width below)) (
             without names name,
             at,
             λ x. found names x
                 ∙ ap (λ o. cond (not (same_bytes x name)) o None) (leads x)
-                ∙ both (not (same_bytes x name)) (is_in_part width bucket part x) (entry_of entries x)
-                ∙ ap (λ o. cond (is_in_part width bucket part x) o None) (sym (found entries x)),
+                ∙ both (not (same_bytes x name)) (is_in_part key width bucket part x) (entry_of entries x)
+                ∙ ap (λ o. cond (is_in_part key width bucket part x) o None) (sym (found entries x)),
           ))
-      by (inr other) = subst (IsPart (nat_lt q width) (led_in_part width bucket q (without entries name)))
+      by (inr other) = subst (IsPart (nat_lt q width) (led_in_part key width bucket q (without entries name)))
           (sym (others q other))
-          (part-as (nat_lt q width) (led_in_part width bucket q entries)
-          (led_in_part width bucket q (without entries name))
-          (λ x. there q x (is_in_part width bucket q x) other refl) (s.at (addresses.Part n bucket q)) (has q other))
+          (part-as (nat_lt q width) (led_in_part key width bucket q entries)
+          (led_in_part key width bucket q (without entries name))
+          (λ x. there q x (is_in_part key width bucket q x) other refl) (s.at (addresses.Part n bucket q))
+          (has q other))

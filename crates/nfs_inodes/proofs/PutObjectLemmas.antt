@@ -40,6 +40,7 @@ use Rattle.nfs_objects.specs.declared.address.Addr.{Addr}
 use Rattle.nfs_objects.specs.declared.address.Addr.TheVariants as addresses
 use Rattle.nfs_objects.specs.declared.change.Halt.{Halt}
 use Rattle.nfs_objects.specs.declared.directory.Directory.{Directory}
+use Rattle.nfs_objects.specs.declared.entry_map.EntryMap.{EntryMap}
 use Rattle.nfs_objects.specs.declared.object.Content.{Content}
 use Rattle.nfs_objects.specs.declared.object.Content.TheVariants as contents
 use Rattle.nfs_objects.specs.declared.object.Inode.{Inode}
@@ -254,6 +255,15 @@ blank-pages content blank = by (map_in content) blank
     by None is = refl
     by (Some map) is = is
 
+-- a directory with no entry is so by its own key
+pub bare-keyed : (content : Content) (key : List ℕ) → IfSome (entry_map_in content) (λ m. m ≡ no_entries key) →
+    IfSome (entry_map_in content) (λ m. m ≡ no_entries m.key)
+bare-keyed content key bare = by (entry_map_in content) bare
+  where
+    by : (m : Option EntryMap) → IfSome m (λ m. m ≡ no_entries key) → IfSome m (λ m. m ≡ no_entries m.key)
+    by None is = tt
+    by (Some m) is = is ∙ ap no_entries (sym (ap (λ (x : EntryMap). x.key) is))
+
 -- nothing stands at the first number that may be given, as the view shows
 pub first-vacant : (d : DraftValue) (r : Reserved) → d.writes ≡ [] → IsFirst d r → (s : Store) → Fits d.view s →
     known_at d (addresses.Inode r.number) ≡ Some None
@@ -299,7 +309,7 @@ put-new-turns : (old mid new : DraftValue) (f : Kept → Kept) (r : Reserved) (i
     → Turns old mid f → ((k : Kept) → (f k).state.exports ≡ k.state.exports) → ShowsExport old o.export
     → new ≡ with_written mid (addresses.Inode r.number) (Some (objects.Inode i))
     → ((s : Store) → Fits old.view s → (with_writes s mid.writes).at (addresses.Inode r.number) ≡ None)
-    → pages_of (Some (objects.Inode i)) ≡ no_bits → IfSome (entry_map_in i.content) (λ m. m ≡ no_entries)
+    → pages_of (Some (objects.Inode i)) ≡ no_bits → IfSome (entry_map_in i.content) (λ m. m ≡ no_entries m.key)
     → living_alone i ≡ o → i.links ≡ links → parent_in i.content ≡ parent → IsFitting r.number i
     → Turns old new (λ k. with_new (f k) r.number o links parent)
 put-new-turns old mid new f r i o links parent turns stay live is vacant none bare lives linked under fits =
@@ -541,7 +551,7 @@ pub made-turns : (old mid late new : DraftValue) (f : Kept → Kept) (r : Reserv
     → Turns mid late (recounted r.number (in_export export no_usage) (in_export export after))
     → new ≡ with_written late (addresses.Inode r.number) (Some (objects.Inode i))
     → ((s : Store) → Fits old.view s → (with_writes s late.writes).at (addresses.Inode r.number) ≡ None)
-    → pages_of (Some (objects.Inode i)) ≡ no_bits → IfSome (entry_map_in i.content) (λ m. m ≡ no_entries)
+    → pages_of (Some (objects.Inode i)) ≡ no_bits → IfSome (entry_map_in i.content) (λ m. m ≡ no_entries m.key)
     → living_alone i ≡ o → i.links ≡ links → parent_in i.content ≡ parent → IsFitting r.number i
     → export ≡ o.export → after ≡ one_using (used_of o.content)
     → Turns old new (λ k. counted_anew r.number None (with_new (f k) r.number o links parent))

@@ -151,10 +151,10 @@ pub record PagesLose (old new : DraftValue) (n : ℕ) (before after : List PageR
       (with_writes s old.writes).at (addresses.Part n bucket part)
 
 -- ---- parts
--- a bucket has so many parts, and in them its names lead so
-abbrev pub HasParts : Store → (n bucket width : ℕ) → List Entry → Type 0
-HasParts s n bucket width entries = (part : ℕ) → IsPart (nat_lt part width)
-    (led_in_part width bucket part entries) (s.at (addresses.Part n bucket part))
+-- a bucket has so many parts, and in them its names, placed by this key, lead so
+abbrev pub HasParts : (key : List ℕ) → Store → (n bucket width : ℕ) → List Entry → Type 0
+HasParts key s n bucket width entries = (part : ℕ) → IsPart (nat_lt part width)
+    (led_in_part key width bucket part entries) (s.at (addresses.Part n bucket part))
 
 -- all else of a directory is as before
 pub record KeepsButBucket (old new : DraftValue) (n bucket : ℕ) : Type 0 where
@@ -167,36 +167,38 @@ pub record KeepsButBucket (old new : DraftValue) (n bucket : ℕ) : Type 0 where
       (with_writes s old.writes).at (addresses.Part n other part)
 
 -- a bucket of so many parts has one more; and one that has one more has so many
-pub record Divides (old new : DraftValue) (n bucket width : ℕ) : Type 0 where
+pub record Divides (key : List ℕ) (old new : DraftValue) (n bucket width : ℕ) : Type 0 where
   pub keeps : KeepsButBucket old new n bucket
   pub divides : (s : Store) (entries : List Entry) → Fits old.view s →
-      HasParts (with_writes s old.writes) n bucket width entries →
-      HasParts (with_writes s new.writes) n bucket (suc width) entries
+      HasParts key (with_writes s old.writes) n bucket width entries →
+      HasParts key (with_writes s new.writes) n bucket (suc width) entries
 
 pub record Joins (old new : DraftValue) (n bucket width : ℕ) : Type 0 where
   pub keeps : KeepsButBucket old new n bucket
-  pub joins : (s : Store) (entries : List Entry) → Fits old.view s →
-      HasParts (with_writes s old.writes) n bucket (suc width) entries →
-      HasParts (with_writes s new.writes) n bucket width entries
+  pub joins : (key : List ℕ) (s : Store) (entries : List Entry) → Fits old.view s →
+      HasParts key (with_writes s old.writes) n bucket (suc width) entries →
+      HasParts key (with_writes s new.writes) n bucket width entries
 
 -- an entry came to its part, whose name was not there; nor was any other one of its bucket, if that had no part
-pub record PartsGain (old new : DraftValue) (n : ℕ) (before after : List ℕ) (e : Entry) : Type 0 where
+pub record PartsGain (key : List ℕ) (old new : DraftValue) (n : ℕ) (before after : List ℕ) (e : Entry) : Type 0 where
   pub keeps : KeepsButBucket old new n (bucket_of e.name)
   pub counts : after ≡ with_count before (bucket_of e.name) (counted_up (count_in before (bucket_of e.name)))
   pub parts : (s : Store) (entries : List Entry) → Fits old.view s → length before ≡ 64 →
       entry_of entries e.name ≡ None →
       (width_in before (bucket_of e.name) ≡ 0 → (other : List ℕ) → bucket_of other ≡ bucket_of e.name →
       entry_of entries other ≡ None) →
-      HasParts (with_writes s old.writes) n (bucket_of e.name) (width_in before (bucket_of e.name)) entries →
-      HasParts (with_writes s new.writes) n (bucket_of e.name) (width_in after (bucket_of e.name)) (entries ++ e ∷ [])
+      HasParts key (with_writes s old.writes) n (bucket_of e.name) (width_in before (bucket_of e.name)) entries →
+      HasParts key (with_writes s new.writes) n (bucket_of e.name) (width_in after (bucket_of e.name))
+      (entries ++ e ∷ [])
 
 -- a name went from its part
-pub record PartsLose (old new : DraftValue) (n : ℕ) (before after name : List ℕ) : Type 0 where
+pub record PartsLose (key : List ℕ) (old new : DraftValue) (n : ℕ) (before after name : List ℕ) : Type 0 where
   pub keeps : KeepsButBucket old new n (bucket_of name)
   pub counts : after ≡ with_count before (bucket_of name) (counted_down (count_in before (bucket_of name)))
   pub parts : (s : Store) (entries : List Entry) → Fits old.view s →
-      HasParts (with_writes s old.writes) n (bucket_of name) (width_in before (bucket_of name)) entries →
-      HasParts (with_writes s new.writes) n (bucket_of name) (width_in after (bucket_of name)) (without entries name)
+      HasParts key (with_writes s old.writes) n (bucket_of name) (width_in before (bucket_of name)) entries →
+      HasParts key (with_writes s new.writes) n (bucket_of name) (width_in after (bucket_of name))
+      (without entries name)
 
 -- ---- what is asked of entries before a change
 -- nothing

@@ -1,5 +1,5 @@
 -- What makers of roots do to what is kept, where exports are replaced.
-use Rattle.std.specs.Prelude.{◌≡◌, ◌<◌, ◌≤◌, ◌^◌, ◌⊎◌, ◌+◌, ℕ, zero, suc, true, None}
+use Rattle.std.specs.Prelude.{◌≡◌, ◌<◌, ◌≤◌, ◌^◌, ◌⊎◌, ◌+◌, ℕ, zero, suc, true, List, None}
 use Rattle.nfs_wire.specs.declared.attributes.Time.{Time}
 use Rattle.nfs_machine.specs.Replacing.{RootChoice, new_root}
 use Rattle.nfs_machine.specs.State.{State, octal}
@@ -28,12 +28,12 @@ roots_made now choose last zero k = k
 roots_made now choose last (suc count) k =
     root_made now (last + suc count) (choose (last + suc count)) (roots_made now choose last count k)
 
--- the inode of a root: "." and ".." have the cookies 1 and 2
-abbrev pub inode_of_root : (export : ℕ) → Reserved → Time → Inode
-inode_of_root export r time = record {
+-- the inode of a root: "." and ".." have the cookies 1 and 2; names are placed under this key
+abbrev pub inode_of_root : (export : ℕ) → Reserved → Time → (key : List ℕ) → Inode
+inode_of_root export r time key = record {
   export = export;
   generation = r.generation;
-  content = contents.Directory (bare_directory r.number);
+  content = contents.Directory (bare_directory r.number key);
   mode = octal 7 7 7;
   uid = 0;
   gid = 0;

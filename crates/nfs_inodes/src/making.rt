@@ -160,7 +160,8 @@ pub(crate) fn new_inode(
     ensures living { IfOk result (λ inode.
         living_alone inode ≡ new_object ctx.now directory.now.known.export generation (wanted_as wanted.now)) }
     ensures blank { IfOk result (λ inode. IfSome (map_in inode.content) (λ map. map.pages ≡ no_bits)) }
-    ensures bare { IfOk result (λ inode. IfSome (entry_map_in inode.content) (λ map. map ≡ no_entries)) }
+    ensures bare { IfOk result (λ inode.
+        IfSome (entry_map_in inode.content) (λ map. map ≡ no_entries ctx.now.limits.name_key)) }
     ensures links { IfOk result (λ inode. inode.links ≡ first_links (content_asked wanted.now.content)) }
     ensures parent { IfOk result (λ inode.
         parent_in inode.content ≡ first_parent directory.now.known.number (content_asked wanted.now.content)) }
@@ -170,7 +171,12 @@ pub(crate) fn new_inode(
     Ok(Inode {
         export: directory.known.export,
         generation,
-        content: new_content(alloc, &wanted.content, directory.known.number)?,
+        content: new_content(
+            alloc,
+            &wanted.content,
+            directory.known.number,
+            ctx.limits.name_key,
+        )?,
         mode: given.mode.unwrap_or(mode_of(&wanted.content)) % MODE_LIMIT,
         uid: given.uid.unwrap_or(ctx.ids.uid),
         gid: given.gid.unwrap_or(ctx.ids.gid),

@@ -18,6 +18,7 @@ ghost use Rattle.nfs_inodes.specs.Stops.{StopsAt};
 use crate::content::asking::Asking;
 use crate::times::now;
 use crate::usage::{Share, recount};
+use nfs_machine::NameKey;
 use nfs_objects::usage::group_of;
 use nfs_objects::{
     Addr, Content, DIRECTORY_SIZE, Directory, Draft, ExportTable, Halt, Inode, Mode, Object,
@@ -80,8 +81,10 @@ pub fn make_root(draft: &mut Draft<'_>, export: u32, reserved: Reserved) -> Resu
     ensures table { OnOk result (known_at draft.new Addr.Exports ≡ known_at draft.old Addr.Exports) }
     ensures fits { ReservedFits reserved }
 {
-    let time = now(draft.ctx());
-    let root = root_of(draft.alloc(), export, reserved, time)?;
+    let ctx = draft.ctx();
+    let time = now(ctx);
+    let key = ctx.limits.name_key;
+    let root = root_of(draft.alloc(), export, reserved, time, key)?;
     let nothing = Share {
         export,
         usage: Usage::none(),
@@ -95,14 +98,20 @@ pub fn make_root(draft: &mut Draft<'_>, export: u32, reserved: Reserved) -> Resu
     Ok(draft.put(reserved.number, root)?)
 }
 
-/// A root: mode 0777, and no name but `.` and `..`, which both lead to itself.
-fn root_of(alloc: Global, export: u32, reserved: Reserved, time: Time) -> Result<Inode, AllocError>
-    ensures { IfOk result (λ root. root ≡ inode_of_root export reserved time) }
+/// A root: mode 0777, and no name but `.` and `..`, which both lead to itself. Its names are placed by this key.
+fn root_of(
+    alloc: Global,
+    export: u32,
+    reserved: Reserved,
+    time: Time,
+    key: NameKey,
+) -> Result<Inode, AllocError>
+    ensures { IfOk result (λ root. root ≡ inode_of_root export reserved time key) }
 {
     Ok(Inode {
         export,
         generation: reserved.generation,
-        content: Content::Directory(Directory::empty(alloc, reserved.number)?),
+        content: Content::Directory(Directory::empty(alloc, reserved.number, key)?),
         mode: 0o777,
         uid: 0,
         gid: 0,

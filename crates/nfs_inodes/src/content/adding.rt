@@ -15,6 +15,7 @@ ghost use Rattle.nfs_inodes.specs.Stops.{StopsAt};
 
 use crate::content::asking::Asking;
 use bytes::Bytes;
+use nfs_machine::NameKey;
 use nfs_objects::hashing::{bucket_of, part_among, source_of};
 use nfs_objects::{
     Addr, Counts, Draft, Entries, EntryMap, EntryPage, Halt, Leaf, NamePlace, PAGE_COOKIES,
@@ -46,7 +47,7 @@ pub(crate) fn ask_added(
     let bucket = bucket_of(name);
     let before = map.counts.width(bucket);
     let after = map.counts.width_with_one_more(bucket);
-    let part = part_among(after, name);
+    let part = part_among(&map.key, after, name);
     if before == after {
         return asking.add(draft, part_at(number, bucket, part));
     }
@@ -99,8 +100,12 @@ pub(crate) fn with_entry(
     asking.ask()?;
     let name = Bytes::copy_from_slice(draft.alloc(), name)?;
     let pages = add_to_page(draft, number, &map.pages, &name, leaf)?;
-    let counts = add_to_part(draft, number, &map.counts, &name, leaf)?;
-    Ok(EntryMap { pages, counts })
+    let counts = add_to_part(draft, number, &map.key, &map.counts, &name, leaf)?;
+    Ok(EntryMap {
+        key: map.key,
+        pages,
+        counts,
+    })
 }
 
 /// Puts an entry last into its page. The pages that are there then.
@@ -131,6 +136,7 @@ fn add_to_page(
 fn add_to_part(
     draft: &mut Draft<'_>,
     number: u64,
+    key: &NameKey,
     counts: &Counts,
     name: &Bytes,
     leaf: Leaf,
@@ -138,7 +144,7 @@ fn add_to_part(
     requires alone { MayChange draft.old (Addr.Inode number) }
     requires lives { PartsLive draft.old number (bucket_of name.now) (width_in counts.now (bucket_of name.now)) }
     ensures { MatchResult result
-        (λ wider. PartsGain draft.old draft.new number counts.now wider (entry name.now leaf))
+        (λ wider. PartsGain key.now draft.old draft.new number counts.now wider (entry name.now leaf))
         (StopsAt draft.old (lacked_of draft.old
         (Addr.Part number (bucket_of name.now) (width_in counts.now (bucket_of name.now)) ∷ []))) }
 {
@@ -147,11 +153,11 @@ fn add_to_part(
     let before = counts.width(bucket);
     let after = counts.width_with_one_more(bucket);
     if before > 0 && before != after {
-        divide(draft, number, bucket, before)?;
+        divide(draft, number, key, bucket, before)?;
     }
     let place = NamePlace {
         bucket,
-        part: part_among(after, name.as_slice()),
+        part: part_among(key, after, name.as_slice()),
     };
     let entries = with_name(alloc, draft.part(number, place)?, name, leaf)?;
     draft.put_part(number, place, entries)?;
@@ -176,12 +182,18 @@ fn with_name(
 }
 
 /// Divides a part of a bucket of so many parts, which has one part more then: the names that belong there go to it.
-fn divide(draft: &mut Draft<'_>, number: u64, bucket: u8, width: u32) -> Result<(), Halt>
+fn divide(
+    draft: &mut Draft<'_>,
+    number: u64,
+    key: &NameKey,
+    bucket: u8,
+    width: u32,
+) -> Result<(), Halt>
     requires alone { MayChange draft.old (Addr.Inode number) }
     requires some { 0 < width }
     requires small { width ≤ 2 ^ 29 }
     requires lives { PartsLive draft.old number bucket width }
-    ensures { MatchResult result (λ _. Divides draft.old draft.new number bucket width)
+    ensures { MatchResult result (λ _. Divides key.now draft.old draft.new number bucket width)
         (StopsAt draft.old (lacked_of draft.old (Addr.Part number bucket width ∷ []))) }
 {
     let source = NamePlace {
@@ -197,8 +209,8 @@ fn divide(draft: &mut Draft<'_>, number: u64, bucket: u8, width: u32) -> Result<
     let Some(old) = draft.part(number, source)? else {
         return Ok(());
     };
-    let stays = old.in_part(width + 1, source.part)?;
-    let moves = old.in_part(width + 1, added.part)?;
+    let stays = old.in_part(key, width + 1, source.part)?;
+    let moves = old.in_part(key, width + 1, added.part)?;
     draft.put_part(number, source, stays)?;
     Ok(draft.put_part(number, added, moves)?)
 }

@@ -9,10 +9,11 @@ ghost use Rattle.nfs_inodes.specs.Makes.{first_parent};
 
 use crate::making::NewContent;
 use bytes::Bytes;
+use nfs_machine::NameKey;
 use nfs_objects::{Bits, Content, FileMap};
 use std::alloc::{AllocError, Global};
 
-/// The content of a new object in a directory with this number.
+/// The content of a new object in a directory with this number. The names of a directory are placed by this key.
 ///
 /// # Errors
 ///
@@ -21,16 +22,17 @@ pub(crate) fn new_content(
     alloc: Global,
     content: &NewContent<'_>,
     parent: u64,
+    key: NameKey,
 ) -> Result<Content, AllocError>
     ensures content { IfOk result (λ made. content_of made ≡ content_asked content.now) }
     ensures parent { IfOk result (λ made. parent_in made ≡ first_parent parent (content_asked content.now)) }
-    ensures bare { IfOk result (λ made. IfSome (entry_map_in made) (λ map. map ≡ no_entries)) }
+    ensures bare { IfOk result (λ made. IfSome (entry_map_in made) (λ map. map ≡ no_entries key)) }
     ensures blank { IfOk result (λ made. IfSome (map_in made) (λ map. map.pages ≡ no_bits)) }
 {
     Ok(match content {
         NewContent::Regular(size) => Content::Regular(FileMap::new(*size, Bits::none())?),
         NewContent::Directory => {
-            Content::Directory(nfs_objects::Directory::empty(alloc, parent)?)
+            Content::Directory(nfs_objects::Directory::empty(alloc, parent, key)?)
         }
         NewContent::Link(text) => Content::Link(Bytes::copy_from_slice(alloc, text)?),
         NewContent::BlockDevice(device) => Content::BlockDevice(*device),

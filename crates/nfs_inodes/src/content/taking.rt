@@ -126,7 +126,11 @@ pub(crate) fn without_entry(
     asking.ask()?;
     let pages = take_from_page(draft, number, map, leaf, name)?;
     let counts = take_from_part(draft, number, map, place, name)?;
-    Ok(EntryMap { pages, counts })
+    Ok(EntryMap {
+        key: map.key,
+        pages,
+        counts,
+    })
 }
 
 /// Takes a name that leads to this out of its page. The pages that are there then.
@@ -174,7 +178,7 @@ fn take_from_part(
     requires lives { DirectoryLives draft.old number map.now }
     requires place { IsPlace map.now name.now (Some place) }
     ensures { MatchResult result
-        (λ narrower. PartsLose draft.old draft.new number map.now.counts narrower name.now)
+        (λ narrower. PartsLose map.now.key draft.old draft.new number map.now.counts narrower name.now)
         (StopsAt draft.old []) }
 {
     let alloc = draft.alloc();

@@ -10,7 +10,7 @@ use Rattle.nfs_inodes.proofs.UsageChangeLemmas.{stands-first}
 use Rattle.nfs_inodes.proofs.EntryAsksLemmas.{grown-stops, made-asking}
 use Rattle.nfs_inodes.proofs.ReaderHaltLemmas.{makes-stops}
 use Rattle.nfs_inodes.proofs.PutObjectLemmas.{counting-stops, exports-stay, first-free, knows-kept, knows-on, made-turns}
-use Rattle.nfs_inodes.proofs.PutObjectLemmas.{blank-pages, making-stops, may-give, stays-vacant}
+use Rattle.nfs_inodes.proofs.PutObjectLemmas.{bare-keyed, blank-pages, making-stops, may-give, stays-vacant}
 use Rattle.nfs_inodes.specs.Entered.{grown_at}
 use Rattle.nfs_inodes.proofs.makers.make_reserved.Goals as goal
 
@@ -86,7 +86,8 @@ returns-clause-turns c = (
       (record { number = c.args.number; generation = c.args.generation }) c.args.directory.now.known.number _
       c.requires.none c.requires.first c.requires.shown c.in_ok-add_entry.ensures.others c.in_ok-recount.ensures.keeps
       (c.in_ok-recount.ensures.turns.view ∙ c.in_ok-add_entry.ensures.turns.view))
-      (blank-pages c.in_ok-object.object.content c.in_ok-object.ensures.blank) c.in_ok-object.ensures.bare
+      (blank-pages c.in_ok-object.object.content c.in_ok-object.ensures.blank)
+      (bare-keyed c.in_ok-object.object.content _ c.in_ok-object.ensures.bare)
       (rw c.ctx.ensures at c.in_ok-object.ensures.living) c.in_ok-object.ensures.links c.in_ok-object.ensures.parent
       c.in_ok-put.ensures.fits refl
       (c.of_one-usage.ensures ∙ ap (λ s. one_using ((s + 4095) / block * block)) c.size.ensures.value

@@ -55,11 +55,11 @@ returns c =
     let before : c.width-before.result ≡ width_in counts b = c.width-before.ensures.which in
     let after : c.width_with_one_more-after.result ≡ width_of (counted_up (count_in counts b)) =
     c.width_with_one_more-after.ensures.which in
-    let divides : MayDivide d mid n b (width_in counts b) (width_of (counted_up (count_in counts b))) =
+    let divides : MayDivide c.args.key.now d mid n b (width_in counts b) (width_of (counted_up (count_in counts b))) =
     elim c.if-before-gt0.branch [
       | then-before-gt0+then-before-after+in_ok-divide w ↦ inl (
-        subst (λ width. Divides d mid n b width) before
-            (subst (λ x. Divides d x n b c.width-before.result) (sym w.draft-is) w.in_ok-divide.ensures),
+        subst (λ width. Divides c.args.key.now d mid n b width) before
+            (subst (λ x. Divides c.args.key.now d x n b c.width-before.result) (sym w.draft-is) w.in_ok-divide.ensures),
         λ same. w.if-before-after.true (before ∙ same ∙ sym after),
       )
       | else-before-gt0 w ↦ elim w.else-before-gt0.branch [
@@ -68,14 +68,15 @@ returns c =
         | else-before-gt0-via-else-before-gt0 v ↦ inr (w.draft-is, inl (omega (arith, v.if-before-gt0.false, before)))
       ]
     ] in
-    part-comes d mid c.put_part.new.self n counts wider e c.part_among.result was c.in_ok-entries.entries
-    (subst (λ q. Comes d mid c.put_part.new.self n counts wider e c.part_among.result was c.in_ok-entries.entries q) bucket
+    part-comes c.args.key.now d mid c.put_part.new.self n counts wider e c.part_among.result was c.in_ok-entries.entries
+    (subst (λ q. Comes c.args.key.now d mid c.put_part.new.self n counts wider e c.part_among.result was
+    c.in_ok-entries.entries q) bucket
     (record {
       counted = c.in_ok-with_one_more.ensures;
       small = omega (arith, before, c.width-before.ensures.small);
       divides = divides;
-      place = c.part_among.ensures.which ∙ ap (λ w. part_among w c.as_slice-2.result.now) after
-          ∙ ap (part_among (width_of (counted_up (count_in counts b)))) c.as_slice-2.ensures;
+      place = c.part_among.ensures.which ∙ ap (λ w. part_among c.args.key.now w c.as_slice-2.result.now) after
+          ∙ ap (part_among c.args.key.now (width_of (counted_up (count_in counts b)))) c.as_slice-2.ensures;
       within = (let less = c.part_among.ensures.within (omega (arith, after, width-some (count_in counts b))) in
           omega (arith, less, after));
       tells = c.in_ok-part.ensures;

@@ -29,7 +29,8 @@ returns-in_err-old c =
 
 pub returns-in_default : goal.returns-in_default
 returns-in_default c =
-    none-divides c.args.draft.now c.args.number c.args.bucket c.args.width c.requires.some c.requires.small
+    none-divides c.args.key.now c.args.draft.now c.args.number c.args.bucket c.args.width c.requires.some
+    c.requires.small
     (subst (λ s. option_map part_of (known_at c.args.draft.now (addresses.Part c.args.number c.args.bucket s)) ≡ Some _)
     c.source_of.ensures.which (c.in_ok-old.ensures ∙ ap (λ o. Some (option_copied o)) c.in_default.is))
 
@@ -47,14 +48,16 @@ returns c =
     let b = c.args.bucket in
     let whole = c.in-Some.old.now in
     let which : c.source_of.result ≡ source_of c.args.width = c.source_of.ensures.which in
-    part-divides d c.put_part.new.self c.put_part-2.new.self n b c.args.width (c.args.width + 1) whole c.requires.some
+    part-divides c.args.key.now d c.put_part.new.self c.put_part-2.new.self n b c.args.width (c.args.width + 1) whole
+    c.requires.some
     c.requires.small (omega arith)
     (subst (λ s. option_map part_of (known_at d (addresses.Part n b s)) ≡ Some (Some whole)) which
     (c.in_ok-old.ensures ∙ ap (λ o. Some (option_copied o)) c.in-Some.is))
     (c.in_ok-put_part.ensures.ok
     ∙ ap (λ o. with_written d (addresses.Part n b c.source_of.result) (Some (objects.Part o))) c.in_ok-stays.ensures
     ∙ ap (λ s. with_written d (addresses.Part n b s)
-    (Some (objects.Part (filter (λ (e : Entry). part_among (c.args.width + 1) e.name == s) whole)))) which)
+    (Some (objects.Part (filter (λ (e : Entry). part_among c.args.key.now (c.args.width + 1) e.name == s) whole))))
+    which)
     (c.in_ok-put_part-2.ensures.ok
     ∙ ap (λ o. with_written c.put_part.new.self (addresses.Part n b c.args.width) (Some (objects.Part o)))
     c.in_ok-moves.ensures)

@@ -62,7 +62,7 @@ returns-clause-lists c =
     let new = c.add_to_part.new.draft in
     let pages = c.in_ok-pages.pages in
     let counts = c.in_ok-counts.counts in
-    subst (λ (x : List _). Relists c.args.number d new m (record { pages = pages; counts = counts })
+    subst (λ (x : List _). Relists c.args.number d new m (record { key = m.key; pages = pages; counts = counts })
     (λ (es : List Entry). es ++ entry x c.args.leaf ∷ []) (λ es. entry_of es x ≡ None)) c.in_ok-name.ensures
     (entered d c.add_to_page.new.draft new c.args.number m pages counts (entry c.in_ok-name.name c.args.leaf)
     c.in_ok-pages.ensures c.in_ok-counts.ensures)

@@ -27,7 +27,7 @@ returns-in_default c =
     let place = c.args.place in
     let before = c.args.map.now.counts in
     let after = c.in_ok-narrower.narrower in
-    absent-part d n before after c.args.name.now place.part c.requires.place.1 c.requires.place.2
+    absent-part c.args.map.now.key d n before after c.args.name.now place.part c.requires.place.1 c.requires.place.2
     (subst (λ b. after ≡ with_count before b (counted_down (count_in before b))) c.requires.place.0
     c.in_ok-narrower.ensures)
     (subst (λ b. option_map part_of (known_at d (addresses.Part n b place.part)) ≡ Some None) c.requires.place.0
@@ -40,7 +40,7 @@ returns-then-after-eq0 c =
     let place = c.args.place in
     let before = c.args.map.now.counts in
     let after = c.in_ok-narrower.narrower in
-    whole-lost d n before after c.args.name.now place.part c.requires.place.1 c.requires.place.2
+    whole-lost c.args.map.now.key d n before after c.args.name.now place.part c.requires.place.1 c.requires.place.2
     (subst (λ b. after ≡ with_count before b (counted_down (count_in before b))) c.requires.place.0
     c.in_ok-narrower.ensures)
     c.free_at.new.self
@@ -90,11 +90,13 @@ returns c =
     c.width-after.ensures.which ∙ ap (width_in after) c.requires.place.0 in
     elim c.if-before-after.branch [
       | then-before-after+in_ok-join w ↦
-          rw w.draft-is (joined-lost d n before after name place.part c.requires.place.1 c.requires.place.2 counts old rest
+          rw w.draft-is (joined-lost c.args.map.now.key d n before after name place.part c.requires.place.1
+          c.requires.place.2 counts old rest
           known c.in_ok-rest.ensures mid put w.join.new.draft (λ same. w.if-before-after.true (was ∙ same ∙ sym is))
           (subst (λ b. Joins mid w.join.new.draft n b (width_in after (bucket_of name))) c.requires.place.0
           (subst (λ x. Joins mid w.join.new.draft n place.bucket x) is w.in_ok-join.ensures)))
       | else-before-after w ↦
-          rw w.draft-is (rest-lost d n before after name place.part c.requires.place.1 c.requires.place.2 counts old rest
+          rw w.draft-is (rest-lost c.args.map.now.key d n before after name place.part c.requires.place.1
+          c.requires.place.2 counts old rest
           known c.in_ok-rest.ensures mid put (sym was ∙ w.if-before-after.false ∙ is))
     ]
