@@ -63,13 +63,13 @@ writes-more [] more s = refl
 writes-more (w ∷ ws) more s = writes-more ws more (with_write s w.0 w.1)
 
 -- ---- the store with the roots of so many exports
-module _ (base : Store) (time : Time) where
+module _ (base : Store) (time : Time) (key : List ℕ) where
   abbrev roots : ℕ → Store
-  roots n = with_writes base (root_writes n time)
+  roots n = with_writes base (root_writes n time key)
 
-  one_more : (n : ℕ) → roots (suc n) ≡ with_writes (roots n) (root_writes_of (suc n) time)
+  one_more : (n : ℕ) → roots (suc n) ≡ with_writes (roots n) (root_writes_of (suc n) time key)
   unfolding root_writes
-  one_more n = writes-more (root_writes n time) (root_writes_of (suc n) time) base
+  one_more n = writes-more (root_writes n time key) (root_writes_of (suc n) time key) base
 
   none_yet : roots 0 ≡ base
   unfolding root_writes
@@ -105,7 +105,7 @@ module _ (base : Store) (time : Time) where
       ap (λ (s : Store). s.at (Part k bucket part)) (one_more n) ∙ parts_at n k bucket part
 
   inode_more : (n k : ℕ) → (roots (suc n)).at (Inode k)
-      ≡ cond (suc n == k) (Some (objects.Inode (root_of (suc n) time))) ((roots n).at (Inode k))
+      ≡ cond (suc n == k) (Some (objects.Inode (root_of (suc n) time key))) ((roots n).at (Inode k))
   inode_more n k = ap (λ (s : Store). s.at (Inode k)) (one_more n)
 
   last_more : (n k : ℕ) → (roots (suc n)).last k ≡ cond (suc n == k) (max ((roots n).last k) 1) ((roots n).last k)
@@ -135,13 +135,13 @@ module _ (base : Store) (time : Time) where
         let other = apart n k out in
         let before = nothing_at n k (fewer n k out) in (
           inode_more n k
-              ∙ ap (λ b. cond b (Some (objects.Inode (root_of (suc n) time))) ((roots n).at (Inode k))) other
+              ∙ ap (λ b. cond b (Some (objects.Inode (root_of (suc n) time key))) ((roots n).at (Inode k))) other
               ∙ before.0,
           last_more n k ∙ ap (λ b. cond b (max ((roots n).last k) 1) ((roots n).last k)) other ∙ before.1,
         )
 
     root_at : (n k : ℕ) → 1 ≤ k → k ≤ n →
-        ((roots n).at (Inode k) ≡ Some (objects.Inode (root_of k time))) × ((roots n).last k ≡ 1)
+        ((roots n).at (Inode k) ≡ Some (objects.Inode (root_of k time key))) × ((roots n).last k ≡ 1)
     root_at zero k low high = absurd (omega (arith, low, high))
     root_at (suc n) k low high =
         elim (le_or k n) [
@@ -149,7 +149,7 @@ module _ (base : Store) (time : Time) where
               let other : (suc n == k) ≡ false = grind (arith, nat_tests) in
               let before = root_at n k low h in (
                 inode_more n k
-                    ∙ ap (λ b. cond b (Some (objects.Inode (root_of (suc n) time))) ((roots n).at (Inode k))) other
+                    ∙ ap (λ b. cond b (Some (objects.Inode (root_of (suc n) time key))) ((roots n).at (Inode k))) other
                     ∙ before.0,
                 last_more n k ∙ ap (λ b. cond b (max ((roots n).last k) 1) ((roots n).last k)) other ∙ before.1,
               )
@@ -158,8 +158,8 @@ module _ (base : Store) (time : Time) where
               let here = (unsigned_Decides (suc n) k).1 same in
               let before = nothing_at n k (inr h) in (
                 inode_more n k
-                    ∙ ap (λ b. cond b (Some (objects.Inode (root_of (suc n) time))) ((roots n).at (Inode k))) here
-                    ∙ ap (λ j. Some (objects.Inode (root_of j time))) same,
+                    ∙ ap (λ b. cond b (Some (objects.Inode (root_of (suc n) time key))) ((roots n).at (Inode k))) here
+                    ∙ ap (λ j. Some (objects.Inode (root_of j time key))) same,
                 last_more n k ∙ ap (λ b. cond b (max ((roots n).last k) 1) ((roots n).last k)) here
                     ∙ ap (λ x. max x 1) before.1,
               )
@@ -276,7 +276,7 @@ module _ (time : Time) where
               ∙ ap (λ (u : Usage). u.objects) was)
         ] refl used count
 
-module _ (es : List ExportValue) (moment : Moment) where
+module _ (es : List ExportValue) (moment : Moment) (key : List ℕ) where
   abbrev time : Time
   time = time_of moment
 
@@ -286,15 +286,15 @@ module _ (es : List ExportValue) (moment : Moment) where
       (Some (objects.Exports (record { exports = opening_exports es; last = length es })))
 
   abbrev store : Store
-  store = roots base time (length es)
+  store = roots base time key (length es)
 
   nothing : (n k : ℕ) → (k < 1) ⊎ (n < k) →
-      ((roots base time n).at (Inode k) ≡ None) × ((roots base time n).last k ≡ 0)
-  nothing = nothing_at base time (λ k. refl) (λ k. refl)
+      ((roots base time key n).at (Inode k) ≡ None) × ((roots base time key n).last k ≡ 0)
+  nothing = nothing_at base time key (λ k. refl) (λ k. refl)
 
   found : (k : ℕ) → 1 ≤ k → k ≤ length es →
-      (store.at (Inode k) ≡ Some (objects.Inode (root_of k time))) × (store.last k ≡ 1)
-  found = root_at base time (λ k. refl) (λ k. refl) (length es)
+      (store.at (Inode k) ≡ Some (objects.Inode (root_of k time key))) × (store.last k ≡ 1)
+  found = root_at base time key (λ k. refl) (λ k. refl) (length es)
 
   -- whether an export has the number
   within_or : (k : ℕ) → ((1 ≤ k) × (k ≤ length es)) ⊎ ((k < 1) ⊎ (length es < k))
@@ -370,13 +370,13 @@ module _ (es : List ExportValue) (moment : Moment) where
 
   -- what stands at a number is the root of its export
   only : (n : ℕ) (i : Stored) → store.at (Inode n) ≡ Some (objects.Inode i) →
-      (1 ≤ n) × (n ≤ length es) × (root_of n time ≡ i)
+      (1 ≤ n) × (n ≤ length es) × (root_of n time key ≡ i)
   only n i is =
       elim (within_or n) [
         | inl h ↦
-            let some : Some (objects.Inode (root_of n time)) ≡ Some (objects.Inode i) =
+            let some : Some (objects.Inode (root_of n time key)) ≡ Some (objects.Inode i) =
             sym (found n h.0 h.1).0 ∙ is in
-            (h.0, h.1, (let same : root_of n time ≡ i = cc in same))
+            (h.0, h.1, (let same : root_of n time key ≡ i = cc in same))
         | inr out ↦
             let none : None ≡ Some (objects.Inode i) = sym (nothing (length es) n out).0 ∙ is in absurd cc
       ]
@@ -413,10 +413,10 @@ module _ (es : List ExportValue) (moment : Moment) where
     blocks = λ n. record {
       maps = λ page. subst (λ b. IsMapped b (store.at (Map n page)))
           (sym (ap (λ (f : Option FileMapValue). has (elim f [ None ↦ no_bits | Some map ↦ map.pages ]) page) (no_file n)
-          ∙ has-none page)) (maps_at base time (length es) n page);
+          ∙ has-none page)) (maps_at base time key (length es) n page);
       blocks = λ i. subst (λ b. IsStored b (store.at (Block n i)))
-          (sym (ap (λ (o : Option Object). has (map_of o) (i % 512)) (maps_at base time (length es) n (i / 512))
-          ∙ has-none (i % 512))) (blocks_at base time (length es) n i);
+          (sym (ap (λ (o : Option Object). has (map_of o) (i % 512)) (maps_at base time key (length es) n (i / 512))
+          ∙ has-none (i % 512))) (blocks_at base time key (length es) n i);
     };
     bytes = λ n i map there is. absurd (none_there n i map there is);
   }
@@ -435,15 +435,15 @@ module _ (es : List ExportValue) (moment : Moment) where
     where
       nothing_there : HoldsEntries store n None []
       nothing_there = (
-        λ page. pages_at base time (length es) n page,
-        λ bucket part. parts_at base time (length es) n bucket part,
+        λ page. pages_at base time key (length es) n page,
+        λ bucket part. parts_at base time key (length es) n bucket part,
       )
 
       holds : HoldsEntries store n (entry_map_of (store.at (Inode n))) []
       holds =
           elim (within_or n) [
             | inl h ↦ subst (λ (o : Option Object). HoldsEntries store n (entry_map_of o) []) (sym (found n h.0 h.1).0)
-                (no-entries store n nothing_there)
+                (no-entries store n key nothing_there)
             | inr out ↦ subst (λ (o : Option Object). HoldsEntries store n (entry_map_of o) [])
                 (sym (nothing (length es) n out).0) nothing_there
           ]
@@ -477,17 +477,18 @@ module _ (es : List ExportValue) (moment : Moment) where
   abbrev last_of : Option Object → ℕ
   last_of o = (export_table_of o).last
 
-  pub opening_stands : AreFaultless es → StandsFor (with_writes no_store (opening_writes es time)) (opening es moment)
+  pub opening_stands : AreFaultless es → StandsFor (with_writes no_store (opening_writes es time key))
+      (opening es moment)
   opening_stands faultless = record {
     links = kept.links;
     parents = kept.parents;
     usage = kept.usage;
     represents = record {
       tables = record {
-        table = subst (λ (o : Option Object). IsSome o) (sym (exports_at base time (length es))) refl;
-        exports = sym (ap export_list_of (exports_at base time (length es)));
-        last_export = sym (ap last_of (exports_at base time (length es)));
-        mounts = sym (ap mounts_of (mounts_at base time (length es)));
+        table = subst (λ (o : Option Object). IsSome o) (sym (exports_at base time key (length es))) refl;
+        exports = sym (ap export_list_of (exports_at base time key (length es)));
+        last_export = sym (ap last_of (exports_at base time key (length es)));
+        mounts = sym (ap mounts_of (mounts_at base time key (length es)));
       };
       objects = record {
         objects = λ n. lives (bytes_at (opening es moment) n) n
@@ -503,28 +504,30 @@ module _ (es : List ExportValue) (moment : Moment) where
       };
       files = files;
       directories = directories;
-      usages = record { usage = λ e g live. usages_at base time (λ e g. refl) (length es) e g };
-      locks = none-locked store (opening es moment) (locks_at base time (length es)) refl refl refl refl (λ n. refl);
+      usages = record { usage = λ e g live. usages_at base time key (λ e g. refl) (length es) e g };
+      locks = none-locked store (opening es moment) (locks_at base time key (length es)) refl refl refl refl
+          (λ n. refl);
     };
     sound = record { links = links; parents = parents; usage = usage };
     formed = opening_formed es moment faultless;
     within = opening-within es moment faultless;
   }
 
-  pub opening_lasts : (n : ℕ) → (with_writes no_store (opening_writes es time)).last n ≤ 1
-  opening_lasts = lasts_small base time (λ k. refl) (λ k. refl) (length es)
+  pub opening_lasts : (n : ℕ) → (with_writes no_store (opening_writes es time key)).last n ≤ 1
+  opening_lasts = lasts_small base time key (λ k. refl) (λ k. refl) (length es)
 
 -- ---- the writes, as they are made
-pub first_write : (es : List ExportValue) (at : Time) (before after : List Write) (table : Arc Object Global)
+pub first_write : (es : List ExportValue) (at : Time) (key : List ℕ) (before after : List Write)
+    (table : Arc Object Global)
     (t : ExportTableValue) → before ≡ []
     → after ≡ before ++ record { address = Exports; object = Some table } ∷ []
     → arc_value table ≡ objects.Exports t → t.exports ≡ opening_exports es → t.last ≡ length es
     → map write_value after ≡ (
       Exports,
       Some (objects.Exports (record { exports = opening_exports es; last = length es })),
-    ) ∷ root_writes 0 at
+    ) ∷ root_writes 0 at key
 unfolding root_writes
-first_write es at before after table t none is object exports last =
+first_write es at key before after table t none is object exports last =
     let x : Write = record { address = Exports; object = Some table } in
     let same : t ≡ record { exports = opening_exports es; last = length es } =
     λ i. record { exports = exports i; last = last i } in
@@ -532,16 +535,17 @@ first_write es at before after table t none is object exports last =
     ∙ ap (λ (o : Object). (Exports, Some o) ∷ [])
     (object ∙ ap (λ (v : ExportTableValue). objects.Exports v) same)
 
-pub more_writes : (time : Time) (first : Addr × Option Object) (before after : List (Addr × Option Object))
-    (index export : ℕ) → before ≡ first ∷ root_writes index time
-    → after ≡ before ++ root_writes_of export time
-    → export ≡ index + 1 → after ≡ first ∷ root_writes (index + 1) time
+pub more_writes : (time : Time) (key : List ℕ) (first : Addr × Option Object)
+    (before after : List (Addr × Option Object))
+    (index export : ℕ) → before ≡ first ∷ root_writes index time key
+    → after ≡ before ++ root_writes_of export time key
+    → export ≡ index + 1 → after ≡ first ∷ root_writes (index + 1) time key
 unfolding root_writes
-more_writes time first before after index export was is number =
+more_writes time key first before after index export was is number =
     let next : index + 1 ≡ suc index = omega arith in
-    is ∙ ap (λ l. l ++ root_writes_of export time) was
-    ∙ ap (λ n. (first ∷ root_writes index time) ++ root_writes_of n time) (number ∙ next)
-    ∙ ap (λ n. first ∷ root_writes n time) (sym next)
+    is ∙ ap (λ l. l ++ root_writes_of export time key) was
+    ∙ ap (λ n. (first ∷ root_writes index time key) ++ root_writes_of n time key) (number ∙ next)
+    ∙ ap (λ n. first ∷ root_writes n time key) (sym next)
 
 -- exports in memory are few
 pub few_exports : {X : Type 0} (value : X → ExportValue) (list : List X) (es : List ExportValue) →
@@ -552,25 +556,26 @@ few_exports value list es is faultless =
 
 -- the objects that the writes make are this store
 pub opened_store : (o made : ObjectsValue) (given items : List Write) (es : List ExportValue) (at : Time)
-    (moment : Moment) → o ≡ made → store_of made.slots ≡ with_writes no_store (map write_value given)
+    (moment : Moment) (key : List ℕ) → o ≡ made → store_of made.slots ≡ with_writes no_store (map write_value given)
     → given ≡ items
-    → map write_value items ≡ opening_writes es at → at ≡ time_of moment
-    → store_of o.slots ≡ with_writes no_store (opening_writes es (time_of moment))
-opened_store o made given items es at moment same is lent writes timed =
+    → map write_value items ≡ opening_writes es at key → at ≡ time_of moment
+    → store_of o.slots ≡ with_writes no_store (opening_writes es (time_of moment) key)
+opened_store o made given items es at moment key same is lent writes timed =
     ap (λ (x : ObjectsValue). store_of x.slots) same ∙ is
     ∙ ap (λ (ws : List Write). with_writes no_store (map write_value ws)) lent
-    ∙ ap (with_writes no_store) writes ∙ ap (λ (t : Time). with_writes no_store (opening_writes es t)) timed
+    ∙ ap (with_writes no_store) writes ∙ ap (λ (t : Time). with_writes no_store (opening_writes es t key)) timed
 
 -- ---- the book that it opens with
-module _ (es : List ExportValue) (moment : Moment) where
-  pub opened_leads : (b : BookValue) → store_in b ≡ with_writes no_store (opening_writes es (time_of moment))
+module _ (es : List ExportValue) (moment : Moment) (key : List ℕ) where
+  pub opened_leads : (b : BookValue) → store_in b ≡ with_writes no_store (opening_writes es (time_of moment) key)
       → b.records ≡ [] → AreFaultless es → LeadsFrom (opening es moment) b
   opened_leads b store none faultless = record {
     state = opening es moment;
     run = subst (λ (rs : List Record). Run b.setting (opening es moment) rs (opening es moment)) (sym none) refl;
-    stands = subst (λ (s : Store). StandsFor s (opening es moment)) (sym store) (opening_stands es moment faultless);
+    stands = subst (λ (s : Store). StandsFor s (opening es moment)) (sym store)
+        (opening_stands es moment key faultless);
   }
 
-  pub opened_lasts : (s : Store) → s ≡ with_writes no_store (opening_writes es (time_of moment)) → (n : ℕ) →
+  pub opened_lasts : (s : Store) → s ≡ with_writes no_store (opening_writes es (time_of moment) key) → (n : ℕ) →
       s.last n ≤ 1
-  opened_lasts s store n = subst (λ (x : Store). x.last n ≤ 1) (sym store) (opening_lasts es moment n)
+  opened_lasts s store n = subst (λ (x : Store). x.last n ≤ 1) (sym store) (opening_lasts es moment key n)

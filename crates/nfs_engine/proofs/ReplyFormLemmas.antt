@@ -120,7 +120,7 @@ asked-within bytes asked is = within-asked ctx asked.call (spelled_calls_fit set
     (omega arith) (record { header = is.header; read = is.read; is_call = is.is_call; made_under = refl }))
   where
     setting : Setting
-    setting = record { start = 0; limits = record { total_bytes = 0 } }
+    setting = record { start = 0; limits = record { total_bytes = 0; name_key = [] } }
 
     received : Received
     received = record { host = 49 ∷ []; bytes = bytes; moment = record { seconds = 0; nanoseconds = 0; in_range = omega arith } }

@@ -22,13 +22,14 @@ use Rattle.nfs_engine.specs.declared.opening.Config.{Config}
 use Rattle.nfs_engine.specs.declared.opening.StartError.{StartError}
 use Rattle.nfs_engine.specs.declared.opening.StartError.TheVariants.{Memory, Capacity, EraLimit}
 
--- its own parent, mode 0777; "." and ".." have the cookies 1 and 2, and are its two links
-abbrev pub root_of : ℕ → Time → Inode
-root_of number time =
+-- its own parent, mode 0777; "." and ".." have the cookies 1 and 2, and are its two links; names are placed under this
+-- key
+abbrev pub root_of : ℕ → Time → (key : List ℕ) → Inode
+root_of number time key =
     record {
       export = number;
       generation = 1;
-      content = contents.Directory (bare_directory number);
+      content = contents.Directory (bare_directory number key);
       mode = octal 7 7 7;
       uid = 0;
       gid = 0;
@@ -40,23 +41,23 @@ root_of number time =
     }
 
 -- the root of an export, which is one object of one block
-abbrev pub root_writes_of : (export : ℕ) → Time → List (Addr × Option Object)
-root_writes_of export time =
-    (addresses.Inode export, Some (objects.Inode (root_of export time))) ∷
+abbrev pub root_writes_of : (export : ℕ) → Time → (key : List ℕ) → List (Addr × Option Object)
+root_writes_of export time key =
+    (addresses.Inode export, Some (objects.Inode (root_of export time key))) ∷
     (addresses.Usage export (group_of export), Some (objects.Usage (one_using block))) ∷ []
 
 -- the roots of so many exports
-unfoldable pub root_writes : ℕ → Time → List (Addr × Option Object)
-root_writes zero time = []
-root_writes (suc n) time = root_writes n time ++ root_writes_of (suc n) time
+unfoldable pub root_writes : ℕ → Time → (key : List ℕ) → List (Addr × Option Object)
+root_writes zero time key = []
+root_writes (suc n) time key = root_writes n time key ++ root_writes_of (suc n) time key
 
 -- the exports, and their roots
-abbrev pub opening_writes : List ExportValue → Time → List (Addr × Option Object)
-opening_writes exports time = (
+abbrev pub opening_writes : List ExportValue → Time → (key : List ℕ) → List (Addr × Option Object)
+opening_writes exports time key = (
   addresses.Exports,
   Some (objects.Exports (record { exports = opening_exports exports; last = length exports })),
 ) ∷
-    root_writes (length exports) time
+    root_writes (length exports) time key
 
 -- nothing stands in it, and no number was ever given
 abbrev pub no_store : Store

@@ -104,7 +104,12 @@ impl Book {
         if !is_limit(config.era_records) {
             return Err(StartError::EraLimit);
         }
-        let writes = opening_writes(alloc, &config.exports, config.moment.time())?;
+        let writes = opening_writes(
+            alloc,
+            &config.exports,
+            config.moment.time(),
+            config.limits.name_key,
+        )?;
         let objects = Objects::opening(alloc, &writes)?;
         let journal = Journal::new(alloc, objects);
         let replies = Replies::new(alloc, capacity);

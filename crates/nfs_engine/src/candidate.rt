@@ -140,7 +140,10 @@ fn beginning(received: &Incoming, asked: &Asked) -> Result<(Option<Origin>, Ctx)
         ids: asked.ids,
         moment: received.moment(),
         start: 0,
-        limits: Limits { total_bytes: 0 },
+        limits: Limits {
+            total_bytes: 0,
+            name_key: [0; 16],
+        },
     };
     Ok((origin_of(received, &asked.call)?, ctx))
 }

@@ -6,7 +6,7 @@ ghost use Rattle.nfs_machine.specs.ExportFaults.{AreFaultless};
 ghost use Rattle.nfs_objects.specs.Values.{write_value};
 ghost use Rattle.nfs_engine.specs.Opening.{IsLimit, opening_writes, root_of, root_writes_of};
 
-use nfs_machine::{Exports, Limits, Moment};
+use nfs_machine::{Exports, Limits, Moment, NameKey};
 use nfs_objects::usage::group_of;
 use nfs_objects::{
     Addr, Content, DIRECTORY_SIZE, Directory, ExportTable, Inode, Object, Usage, Write,
@@ -30,7 +30,7 @@ pub struct Config {
     pub moment: Moment,
     /// How many replies are kept of each host, from 1 to 65,536.
     pub capacity: u64,
-    /// What FSSTAT tells of space.
+    /// What FSSTAT tells of space, and what names of directories are placed by.
     pub limits: Limits,
     /// At how many records an era is full, from 1 to 65,536.
     pub era_records: u64,
@@ -65,13 +65,15 @@ pub(crate) fn is_limit(limit: u64) -> bool
     limit >= 1 && limit <= MOST
 }
 
-/// The writes that make what an engine opens with: its exports, and the root of each, made at this time.
+/// The writes that make what an engine opens with: its exports, and the root of each, made at this time. The names of
+/// the roots are placed by this key.
 pub(crate) fn opening_writes(
     alloc: Global,
     exports: &Exports,
     time: Time,
+    key: NameKey,
 ) -> Result<Vec<Write>, AllocError>
-    ensures writes { IfOk result (λ writes. map write_value writes.items ≡ opening_writes exports.now time) }
+    ensures writes { IfOk result (λ writes. map write_value writes.items ≡ opening_writes exports.now time key) }
     ensures faultless { AreFaultless exports.now }
 {
     let count = exports.list().len();
@@ -83,7 +85,7 @@ pub(crate) fn opening_writes(
         object: Some(table),
     })?;
     for index in 0..count {
-        push_root(alloc, &mut writes, index as u32 + 1, time)?;
+        push_root(alloc, &mut writes, index as u32 + 1, time, key)?;
     }
     Ok(writes)
 }
@@ -94,12 +96,13 @@ fn push_root(
     writes: &mut Vec<Write>,
     export: u32,
     time: Time,
+    key: NameKey,
 ) -> Result<(), AllocError>
     ensures { OnOk result
-        (map write_value writes.new.items ≡ map write_value writes.old.items ++ root_writes_of export time) }
+        (map write_value writes.new.items ≡ map write_value writes.old.items ++ root_writes_of export time key) }
 {
     let number = u64::from(export);
-    let root = Arc::new(alloc, Object::Inode(root(alloc, export, time)?))?;
+    let root = Arc::new(alloc, Object::Inode(root(alloc, export, time, key)?))?;
     let usage = Arc::new(alloc, Object::Usage(Usage::of_one(DIRECTORY_SIZE)))?;
     writes.push(Write {
         address: Addr::Inode(number),
@@ -116,13 +119,13 @@ fn push_root(
 }
 
 /// The root of an export.
-fn root(alloc: Global, export: u32, time: Time) -> Result<Inode, AllocError>
-    ensures { IfOk result (λ inode. inode ≡ root_of export time) }
+fn root(alloc: Global, export: u32, time: Time, key: NameKey) -> Result<Inode, AllocError>
+    ensures { IfOk result (λ inode. inode ≡ root_of export time key) }
 {
     Ok(Inode {
         export,
         generation: 1,
-        content: Content::Directory(Directory::empty(alloc, u64::from(export))?),
+        content: Content::Directory(Directory::empty(alloc, u64::from(export), key)?),
         mode: 0o777,
         uid: 0,
         gid: 0,

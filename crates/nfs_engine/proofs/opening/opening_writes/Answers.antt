@@ -5,12 +5,12 @@ use Rattle.nfs_engine.proofs.opening.opening_writes.Goals as goal
 
 pub loop-index-init : goal.loop-index-init
 loop-index-init c =
-    first_write _ _ _ _ _ _ c.new-writes.ensures.items c.in_ok-push.ensures.items c.in_ok-table-2.ensures.ok
+    first_write _ _ _ _ _ _ _ c.new-writes.ensures.items c.in_ok-push.ensures.items c.in_ok-table-2.ensures.ok
     c.in_ok-table.ensures.exports c.in_ok-table.ensures.last
 
 pub loop-index-preserved : goal.loop-index-preserved
 loop-index-preserved c =
-    more_writes _ _ _ _ _ _ c.loop-index.invariant c.in_ok-push_root.ensures
+    more_writes _ _ _ _ _ _ _ c.loop-index.invariant c.in_ok-push_root.ensures
     (omega (
       arith,
       c.loop-index-test.true,

@@ -12,4 +12,4 @@ invariant-loop-index l =
       addresses.Exports,
       Some (objects.Exports (record { exports = opening_exports l.exports; last = length l.exports })),
     )
-    ∷ root_writes l.index l.time
+    ∷ root_writes l.index l.time l.key

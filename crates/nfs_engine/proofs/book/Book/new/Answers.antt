@@ -12,8 +12,8 @@ invariant_of-book c = record {
   run = begun_run _ _
       (c.new-journal.ensures.base ∙ ap (λ (o : ObjectsValue). o.slots) (sym c.new-journal.ensures.objects))
       c.new-journal.ensures.records.0
-      (opened_leads c.args.config.exports c.args.config.moment _
-      (opened_store _ _ _ _ _ _ c.args.config.moment c.new-journal.ensures.objects c.in_ok-objects.ensures
+      (opened_leads c.args.config.exports c.args.config.moment c.args.config.limits.name_key _
+      (opened_store _ _ _ _ _ _ c.args.config.moment _ c.new-journal.ensures.objects c.in_ok-objects.ensures
       c.deref.ensures.value c.in_ok-writes.ensures.writes c.time.ensures)
       c.new-journal.ensures.records.0 c.opening_writes.ensures.faultless);
   unkept = λ o came. absurd (nowhere came.0 o (subst (λ (v : CallsValue). CameWith v.living came.0 o)
@@ -24,8 +24,8 @@ pub returns-clause-book : goal.returns-clause-book
 returns-clause-book c = record {
   capacity = (omega (arith, c.in-Some.ensures.0.0), omega (arith, c.in-Some.ensures.0.1));
   era_records = c.if-not-is_limit.ensures.0 refl;
-  leads = opened_leads c.args.config.exports c.args.config.moment _
-      (opened_store _ _ _ _ _ _ c.args.config.moment c.new-journal.ensures.objects c.in_ok-objects.ensures
+  leads = opened_leads c.args.config.exports c.args.config.moment c.args.config.limits.name_key _
+      (opened_store _ _ _ _ _ _ c.args.config.moment _ c.new-journal.ensures.objects c.in_ok-objects.ensures
       c.deref.ensures.value c.in_ok-writes.ensures.writes c.time.ensures)
       c.new-journal.ensures.records.0 c.opening_writes.ensures.faultless;
   is = λ i. record {
@@ -48,6 +48,7 @@ returns-clause-book c = record {
 
 pub returns-clause-given : goal.returns-clause-given
 returns-clause-given c =
-    opened_lasts c.args.config.exports c.args.config.moment (store_of c.new-journal.result.objects.slots)
-    (opened_store _ _ _ _ _ _ c.args.config.moment c.new-journal.ensures.objects c.in_ok-objects.ensures
+    opened_lasts c.args.config.exports c.args.config.moment c.args.config.limits.name_key
+    (store_of c.new-journal.result.objects.slots)
+    (opened_store _ _ _ _ _ _ c.args.config.moment _ c.new-journal.ensures.objects c.in_ok-objects.ensures
     c.deref.ensures.value c.in_ok-writes.ensures.writes c.time.ensures)
