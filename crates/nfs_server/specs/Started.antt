@@ -16,7 +16,10 @@ use Rattle.nfs_server.specs.declared.options.Options.{Options}
 -- what the options say, with this start number where they name none
 abbrev pub setting_of : Options → ℕ → Setting
 setting_of options otherwise =
-    record { start = unwrap_or options.start otherwise; limits = record { total_bytes = options.bytes } }
+    record {
+      start = unwrap_or options.start otherwise;
+      limits = record { total_bytes = options.bytes; name_key = options.name_key };
+    }
 
 -- the opening state of these exports, in which no reply is kept
 abbrev pub opening_standing : List ExportValue → (capacity : ℕ) → Moment → Standing

@@ -454,6 +454,7 @@ fn read_options(
         clock: matches.get_one("clock"),
         host,
         bytes: matches.get_one("bytes").unwrap_or(DEFAULT_BYTES),
+        name_key: [0; 16],
         era_records: limits.era_records,
         capacity: limits.capacity,
         callbacks,

@@ -31,6 +31,9 @@ pub enum Exit {
     /// There was no memory to begin to serve, or to take in a record or to answer it.
     #[error("nfsd: out of memory")]
     Memory,
+    /// The system gave no random bytes to place names by.
+    #[error("nfsd: no random bytes")]
+    NoRandomBytes,
     /// Standard input or output failed, or a record was too large.
     #[error("nfsd: standard stream failed")]
     StandardStream,
@@ -67,6 +70,7 @@ impl Exit {
             | Exit::Callback(_)
             | Exit::CannotListen(_)
             | Exit::Memory
+            | Exit::NoRandomBytes
             | Exit::StandardStream
             | Exit::Receipts => 1,
         }

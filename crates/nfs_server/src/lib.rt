@@ -12,6 +12,7 @@ pub mod commands;
 pub mod controlling;
 pub mod exit;
 mod exporting;
+pub mod keys;
 pub mod limits;
 mod marks;
 pub mod network;
@@ -28,6 +29,7 @@ pub use command_line::{arguments, configure};
 pub use commands::{Commands, Taken};
 pub use controlling::{Applied, control};
 pub use exit::Exit;
+pub use keys::name_key;
 pub use limits::{Limit, Limits};
 pub use network::{
     Counters, Event, Nobody, Operator, Sockets, serve_network, serve_operated, serve_sockets,

@@ -138,6 +138,7 @@ pub fn serve_operated<
         clock,
         host,
         bytes,
+        name_key,
         era_records,
         capacity,
         callbacks,
@@ -153,7 +154,10 @@ pub fn serve_operated<
         start: start.unwrap_or(start_number(&rt)),
         moment: first.moment(),
         capacity,
-        limits: Limits { total_bytes: bytes },
+        limits: Limits {
+            total_bytes: bytes,
+            name_key,
+        },
         era_records,
     };
     serve_from(rt, config, network, sockets, clock, callbacks, operator)

@@ -3,7 +3,7 @@
 use crate::callbacks::Callbacks;
 use crate::patience::Patience;
 use nfs_engine::Host;
-use nfs_machine::Exports;
+use nfs_machine::{Exports, NameKey};
 
 /// What the command line asks for.
 #[derive(Drop)]
@@ -18,6 +18,8 @@ pub struct Options {
     pub host: Host,
     /// The total that FSSTAT tells, in bytes.
     pub bytes: u64,
+    /// Names of directories are placed by it. No option of the command line gives it: `serve` takes random bytes.
+    pub name_key: NameKey,
     /// At how many records an era is full, from 1 to 65,536.
     pub era_records: u64,
     /// How many replies are kept of each host, from 1 to 65,536.

@@ -3,21 +3,23 @@
 ghost use Rattle.nfs_server.specs.CommandLine.{AreWithin};
 
 use crate::exit::Exit;
+use crate::keys::name_key;
 use crate::network::{Operator, serve_network};
 use crate::options::{Options, Transport};
 use crate::stdio::serve_stdio;
 use crate::warnings::warn_of_hosts;
 use std::net::{Net, TcpListener, TcpStream};
+use std::random::RandomSource;
 use std::rt::Clock;
 use std::sync::Wait;
 use std::thread::Threads;
 
 /// Serves on what the options name: standard streams to the end of the input, or sockets. A host that an export names
-/// and no peer has is warned of on standard error.
+/// and no peer has is warned of on standard error. Names are placed by random bytes.
 ///
 /// # Errors
 ///
-/// Those of `serve_stdio` and of `serve_network`.
+/// Those of `serve_stdio` and of `serve_network`; and `NoRandomBytes`.
 pub fn serve<
     R: AllocGlobal
         + Clock
@@ -25,6 +27,7 @@ pub fn serve<
         + Print
         + Eprint
         + Operator
+        + RandomSource
         + Net<Listener = TcpListener, Stream = TcpStream>
         + Threads
         + Wait
@@ -36,6 +39,8 @@ pub fn serve<
 >(rt: R, options: Options) -> Result<(), Exit>
     requires { AreWithin options }
 {
+    let mut options = options;
+    options.name_key = name_key(&rt)?;
     warn_of_hosts(&rt, &options);
     if let Transport::Stdio = &options.transport {
         return serve_stdio(&rt, options);

@@ -54,6 +54,7 @@ pub fn serve_options<C: Moments, R: Source, W: Sink>(
         clock: _,
         host,
         bytes,
+        name_key,
         era_records,
         capacity,
         callbacks,
@@ -61,7 +62,10 @@ pub fn serve_options<C: Moments, R: Source, W: Sink>(
     } = options;
     drop(callbacks);
     drop(transport);
-    let limits = Limits { total_bytes: bytes };
+    let limits = Limits {
+        total_bytes: bytes,
+        name_key,
+    };
     let moment = clock.moment();
     let config = Config {
         exports,

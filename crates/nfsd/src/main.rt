@@ -6,6 +6,7 @@
 use nfs_server::{Exit, Operator, arguments, configure, serve};
 use std::net::{Net, TcpListener, TcpStream};
 use std::process::ExitCode;
+use std::random::RandomSource;
 use std::rt::{Clock, Env};
 use std::sync::Wait;
 use std::thread::Threads;
@@ -29,6 +30,7 @@ fn run<
         + Print
         + Eprint
         + Operator
+        + RandomSource
         + Net<Listener = TcpListener, Stream = TcpStream>
         + Threads
         + Wait
