@@ -17,13 +17,14 @@ mod locks;
 mod machine;
 mod makers;
 mod mounts;
+mod names;
 mod objects;
 mod times;
 mod views;
 
 use bytes::Bytes;
 use nfs_inodes::Known;
-use nfs_machine::{Ctx, ExportText, Exports, Limits, Moment};
+use nfs_machine::{Ctx, ExportText, Exports, Limits, Moment, NameKey};
 use nfs_objects::{
     Addr, Bits, CHANGING, Content, Counts, Directory, Entries, EntryMap, ExportTable, FileMap,
     Halt, Inode, Leaf, MOUNTING, Mode, Object, PageList, READING, Reserved, Usage, View,
@@ -57,6 +58,9 @@ const NOTHING: SetAttributes = SetAttributes {
     accessed: SetTime::Leave,
     modified: SetTime::Leave,
 };
+
+/// Names are placed by it.
+const KEY: NameKey = [7; 16];
 
 /// 1,000,000,000 nanoseconds.
 const NO_TIME: Time = Time {
@@ -104,7 +108,7 @@ fn hello(links: u32) -> Result<Inode, AllocError> {
 
 /// A directory below directory 1 with no name.
 fn bare(alloc: Global) -> Result<Directory, AllocError> {
-    Directory::empty(alloc, 1)
+    Directory::empty(alloc, 1, KEY)
 }
 
 /// The same with `a`, whose cookie is 3.
@@ -114,7 +118,11 @@ fn with_a(alloc: Global, last_cookie: u64) -> Result<Directory, AllocError> {
     Ok(Directory {
         parent: 1,
         last_cookie,
-        entries: EntryMap { pages, counts },
+        entries: EntryMap {
+            key: KEY,
+            pages,
+            counts,
+        },
     })
 }
 
@@ -248,6 +256,7 @@ fn ctx(user: u32) -> Ctx {
         start: 7,
         limits: Limits {
             total_bytes: 1 << 40,
+            name_key: KEY,
         },
     }
 }

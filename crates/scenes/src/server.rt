@@ -59,6 +59,7 @@ impl Server {
             clock,
             host,
             bytes,
+            name_key,
             era_records,
             capacity,
             callbacks,
@@ -75,7 +76,10 @@ impl Server {
                 nanoseconds: 0,
             },
             capacity,
-            limits: Limits { total_bytes: bytes },
+            limits: Limits {
+                total_bytes: bytes,
+                name_key,
+            },
             era_records,
         };
         Ok(Server {

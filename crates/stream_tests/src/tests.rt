@@ -158,6 +158,7 @@ fn opened_with(alloc: Global, era_records: u64) -> Result<Engine, AllocError>
         capacity: 1024,
         limits: Limits {
             total_bytes: 1 << 40,
+            name_key: [7; 16],
         },
         era_records,
     };

@@ -38,6 +38,7 @@ fn started_at_once(alloc: Global, capacity: u64, era_records: u64) -> Result<Eng
         capacity,
         limits: Limits {
             total_bytes: 1 << 40,
+            name_key: [7; 16],
         },
         era_records,
     };

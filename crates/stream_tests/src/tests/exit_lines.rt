@@ -29,6 +29,7 @@ fn is_refused(rt: &(impl Abort + AllocGlobal), fault: ExportError, line: &str) -
 fn each_exit_has_a_status_and_a_line(rt: HostRuntime) -> Result<(), Fail> {
     is_told(&rt, &Exit::NoTransport, 2, "nfsd: no transport")?;
     is_told(&rt, &Exit::Memory, 1, "nfsd: out of memory")?;
+    is_told(&rt, &Exit::NoRandomBytes, 1, "nfsd: no random bytes")?;
     is_told(
         &rt,
         &Exit::StandardStream,

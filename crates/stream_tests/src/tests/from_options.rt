@@ -18,6 +18,7 @@ fn started(
         clock: Some(1000),
         host: host(),
         bytes: 1 << 40,
+        name_key: [7; 16],
         era_records: 65_536,
         capacity: 1024,
         callbacks: Callbacks {

@@ -77,6 +77,7 @@ fn start_at(alloc: Global, now: Duration) -> Result<u64, Fail> {
         clock: Some(1000),
         host: host(),
         bytes: 1 << 40,
+        name_key: [7; 16],
         era_records: 65_536,
         capacity: 1024,
         callbacks: Callbacks {
