@@ -7,7 +7,7 @@ use Rattle.std.proofs.Common.{cond, length, take, option_map, slice_index_or}
 use Rattle.std.proofs.lemmas.Bool.{and_parts, cases_lt, le-ltb, lt-ltb, ltb-false, ltb-true}
 use Rattle.std.proofs.Common.{Result, Ok, Err, get_or, length-append}
 use Rattle.std.specs.Prelude.{MatchResult}
-use Rattle.std.proofs.lemmas.List.{get_or_append_left, get_or_push, take_all}
+use Rattle.std.proofs.lemmas.List.{get_or_append_left, get_or_push, length-take, take_all}
 use Rattle.nfs_objects.specs.Attempt.{StopsCall}
 use Rattle.nfs_objects.specs.declared.change.Halt.{Halt}
 use Rattle.std.specs.Cmp.{unsigned_Decides}
@@ -533,23 +533,26 @@ cut-bytes left bytes = by (left == 0) refl
     by false some = refl
 
 -- a block is there if it has something left
-cut-stands : (left : ℕ) (bytes : List ℕ) (stays : Bool) → (stays ≡ true → 0 < left) → (stays ≡ false → left ≡ 0) →
-    IsStored stays (cut_to left bytes)
-cut-stands left bytes true some none =
-    let more : (left == 0) ≡ false = not-same left 0 (λ e. (let s = some refl in absurd (omega (arith, s, e)))) in
-    (take left bytes, ap (λ b. cond b None (Some (objects.Block (take left bytes)))) more)
-cut-stands left bytes false some none =
+cut-stands : (left : ℕ) (bytes : List ℕ) (stays : Bool) → 0 < length bytes → (stays ≡ true → 0 < left) →
+    (stays ≡ false → left ≡ 0) → IsStored stays (cut_to left bytes)
+cut-stands left bytes true has some none =
+    let more : (left == 0) ≡ false = not-same left 0 (λ e. (let s = some refl in absurd (omega (arith, s, e)))) in (
+      take left bytes,
+      ap (λ b. cond b None (Some (objects.Block (take left bytes)))) more,
+      (let s = some refl in let long = length-take left bytes in omega (arith, s, long, has)),
+    )
+cut-stands left bytes false has some none =
     ap (λ l. cut_to l bytes) (none refl)
 
 left-stands : (left : Bits) (stays : Bool) → stays ≡ not (same_bits left no_bits) → (o : Option Object) →
     o ≡ stored_map left → IsMapped stays o
 left-stands left stays is o at = subst (λ b. IsMapped b o) (sym is)
     (subst (IsMapped (not (same_bits left no_bits))) (sym at)
-    (by (same_bits left no_bits)))
+    (by (same_bits left no_bits) refl))
   where
-    by : (b : Bool) → IsMapped (not b) (cond b None (Some (objects.Map left)))
-    by true = refl
-    by false = (left, refl)
+    by : (b : Bool) → same_bits left no_bits ≡ b → IsMapped (not b) (cond b None (Some (objects.Map left)))
+    by true is = refl
+    by false is = (left, refl, is)
 
 -- so the map tells of just the blocks that are left of the page, and where there is none it stands for none
 map-left : (left : Bits) (o : Option Object) → o ≡ stored_map left → (n : ℕ) → has (map_of o) n ≡ has left n
@@ -762,7 +765,7 @@ module _ (old : DraftValue) (n : ℕ) (pages : Bits) (size : ℕ) (shows : HasPa
                     bytes = inr before;
                     stands = subst (λ b. IsStored b (at-new s (addresses.Block n i)))
                         (sym (cut.tells place ∙ (λ j. on j && lt-ltb (i * block_size) size (inside before) j)))
-                        (some.0, stays);
+                        (some.0, stays, some.2);
                   }
               | inr behind ↦
                   let is = cut.cut s place some.0 fits-mid below on behind (mid-was ∙ some.1) in record {
@@ -771,7 +774,7 @@ module _ (old : DraftValue) (n : ℕ) (pages : Bits) (size : ℕ) (shows : HasPa
                     stands = subst (λ b. IsStored b (at-new s (addresses.Block n i)))
                         (sym (cut.tells place ∙ ap (λ b. b && nat_lt (i * block_size) size) on))
                         (subst (IsStored (nat_lt (i * block_size) size)) (sym is)
-                        (cut-stands (size - i * block_size) some.0 (nat_lt (i * block_size) size)
+                        (cut-stands (size - i * block_size) some.0 (nat_lt (i * block_size) size) some.2
                         (λ e. (let l = ltb-true (i * block_size) size e in omega (arith, l)))
                         (λ e. (let l = ltb-false (i * block_size) size e in omega (arith, l)))));
                   }

@@ -2,14 +2,17 @@
 use Rattle.std.proofs.Common.{◌≡◌, ◌≢◌, ◌+◌, ◌-◌, ◌*◌, ◌/◌, ◌%◌, ◌<◌, ◌≤◌, ◌==◌, ◌&&◌, ◌||◌, ◌⊎◌, ℕ, true, false}
 use Rattle.std.proofs.Common.{Bool, max, min, nat_le, nat_lt}
 use Rattle.std.proofs.Common.{List, [], Option, Some, None, inl, inr, refl, sym, ◌∙◌, ap, subst, arith}
-use Rattle.std.proofs.Common.{IfSome, IsSome, cond, is_some, length, option_map, unwrap_or}
+use Rattle.std.proofs.Common.{IfSome, IsSome, cond, drop, is_some, length, option_map, unwrap_or}
 use Rattle.std.proofs.lemmas.Bool.{cases_lt, le-leb, lt-leb, lt-ltb, le-ltb}
+use Rattle.std.proofs.lemmas.List.{length-drop, length-take}
 use Rattle.std.specs.Cmp.{unsigned_Decides}
 use Rattle.nfs_machine.specs.Data.{written}
 use Rattle.nfs_objects.proofs.BitSetLemmas.{has-none}
+use Rattle.nfs_objects.proofs.FilePartLemmas.{written-length}
 use Rattle.nfs_objects.proofs.OtherObjectsLemmas.{lays-block, lays-both, lays-map, lays-none}
 use Rattle.nfs_objects.proofs.SeenLemmas.{is_addr-refl, known-stands, writes-append, written-append}
 use Rattle.nfs_objects.specs.Bits.{has, no_bits, same_bits}
+use Rattle.nfs_objects.specs.FileMaps.{block_size}
 use Rattle.nfs_objects.specs.Fits.{Fits}
 use Rattle.nfs_objects.specs.Stands.{HasBlocks, IsMapped, IsStored, block_of, map_of, stored_in, stored_map}
 use Rattle.nfs_objects.specs.SameLaws.{bits_decides}
@@ -154,6 +157,16 @@ module _ (old : DraftValue) (n offset : ℕ) (bytes : List ℕ) where
       (λ e. absurd (omega (arith, before, e, behind))))
 
 -- ---- maps
+-- a map that tells of a block is not that of none
+pub tells-some : (bits : Bits) (place : ℕ) → has bits place ≡ true → same_bits bits no_bits ≡ false
+tells-some bits place there = by (same_bits bits no_bits) refl
+  where
+    by : (b : Bool) → same_bits bits no_bits ≡ b → b ≡ false
+    by true is =
+        let e : bits ≡ no_bits = (bits_decides bits no_bits).0 is in
+        let no : true ≡ false = sym there ∙ ap (λ x. has x place) e ∙ has-none place in cc
+    by false is = refl
+
 -- a map that tells of a block stands there
 pub map-stands : (bits : Bits) (place : ℕ) → has bits place ≡ true → stored_map bits ≡ Some (objects.Map bits)
 map-stands bits place there = by (same_bits bits no_bits) refl
@@ -285,16 +298,27 @@ module _ (s t : Store) (n first end : ℕ) (before after : Bits) (filed : HasBlo
   page-put was bits some put there told one tells =
       let stands : t.at (addresses.Map n page) ≡ Some (objects.Map bits) = put ∙ map-stands bits some one in
       record {
-        mapped = subst (λ b. IsMapped b (t.at (addresses.Map n page))) (sym there) (bits, stands);
+        mapped = subst (λ b. IsMapped b (t.at (addresses.Map n page))) (sym there)
+            (bits, stands, tells-some bits some one);
         tells = λ place below. ap (λ o. has (map_of o) place) stands ∙ tells place below
             ∙ ap (λ b. has b place || is_within first end (page * 512 + place)) (sym told);
       }
+
+-- a block of the range has a byte then
+pub some-written : (old bytes : List ℕ) (offset i : ℕ) → 0 < length bytes → first_of offset ≤ i →
+    i < end_of offset (length bytes) → 0 < length (written old (place_in offset i) (part_in offset bytes i))
+some-written old bytes offset i some from before =
+    let long = written-length old (place_in offset i) (part_in offset bytes i) in
+    let part = length-take (block_size - place_in offset i) (drop (i * block_size - offset) bytes) in
+    let left = length-drop (i * block_size - offset) bytes in
+    omega (arith, long, part, left, some, from, before)
 
 -- so the maps tell of all blocks that are there
 pub filed-after : (s t : Store) (n first end : ℕ) (before after : Bits) → HasBlocks s n before
     → ((p : ℕ) → IsPageAfter s t n first end after p)
     → ((i : ℕ) → (i < first) ⊎ (end ≤ i) → t.at (addresses.Block n i) ≡ s.at (addresses.Block n i))
-    → ((i : ℕ) → first ≤ i → i < end → (bytes : List ℕ) × (t.at (addresses.Block n i) ≡ Some (objects.Block bytes)))
+    → ((i : ℕ) → first ≤ i → i < end → (bytes : List ℕ) × (t.at (addresses.Block n i) ≡ Some (objects.Block bytes)) ×
+    (0 < length bytes))
     → HasBlocks t n after
 filed-after s t n first end before after filed pages stays there = record {
   maps = λ p. (pages p).mapped;
@@ -527,6 +551,8 @@ module _ (old mid late new : DraftValue) (n offset : ℕ) (bytes : List ℕ) (pa
           (λ i from before. (
             written (stored_in (at-old s (addresses.Block n i))) (place_in offset i) (part_in offset bytes i),
             puts s (addresses.Block n i) refl refl ∙ blocks.blocks s i fits from before,
+            some-written (stored_in (at-old s (addresses.Block n i))) bytes offset i (omega (arith, some, is-count)) from
+                (omega (arith, before, is-count)),
           ));
     }
       where

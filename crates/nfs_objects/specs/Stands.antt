@@ -261,14 +261,14 @@ pub record StandObjects (s : Store) (k : Kept) : Type 0 where
   pub numbered : (n : ℕ) (i : Inode) → s.at (addresses.Inode n) ≡ Some (stored.Inode i) →
       (lives_in k.state.exports i.export ≡ true) ⊎ (i.export ≤ k.state.last_export)
 
--- a map stands there, or nothing
+-- a map that tells of a block stands there, or nothing
 abbrev pub IsMapped : (mapped : Bool) → Option Object → Type 0
-IsMapped true o = (bits : Bits) × (o ≡ Some (stored.Map bits))
+IsMapped true o = (bits : Bits) × (o ≡ Some (stored.Map bits)) × (same_bits bits no_bits ≡ false)
 IsMapped false o = o ≡ None
 
--- a block stands there, or nothing
+-- a block that has a byte stands there, or nothing; so it stands before the end of a file that lives
 abbrev pub IsStored : (stored : Bool) → Option Object → Type 0
-IsStored true o = (bytes : List ℕ) × (o ≡ Some (stored.Block bytes))
+IsStored true o = (bytes : List ℕ) × (o ≡ Some (stored.Block bytes)) × (0 < length bytes)
 IsStored false o = o ≡ None
 
 -- at a number stand the map pages of these, and the blocks that those tell of, and no others
