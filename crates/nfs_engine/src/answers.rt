@@ -6,16 +6,17 @@ ghost use Rattle.nfs_rpc.specs.Records.{fragment};
 ghost use Rattle.nfs_engine.specs.Forms.{HasForm, RefusalHasForm};
 ghost use Rattle.nfs_engine.specs.Answers.{answer_of, fault_answer};
 ghost use Rattle.nfs_wire.specs.Replies.{HasNfsForm};
+ghost use Rattle.side_wire.specs.Mount.{HasMountForm};
 ghost use Rattle.side_wire.specs.Nlm.{HasNlmForm};
 ghost use Rattle.nfs_machine.specs.declared.calls.Reply.TheVariants as replies;
 ghost use Rattle.nfs_machine.specs.RpcReplies.{failure_message, refusal_message, results_of, success_message};
 
-use crate::forms::{is_formed, nlm_is_formed};
+use crate::forms::{is_formed, mount_is_formed, nlm_is_formed};
 use nfs_machine::{Refusal, Reply};
 use nfs_rpc::{Answer, Early, Fault, finish_record, start_record, write_reply};
 use nfs_wire::NfsReply;
 use nfs_xdr::{Writer, XdrError};
-use side_wire::{NlmReply, mount, nlm};
+use side_wire::{MountReply, NlmReply, mount, nlm};
 use std::alloc::{AllocError, Global};
 
 /// Room for most answers.
@@ -58,8 +59,8 @@ fn write_success(alloc: Global, xid: u32, reply: &Reply) -> Result<Vec<u8>, XdrE
     Ok(finish_record(writer))
 }
 
-/// The bytes of the reply to a call, where its form is seen in the reply alone: one of NFS or NLM whose parts are
-/// within their bounds, or none that is sent. None for any other.
+/// The bytes of the reply to a call, where its form is seen in the reply alone: its parts are within their bounds, or
+/// none is sent. None for any other, and where one fragment does not hold them (RFC 5531, section 11).
 ///
 /// # Errors
 ///
@@ -74,7 +75,12 @@ pub(crate) fn spell(alloc: Global, xid: u32, reply: &Reply) -> Result<Option<Vec
             }
             spell_nfs(alloc, xid, nfs).map_err(|_| AllocError)
         }
-        Reply::Mount(_) => Ok(None),
+        Reply::Mount(mount) => {
+            if !mount_is_formed(mount) {
+                return Ok(None);
+            }
+            spell_mount(alloc, xid, mount).map_err(|_| AllocError)
+        }
         Reply::Replaced => Ok(Some(Vec::new(alloc))),
         Reply::Nlm(nlm) => {
             if !nlm_is_formed(nlm) {
@@ -83,6 +89,21 @@ pub(crate) fn spell(alloc: Global, xid: u32, reply: &Reply) -> Result<Option<Vec
             spell_nlm(alloc, xid, nlm).map_err(|_| AllocError)
         }
     }
+}
+
+/// The bytes of a reply of MOUNT.
+fn spell_mount(alloc: Global, xid: u32, reply: &MountReply) -> Result<Option<Vec<u8>>, XdrError>
+    requires { HasMountForm reply.now }
+    ensures { IfOk result
+        (λ answer. IfSome answer (λ bytes. bytes.items ≡ success_message xid (replies.Mount reply.now))) }
+{
+    let mut writer = start_record(alloc, CAPACITY)?;
+    write_reply(&mut writer, xid, Answer::Success)?;
+    mount::write_result(&mut writer, reply)?;
+    if writer.len() > MAX_LENGTH {
+        return Ok(None);
+    }
+    Ok(Some(finish_record(writer)))
 }
 
 /// The bytes of a reply of NLM.
@@ -100,7 +121,7 @@ fn spell_nlm(alloc: Global, xid: u32, reply: &NlmReply) -> Result<Option<Vec<u8>
     Ok(Some(finish_record(writer)))
 }
 
-/// The bytes of a reply of NFS; None where one fragment does not hold them (RFC 5531, section 11).
+/// The bytes of a reply of NFS.
 fn spell_nfs(alloc: Global, xid: u32, reply: &NfsReply) -> Result<Option<Vec<u8>>, XdrError>
     requires { HasNfsForm reply.now }
     ensures { IfOk result

@@ -1,11 +1,12 @@
 //! Whether the parts of a reply are within their bounds.
 
-ghost use Rattle.std.specs.Prelude.{◌≡◌, ◌<◌, ◌^◌, true};
+ghost use Rattle.std.specs.Prelude.{◌≡◌, ◌<◌, ◌≤◌, ◌^◌, IfOk, length, true};
 ghost use Rattle.std.specs.Bool.{Decides};
 ghost use Rattle.std.specs.List.{All};
 ghost use Rattle.nfs_wire.specs.Replies.{FitsWord, HasEntryForm, HasFullEntryForm, HasLookupForm, HasMadeForm};
 ghost use Rattle.nfs_wire.specs.Replies.{HasNfsForm, HasReadForm, HasReaddirForm, HasReaddirplusForm};
 ghost use Rattle.nfs_wire.specs.Replies.{HasReadlinkForm, IsHandle};
+ghost use Rattle.side_wire.specs.Mount.{HasExportNodeForm, HasMountBodyForm, HasMountForm, IsDirpath, IsHostName};
 ghost use Rattle.side_wire.specs.Nlm.{HasNlmForm, HasTestStatusForm, IsNetobj};
 
 use bytes::Bytes;
@@ -13,10 +14,16 @@ use nfs_wire::{
     FullEntry, LookupReply, MadeReply, NfsReply, PageEntry, ReadReply, ReaddirReply,
     ReaddirplusReply, ReadlinkReply,
 };
-use side_wire::{NlmReply, TestStatus};
+use side_wire::{ExportNode, MountBody, MountReply, MountStatus, NlmReply, TestStatus};
 
 /// The most bytes of a handle, NFS3_FHSIZE (RFC 1813, 2.4).
 const MAX_HANDLE: usize = 64;
+
+/// The most bytes of a host's name of MOUNT, MNTNAMLEN (RFC 1813, 5.1.4).
+const MAX_HOST_NAME: usize = 255;
+
+/// The most bytes of a path of MOUNT, MNTPATHLEN (RFC 1813, 5.1.4).
+const MAX_DIRPATH: usize = 1024;
 
 /// The most bytes of a cookie or an owner of NLM, MAXNETOBJ_SZ (RFC 1813, 6.1.4).
 const MAX_NETOBJ: usize = 1024;
@@ -128,6 +135,84 @@ fn entry_is_formed(full: &FullEntry) -> bool
         Some(object) => is_handle(object),
         None => true,
     }
+}
+
+/// Whether the handle, the names of hosts and the paths that a reply of MOUNT shows are within their bounds.
+pub(crate) fn mount_is_formed(reply: &MountReply) -> bool
+    ensures { result ≡ true → HasMountForm reply.now }
+{
+    match reply {
+        MountReply::Mnt(mounted) => mounted_is_formed(mounted),
+        MountReply::Dump(mounts) => mounts_are_formed(mounts.as_slice()),
+        MountReply::Export(exports) => exports_are_formed(exports.as_slice()),
+        _ => true,
+    }
+}
+
+fn mounted_is_formed(mounted: &Result<Bytes, MountStatus>) -> bool
+    ensures { Decides result (IfOk mounted.now (λ handle. length handle ≤ 64)) }
+{
+    match mounted {
+        Ok(handle) => is_handle(handle),
+        Err(_) => true,
+    }
+}
+
+fn mounts_are_formed(mounts: &[MountBody]) -> bool
+    ensures { result ≡ true → All HasMountBodyForm mounts.now }
+{
+    for mount in mounts {
+        if !mount_body_is_formed(mount) {
+            return false;
+        }
+    }
+    true
+}
+
+fn mount_body_is_formed(mount: &MountBody) -> bool
+    ensures { Decides result (HasMountBodyForm mount.now) }
+{
+    is_host_name(&mount.hostname) && is_dirpath(&mount.directory)
+}
+
+fn exports_are_formed(exports: &[ExportNode]) -> bool
+    ensures { result ≡ true → All HasExportNodeForm exports.now }
+{
+    for export in exports {
+        if !export_is_formed(export) {
+            return false;
+        }
+    }
+    true
+}
+
+fn export_is_formed(export: &ExportNode) -> bool
+    ensures { result ≡ true → HasExportNodeForm export.now }
+{
+    is_dirpath(&export.directory) && hosts_are_named(export.groups.as_slice())
+}
+
+fn hosts_are_named(hosts: &[Bytes]) -> bool
+    ensures { result ≡ true → All IsHostName hosts.now }
+{
+    for host in hosts {
+        if !is_host_name(host) {
+            return false;
+        }
+    }
+    true
+}
+
+fn is_host_name(name: &Bytes) -> bool
+    ensures { Decides result (IsHostName name.now) }
+{
+    name.len() <= MAX_HOST_NAME
+}
+
+fn is_dirpath(path: &Bytes) -> bool
+    ensures { Decides result (IsDirpath path.now) }
+{
+    path.len() <= MAX_DIRPATH
 }
 
 /// Whether the cookie and the owner that a reply of NLM shows are within their bounds.
