@@ -47,3 +47,4 @@ pub mod AdmitErrorLemmas
 pub mod NoReplyKeptLemmas
 pub mod HeldCountLemmas
 pub mod StoreWriteLemmas
+pub mod TidySlotLemmas

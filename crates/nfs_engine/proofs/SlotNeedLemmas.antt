@@ -1,18 +1,17 @@
 -- Which writes need a slot, before and after one of them is made.
 use Rattle.std.proofs.Common.{◌≡◌, ℕ, ◌+◌, ◌<◌, ◌≤◌, ◌&&◌, not, Bool, true, false, cond, List, [], ◌∷◌, get_or, length}
-use Rattle.std.proofs.Common.{map, take, Option, Some, None, IsSome, is_some, option_map}
+use Rattle.std.proofs.Common.{map, take, Option, Some, None, is_some, option_map}
 use Rattle.std.proofs.Common.{refl, sym, ◌∙◌, ap, subst, arith}
 use Rattle.std.proofs.Math.ListN.{get_or-map}
 use Rattle.std.proofs.lemmas.List.{length-map}
 use Rattle.std.proofs.lemmas.List.Sums.{count_by_more_no, count_by_more_yes, sum_by-cons}
 use Rattle.std.specs.Map.{lookup}
-use Rattle.indexmap.specs.IndexMap.{IndexMap}
 use Rattle.nfs_objects.specs.declared.address.Addr.{Addr}
 use Rattle.nfs_objects.specs.declared.change.Write.{Write}
 use Rattle.nfs_objects.specs.declared.object.Object.{Object}
-use Rattle.nfs_objects.specs.Values.{is_addr, write_value}
+use Rattle.nfs_objects.specs.Values.{write_value}
 use Rattle.nfs_engine.proofs.AddressMapLemmas.{found-lookup, same_address, seen}
-use Rattle.nfs_engine.specs.Found.{Changes, found}
+use Rattle.nfs_engine.specs.Found.{found}
 use Rattle.nfs_engine.specs.Tables.{KeepsSlots, KeptValue, kept_value, needs_slot, slots_needed}
 use Rattle.nfs_engine.specs.declared.objects.Kept.{Kept}
 
@@ -31,17 +30,7 @@ slot-found a es = same (lookup (same_address a) es) ∙ ap is_some (sym (found-l
     same None = refl
     same (Some k) = refl
 
--- what is put at an address has a slot there, and all others keep theirs
-pub put-keeps : (old new : Slots) (a : Addr) (v : KeptValue) → Changes (found old) (found new) a (Some v) →
-    KeepsSlots old new
-put-keeps old new a v h b there = subst IsSome (sym (h b)) (elim (is_addr a b) as
-    (λ t. IsSome (cond t (Some v) (found old b))) [ true ↦ refl | false ↦ there ])
-
 -- ---- one write
-pub needs-put : (slots : Slots) (w : Addr × Option Object) → is_some w.1 ≡ true → is_some (found slots w.0) ≡ false →
-    needs_slot slots w ≡ true
-needs-put slots w put none = λ i. (put i) && not (none i)
-
 fewer : (puts was is : Bool) → (was ≡ true → is ≡ true) → cond (puts && not is) 1 0 ≤ cond (puts && not was) 1 0
 fewer false was is keeps = omega arith
 fewer true true is keeps = subst (λ b. cond (not b) 1 0 ≤ 0) (sym (keeps refl)) (omega arith)

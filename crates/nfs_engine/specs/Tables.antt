@@ -1,15 +1,16 @@
 -- What is kept at each address, and the store that it is.
-use Rattle.std.specs.Prelude.{◌≡◌, ◌<◌, ℕ, Bool, ◌&&◌, not, List, Option, Some, None, IsSome, is_some, count_by, map}
-use Rattle.std.specs.Prelude.{option_map, unwrap_or}
+use Rattle.std.specs.Prelude.{◌≡◌, ◌<◌, ℕ, Bool, false, ◌==◌, ◌&&◌, ◌||◌, not, List, Option, Some, None, IsSome}
+use Rattle.std.specs.Prelude.{is_some, count_by, map, max, option_map, unwrap_or, if◌then◌else◌}
 use Rattle.std.specs.Arc.{arc_value}
+use Rattle.std.specs.List.{list_any}
 use Rattle.nfs_objects.specs.declared.address.Addr.{Addr}
 use Rattle.nfs_objects.specs.declared.address.Addr.TheVariants.{Inode}
 use Rattle.nfs_objects.specs.declared.object.Object.{Object}
 use Rattle.nfs_objects.specs.declared.object.Object.TheVariants as objects
 use Rattle.nfs_objects.specs.Store.{Store}
-use Rattle.nfs_objects.specs.Values.{Seen}
+use Rattle.nfs_objects.specs.Values.{Seen, is_addr}
 use Rattle.nfs_objects.specs.declared.view.Reserved.{Reserved}
-use Rattle.nfs_engine.specs.Found.{found}
+use Rattle.nfs_engine.specs.Found.{Changes, found}
 use Rattle.nfs_engine.specs.declared.objects.Kept.{Kept}
 
 -- an object, and the greatest generation that its number was given
@@ -56,6 +57,42 @@ store_of slots = record { at = λ a. (kept_at slots a).object; last = λ n. (kep
 abbrev pub generation_in : Option Object → ℕ
 generation_in (Some (objects.Inode i)) = i.generation
 generation_in o = 0
+
+-- what is kept where an object is put, or is taken away
+abbrev pub filled : KeptValue → Option Object → KeptValue
+filled k o = record { object = o; last = max k.last (generation_in o) }
+
+-- The write was made. A slot that was there stays; where there was none, one comes with an object that is put.
+abbrev pub Puts : List (Addr × KeptValue) → List (Addr × KeptValue) → Addr × Option Object → Type 0
+Puts old new w = Changes (found old) (found new) w.0
+    (if is_some (found old w.0) || is_some w.1 then Some (filled (kept_at old w.0) w.1) else None)
+
+-- ---- slots in which nothing is kept
+abbrev pub is_idle : KeptValue → Bool
+is_idle k = not (is_some k.object) && k.last == 0
+
+abbrev pub idle_at : List (Addr × KeptValue) → Addr → Bool
+idle_at slots a = is_some (found slots a) && is_idle (kept_at slots a)
+
+-- whether a write takes away what stands at an address, and whether some of them do
+abbrev pub takes_from : Addr → Addr × Option Object → Bool
+takes_from a w = is_addr w.0 a && not (is_some w.1)
+
+abbrev pub is_taken : List (Addr × Option Object) → Addr → Bool
+is_taken writes a = list_any (takes_from a) writes
+
+-- each slot keeps something, but where some of these writes took away what stood
+abbrev pub IsTidyBut : List (Addr × KeptValue) → List (Addr × Option Object) → Type 0
+IsTidyBut slots writes = (a : Addr) → is_taken writes a ≡ false → idle_at slots a ≡ false
+
+-- each slot keeps something
+abbrev pub IsTidy : List (Addr × KeptValue) → Type 0
+IsTidy slots = (a : Addr) → idle_at slots a ≡ false
+
+-- the slot of what the write took away goes where nothing is kept in it
+abbrev pub TakesOutIdle : List (Addr × KeptValue) → List (Addr × KeptValue) → Addr × Option Object → Type 0
+TakesOutIdle old new w = Changes (found old) (found new) w.0
+    (if not (is_some w.1) && idle_at old w.0 then None else found old w.0)
 
 -- what was read stands in the store
 abbrev pub Stands : Store → Seen → Type 0

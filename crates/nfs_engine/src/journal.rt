@@ -171,8 +171,7 @@ impl Journal {
         } = ready;
         drop(spelled);
         let bytes = counted(request.received.size(), answer.len(), posted);
-        self.objects.install(writes);
-        self.objects.remove_idle(&own);
+        self.objects.install(writes, &own);
         self.outbox.post(messages);
         self.records.push(record, bytes);
         Committed {

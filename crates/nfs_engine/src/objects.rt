@@ -1,6 +1,6 @@
 //! The objects of the present store, by address: first room for what is written, then writes, which cannot fail.
 
-ghost use Rattle.std.specs.Prelude.{◌≡◌, ◌+◌, ◌<◌, ◌≤◌, [], map, max, option_map, true, if◌then◌else◌, IfOk};
+ghost use Rattle.std.specs.Prelude.{◌≡◌, ◌+◌, ◌<◌, ◌≤◌, [], is_some, map, option_map, true, if◌then◌else◌, IfOk};
 ghost use Rattle.std.specs.Prelude.{IfSome, IsOk};
 ghost use Rattle.std.specs.Prelude.{OnOk};
 ghost use Rattle.std.specs.Prelude.{option_copied, slice_get};
@@ -8,13 +8,13 @@ ghost use Rattle.std.specs.Arc.{arc_value};
 ghost use Rattle.std.specs.Bool.{Decides};
 ghost use Rattle.std.specs.List.{AllByRecursion};
 ghost use Rattle.nfs_objects.specs.Fits.{Fits};
-ghost use Rattle.nfs_objects.specs.Store.{with_write, with_writes};
+ghost use Rattle.nfs_objects.specs.Store.{with_writes};
 ghost use Rattle.nfs_objects.specs.Values.{write_value};
 ghost use Rattle.nfs_engine.specs.Opening.{no_store};
 ghost use Rattle.indexmap.specs.IndexMap.{spare};
 ghost use Rattle.nfs_engine.specs.Standing.{HasObjects, count_after};
-ghost use Rattle.nfs_engine.specs.Tables.{KeepsSlots, Stands, Unspent, empty_kept, generation_in, kept_at};
-ghost use Rattle.nfs_engine.specs.Tables.{kept_slots, needs_slot, slots_needed, store_of};
+ghost use Rattle.nfs_engine.specs.Tables.{IsTidy, IsTidyBut, Puts, Stands, TakesOutIdle, Unspent, generation_in};
+ghost use Rattle.nfs_engine.specs.Tables.{idle_at, kept_at, kept_slots, needs_slot, slots_needed, store_of};
 
 use indexmap::IndexMap;
 use nfs_objects::{Addr, Object, Reserved, View, Write, share};
@@ -31,8 +31,8 @@ pub(crate) struct Kept {
 }
 
 /// What stands at each address, and which generation its number was given last. An address that is not there is empty,
-/// and its number was never given. The address of a number that was given stays in it, empty or not, and others as long
-/// as something stands there; of its look-ups only comparisons of views (`fits`) make use.
+/// and its number was never given. The address of a number that was given stays in it, empty or not, and others just as
+/// long as something stands there; of its look-ups only comparisons of views (`fits`) make use.
 #[derive(Drop)]
 pub(crate) struct Objects {
     slots: IndexMap<Addr, Kept>,
@@ -43,13 +43,14 @@ pub(crate) struct Objects {
 impl Model for Objects {
     ghost use Rattle.indexmap.specs.IndexMap.{spare};
     ghost use Rattle.nfs_engine.specs.Standing.{HasObjects};
-    ghost use Rattle.nfs_engine.specs.Tables.{ObjectsValue, kept_slots, store_of};
+    ghost use Rattle.nfs_engine.specs.Tables.{IsTidy, ObjectsValue, kept_slots, store_of};
 
     ghost Value = { ObjectsValue };
 
     ghost view = { λ t. record { slots = kept_slots t.slots.entries; room = spare t.slots; standing = t.standing } };
 
-    ghost invariant = { λ t. HasObjects (store_of (kept_slots t.slots.entries)) t.standing };
+    ghost invariant = { λ t. HasObjects (store_of (kept_slots t.slots.entries)) t.standing
+        × IsTidy (kept_slots t.slots.entries) };
 }
 
 impl Objects {
@@ -78,7 +79,7 @@ impl Objects {
         let mut objects = Objects::new(alloc);
         let copies = copy_writes(alloc, writes)?;
         objects.make_room(&copies)?;
-        objects.install(copies);
+        objects.install(copies, writes);
         Ok(objects)
     }
 
@@ -180,54 +181,15 @@ impl Objects {
         write.object.is_some() && !self.slots.contains_key(&write.address)
     }
 
-    /// Makes the writes, for which there is room, one after the other. Each slot that is there stays.
-    pub(crate) fn install(&mut self, writes: Vec<Write>)
-        requires { slots_needed self.old.slots (map write_value writes.items) ≤ self.old.room }
+    /// Makes the writes, for which there is room, one after the other; then slots that they left with nothing in them
+    /// go. For that they are given once more.
+    pub(crate) fn install(&mut self, writes: Vec<Write>, same: &[Write])
+        requires room { slots_needed self.old.slots (map write_value writes.items) ≤ self.old.room }
+        requires same { map write_value same.now ≡ map write_value writes.items }
         ensures { store_of self.new.slots ≡ with_writes (store_of self.old.slots) (map write_value writes.items) }
     {
-        let mut writes = writes.into_iter();
-        'writes: while let Some(write) = writes.next() {
-            self.put(write.address, write.object);
-        }
-    }
-
-    /// Puts an object at an address, or takes away what stands there.
-    fn put(&mut self, address: Addr, object: Option<Arc<Object>>)
-        requires { needs_slot self.old.slots (address, option_map arc_value object) ≡ true → 0 < self.old.room }
-        ensures store { store_of self.new.slots
-            ≡ with_write (store_of self.old.slots) address (option_map arc_value object) }
-        ensures slots { KeepsSlots self.old.slots self.new.slots }
-        ensures room { self.old.room ≤ self.new.room
-            + (if needs_slot self.old.slots (address, option_map arc_value object) then 1 else 0) }
-    {
-        let standing = count_after(
-            self.standing,
-            self.find(address).is_some(),
-            object.is_some(),
-        );
-        let last = self.last(address).max(generation(&object));
-        keep(&mut self.slots, address, Kept { object, last });
-        // The number of slots brings the bound of the count.
-        let _slots = self.slots.len();
-        self.standing = standing;
-    }
-
-    /// Takes out the slots that these writes left with nothing in them.
-    pub(crate) fn remove_idle(&mut self, writes: &[Write])
-        ensures { store_of self.new.slots ≡ store_of self.old.slots }
-    {
-        for write in writes {
-            if write.object.is_none() && self.is_idle(write.address) {
-                take_out(&mut self.slots, write.address);
-            }
-        }
-    }
-
-    /// Whether nothing stands at an address, and its number was never given.
-    fn is_idle(&self, address: Addr) -> bool
-        ensures { Decides result (kept_at self.now.slots address ≡ empty_kept) }
-    {
-        self.find(address).is_none() && self.last(address) == 0
+        self.standing = put_all(&mut self.slots, self.standing, writes);
+        remove_idle(&mut self.slots, same);
     }
 }
 
@@ -243,33 +205,97 @@ fn count_after(count: u64, stood: bool, stands: bool) -> u64
     }
 }
 
-/// Keeps this at an address. Only something that is put where no slot is takes room.
-fn keep(slots: &mut IndexMap<Addr, Kept>, address: Addr, kept: Kept)
-    requires room { needs_slot (kept_slots slots.old.entries) (address, option_map arc_value kept.object) ≡ true
-        → 0 < spare slots.old }
-    requires last { kept.last ≡ max (kept_at (kept_slots slots.old.entries) address).last
-        (generation_in (option_map arc_value kept.object)) }
+/// Makes the writes, for which there is room: at how many addresses something stands then. Each slot that is there
+/// stays.
+fn put_all(slots: &mut IndexMap<Addr, Kept>, standing: u64, writes: Vec<Write>) -> u64
+    requires room { slots_needed (kept_slots slots.old.entries) (map write_value writes.items) ≤ spare slots.old }
+    requires count { HasObjects (store_of (kept_slots slots.old.entries)) standing }
+    requires tidy { IsTidy (kept_slots slots.old.entries) }
     ensures store { store_of (kept_slots slots.new.entries)
-        ≡ with_write (store_of (kept_slots slots.old.entries)) address (option_map arc_value kept.object) }
-    ensures slots { KeepsSlots (kept_slots slots.old.entries) (kept_slots slots.new.entries) }
-    ensures room { spare slots.old ≤ spare slots.new
-        + (if needs_slot (kept_slots slots.old.entries) (address, option_map arc_value kept.object) then 1 else 0) }
+        ≡ with_writes (store_of (kept_slots slots.old.entries)) (map write_value writes.items) }
+    ensures count { HasObjects (store_of (kept_slots slots.new.entries)) result }
+    ensures tidy { IsTidyBut (kept_slots slots.new.entries) (map write_value writes.items) }
 {
-    if let Some(slot) = slots.get_mut(&address) {
-        *slot = kept;
-        return;
+    let mut standing = standing;
+    let mut writes = writes.into_iter();
+    'writes: while let Some(write) = writes.next() {
+        standing = make(slots, standing, write);
     }
-    if kept.object.is_some() {
+    standing
+}
+
+/// Makes a write: at how many addresses something stands then.
+fn make(slots: &mut IndexMap<Addr, Kept>, standing: u64, write: Write) -> u64
+    requires room { needs_slot (kept_slots slots.old.entries) (write_value write) ≡ true → 0 < spare slots.old }
+    requires count { HasObjects (store_of (kept_slots slots.old.entries)) standing }
+    ensures puts { Puts (kept_slots slots.old.entries) (kept_slots slots.new.entries) (write_value write) }
+    ensures count { HasObjects (store_of (kept_slots slots.new.entries)) result }
+    ensures room { spare slots.old ≤ spare slots.new
+        + (if needs_slot (kept_slots slots.old.entries) (write_value write) then 1 else 0) }
+{
+    let stands = write.object.is_some();
+    let stood = put(slots, write.address, write.object);
+    // The number of slots brings the bound of the count.
+    let _slots = slots.len();
+    count_after(standing, stood, stands)
+}
+
+/// Puts an object at an address, or takes away what stands there: whether something stood there. Only something that is
+/// put where no slot is takes room. The address is looked up once, and once more where a slot comes.
+fn put(slots: &mut IndexMap<Addr, Kept>, address: Addr, object: Option<Arc<Object>>) -> bool
+    requires { needs_slot (kept_slots slots.old.entries) (address, option_map arc_value object) ≡ true
+        → 0 < spare slots.old }
+    ensures puts { Puts (kept_slots slots.old.entries) (kept_slots slots.new.entries)
+        (address, option_map arc_value object) }
+    ensures stood { result ≡ is_some (kept_at (kept_slots slots.old.entries) address).object }
+    ensures room { spare slots.old ≤ spare slots.new
+        + (if needs_slot (kept_slots slots.old.entries) (address, option_map arc_value object) then 1 else 0) }
+{
+    let given = generation(&object);
+    if let Some(slot) = slots.get_mut(&address) {
+        let stood = slot.object.is_some();
+        let last = slot.last.max(given);
+        *slot = Kept { object, last };
+        return stood;
+    }
+    if object.is_some() {
+        let kept = Kept {
+            object,
+            last: given,
+        };
         slots.insert(address, kept).unwrap();
+    }
+    false
+}
+
+/// Takes out the slots that these writes left with nothing in them.
+fn remove_idle(slots: &mut IndexMap<Addr, Kept>, writes: &[Write])
+    requires { IsTidyBut (kept_slots slots.old.entries) (map write_value writes.now) }
+    ensures store { store_of (kept_slots slots.new.entries) ≡ store_of (kept_slots slots.old.entries) }
+    ensures tidy { IsTidy (kept_slots slots.new.entries) }
+{
+    for write in writes {
+        take_out_idle(slots, write);
     }
 }
 
-/// Takes out the slot of an address at which nothing is kept.
-fn take_out(slots: &mut IndexMap<Addr, Kept>, address: Addr)
-    requires { kept_at (kept_slots slots.old.entries) address ≡ empty_kept }
-    ensures { store_of (kept_slots slots.new.entries) ≡ store_of (kept_slots slots.old.entries) }
+/// Takes out the slot of what this write took away, where nothing is kept in it.
+fn take_out_idle(slots: &mut IndexMap<Addr, Kept>, write: &Write)
+    ensures { TakesOutIdle (kept_slots slots.old.entries) (kept_slots slots.new.entries) (write_value write.now) }
 {
-    slots.swap_remove(&address);
+    if write.object.is_none() && is_idle(slots, write.address) {
+        slots.swap_remove(&write.address);
+    }
+}
+
+/// Whether there is a slot at an address in which nothing is kept.
+fn is_idle(slots: &IndexMap<Addr, Kept>, address: Addr) -> bool
+    ensures { result ≡ idle_at (kept_slots slots.now.entries) address }
+{
+    match slots.get(&address) {
+        Some(kept) => kept.object.is_none() && kept.last == 0,
+        None => false,
+    }
 }
 
 /// Whether both are the same object, or none.

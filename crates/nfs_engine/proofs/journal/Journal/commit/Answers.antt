@@ -7,8 +7,8 @@ use Rattle.nfs_engine.specs.Tables.{slots_needed}
 use Rattle.nfs_engine.proofs.journal.Journal.commit.Goals as goal
 
 -- the copied writes need the slots that the call's own need
-pub install-requires : goal.install-requires
-install-requires c =
+pub install-requires-clause-room : goal.install-requires-clause-room
+install-requires-clause-room c =
     subst (λ (ws : List (Addr × Option Object)). slots_needed c.self.inside.objects.slots ws ≤
     c.self.inside.objects.room) (sym c.finished.invariant.1.same)
     (subst (λ (f : FinishedValue). slots_needed c.self.inside.objects.slots f.done.change.writes ≤
