@@ -1,6 +1,7 @@
 -- One more holder, one less, and who is left.
 use Rattle.std.proofs.Common.{◌≡◌, ◌≢◌, ◌<◌, ℕ, ◌==◌, ◌||◌, Bool, true, false, not, cond, List, [], ◌∷◌, ◌++◌}
 use Rattle.std.proofs.Common.{Option, Some, None, IsSome, refl, sym, ◌∙◌, ap, subst, arith, get_or, length, slice_get}
+use Rattle.std.proofs.Common.{true≢false}
 use Rattle.std.specs.List.{AllPairs, filter, list_any}
 use Rattle.std.proofs.lemmas.List.Folds.{list_any_at}
 use Rattle.std.proofs.lemmas.List.Quantifiers.{all_pairs_push}
@@ -81,6 +82,16 @@ removed_among (h ∷ hs) id j =
             | false ↦ λ f. removed_among hs id j
           ] refl
     ] refl
+
+-- whether any are left
+pub none_left : (hs : List ℕ) (empty : Bool) → empty ≡ (length hs == 0) → empty ≡ true → hs ≡ []
+none_left [] empty is told = refl
+none_left (h ∷ hs) empty is told =
+    absurd (let none = (unsigned_Decides (length (h ∷ hs)) 0).0 (sym is ∙ told) in omega (arith, none))
+
+pub some_left : (hs : List ℕ) (empty : Bool) → empty ≡ (length hs == 0) → empty ≡ false → hs ≢ []
+some_left [] empty is told nothing = true≢false (sym is ∙ told)
+some_left (h ∷ hs) empty is told nothing = cc
 
 -- each of those beside each other keeps out one alone
 pub first_excludes : (hs : List ℕ) →

@@ -18,6 +18,7 @@ nobody = record { alone = None; beside = [] }
 abbrev pub holders_value : Holders → HoldersValue
 holders_value holders.Nobody = nobody
 holders_value (holders.One h) = record { alone = Some h; beside = [] }
+holders_value (holders.Sharer h) = record { alone = None; beside = h ∷ [] }
 holders_value (holders.Several hs) = record { alone = None; beside = hs }
 
 abbrev pub is_among : List ℕ → ℕ → Bool

@@ -7,14 +7,18 @@ ghost use Rattle.nfs_engine.specs.Holders.{CanHold, IsExcluder, Reholds, hold_of
 use crate::sharers::Sharers;
 use nfs_objects::Mode;
 use std::alloc::{AllocError, Global};
+use std::mem::replace;
 
 /// Who holds an address, by their numbers: nobody, one that excludes all others, or some beside each other, each once.
+/// Only several take memory, and none is left where nobody holds the address any more.
 #[derive(Drop)]
 pub enum Holders {
     Nobody,
     /// It holds the address exclusively.
     One(u64),
-    /// They hold it shared; it may be one, and where there is none it is held by nobody.
+    /// It holds the address shared, and no other does.
+    Sharer(u64),
+    /// They hold it shared; it may be one.
     Several(Sharers),
 }
 
@@ -25,8 +29,11 @@ impl Holders {
     {
         match self {
             Holders::Nobody => true,
-            Holders::One(_) => false,
-            Holders::Several(sharers) => sharers.is_empty(),
+            Holders::One(_) | Holders::Sharer(_) => false,
+            Holders::Several(sharers) => {
+                sharers.are_some();
+                false
+            }
         }
     }
 
@@ -36,7 +43,7 @@ impl Holders {
     {
         match self {
             Holders::Nobody => false,
-            Holders::One(holder) => *holder == id,
+            Holders::One(holder) | Holders::Sharer(holder) => *holder == id,
             Holders::Several(sharers) => sharers.has(id),
         }
     }
@@ -48,6 +55,10 @@ impl Holders {
         match self {
             Holders::Nobody => None,
             Holders::One(holder) => Some(*holder),
+            Holders::Sharer(holder) => match mode {
+                Mode::Shared => None,
+                Mode::Exclusive => Some(*holder),
+            },
             Holders::Several(sharers) => match mode {
                 Mode::Shared => None,
                 Mode::Exclusive => sharers.first(),
@@ -81,11 +92,15 @@ impl Holders {
             (Reholds (holders_value self.old) (holders_value self.new) id (Some Mode.Shared)) }
         ensures err { OnErr result (holders_value self.new ≡ holders_value self.old) }
     {
-        if let Holders::Several(sharers) = self {
-            sharers.add(id)?;
-            return Ok(());
+        match self {
+            Holders::Nobody | Holders::One(_) => *self = Holders::Sharer(id),
+            Holders::Sharer(holder) => {
+                let mut sharers = Sharers::one(alloc, *holder)?;
+                sharers.add(id)?;
+                *self = Holders::Several(sharers);
+            }
+            Holders::Several(sharers) => sharers.add(id)?,
         }
-        *self = Holders::Several(Sharers::one(alloc, id)?);
         Ok(())
     }
 
@@ -93,14 +108,23 @@ impl Holders {
     pub fn remove(&mut self, id: u64)
         ensures { Reholds (holders_value self.old) (holders_value self.new) id None }
     {
-        match self {
+        match replace(self, Holders::Nobody) {
             Holders::Nobody => {}
             Holders::One(holder) => {
-                if *holder == id {
-                    *self = Holders::Nobody;
+                if holder != id {
+                    *self = Holders::One(holder);
                 }
             }
-            Holders::Several(sharers) => sharers.remove(id),
+            Holders::Sharer(holder) => {
+                if holder != id {
+                    *self = Holders::Sharer(holder);
+                }
+            }
+            Holders::Several(sharers) => {
+                if let Some(left) = sharers.without(id) {
+                    *self = Holders::Several(left);
+                }
+            }
         }
     }
 }

@@ -1,29 +1,28 @@
 //! Who holds an address beside each other.
 
-ghost use Rattle.std.specs.Prelude.{◌≡◌, [], ◌∷◌, ◌||◌, ◌==◌, ℕ, IfOk, OnErr, OnOk, not};
+ghost use Rattle.std.specs.Prelude.{◌≡◌, ◌≢◌, [], ◌∷◌, ◌||◌, ◌==◌, ℕ, IfOk, MatchOption, OnErr, OnOk, not};
 ghost use Rattle.std.specs.Prelude.{slice_get};
-ghost use Rattle.std.specs.Bool.{Decides};
 ghost use Rattle.std.specs.List.{filter};
 ghost use Rattle.nfs_engine.specs.Holders.{is_among};
 
 use std::alloc::{AllocError, Global};
 use std::marker::Model;
 
-/// Who holds an address beside each other, by their numbers, each once.
+/// Who holds an address beside each other, by their numbers, each once. There is at least one.
 #[derive(Drop)]
 pub struct Sharers {
     ids: Vec<u64>,
 }
 
 impl Model for Sharers {
-    ghost use Rattle.std.specs.Prelude.{◌≢◌, ℕ, List};
+    ghost use Rattle.std.specs.Prelude.{◌≢◌, ℕ, List, []};
     ghost use Rattle.std.specs.List.{AllPairs};
 
     ghost Value = { List ℕ };
 
     ghost view = { λ s. s.ids.items };
 
-    ghost invariant = { λ s. AllPairs (λ x y. x ≢ y) s.ids.items };
+    ghost invariant = { λ s. AllPairs (λ x y. x ≢ y) s.ids.items × (s.ids.items ≢ []) };
 }
 
 impl Sharers {
@@ -40,14 +39,14 @@ impl Sharers {
         Ok(Sharers { ids })
     }
 
-    /// Whether there is none.
-    pub fn is_empty(&self) -> bool
-        ensures { Decides result (self.now ≡ []) }
+    /// There are some.
+    pub fn are_some(&self)
+        ensures { self.now ≢ [] }
     {
-        self.ids.is_empty()
+        let _ = &self.ids;
     }
 
-    /// One of them, if there is one.
+    /// One of them.
     pub fn first(&self) -> Option<u64>
         ensures { result ≡ slice_get self.now 0 }
     {
@@ -77,10 +76,16 @@ impl Sharers {
         Ok(())
     }
 
-    /// Takes one out, if it is among them.
-    pub fn remove(&mut self, id: u64)
-        ensures { self.new ≡ filter (λ h. not (h == id)) self.old }
+    /// Those without this one; None where nobody is left.
+    pub fn without(self, id: u64) -> Option<Sharers>
+        ensures { MatchOption result (filter (λ h. not (h == id)) self ≡ [])
+            (λ left. left ≡ filter (λ h. not (h == id)) self) }
     {
-        self.ids.retain(|h| *h != id);
+        let Sharers { mut ids } = self;
+        ids.retain(|h| *h != id);
+        if ids.is_empty() {
+            return None;
+        }
+        Some(Sharers { ids })
     }
 }

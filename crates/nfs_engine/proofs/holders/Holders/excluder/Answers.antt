@@ -6,9 +6,9 @@ use Rattle.nfs_engine.specs.declared.holders.Holders.{Holders}
 use Rattle.nfs_engine.proofs.HolderCountLemmas.{first_excludes}
 use Rattle.nfs_engine.proofs.holders.Holders.excluder.Goals as goal
 
-pub returns-in-Exclusive : goal.returns-in-Exclusive
-returns-in-Exclusive c =
-    subst (λ (m : Mode). IsExcluder m (holders_value c.args.self.now) c.first.result) (sym c.in-Exclusive.is)
+pub returns-in-Exclusive-mode : goal.returns-in-Exclusive-mode
+returns-in-Exclusive-mode c =
+    subst (λ (m : Mode). IsExcluder m (holders_value c.args.self.now) c.first.result) (sym c.in-Exclusive-mode.is)
     (subst (λ (h : Holders). IsExcluder Exclusive (holders_value h) c.first.result) (sym c.in-Several.is)
     (subst (λ (r : Option ℕ). IsExcluder Exclusive (record { alone = None; beside = c.in-Several.sharers }) r)
     (sym c.first.ensures) (first_excludes c.in-Several.sharers)))
