@@ -1,7 +1,7 @@
 -- Runs of pages that rise: where a page is in them, and what a page more and a page less make of them.
 use Rattle.std.proofs.Common.{◌≡◌, ◌⊎◌, ℕ, zero, suc, ◌+◌, ◌-◌, ◌<◌, ◌≤◌, ◌^◌, ◌==◌, ◌&&◌, ◌||◌, Bool, true, false, not, cond}
 use Rattle.std.proofs.Common.{List, [], ◌∷◌, ◌++◌, length, take, drop, get_or, refl, sym, ◌∙◌, ap, subst, arith, inl, inr}
-use Rattle.std.proofs.Common.{Option, Some, None, ltb}
+use Rattle.std.proofs.Common.{Option, Some, None, ltb, ◌≢◌, IfSome, slice_get}
 use Rattle.std.proofs.lemmas.Bool.{and_left, and_right, cases_order, eqb-true, eq-eqb, le-leb, lt-leb, ltb-true, ltb-false, ne_eqb, or_from}
 use Rattle.std.proofs.lemmas.Bool.{or_parts, or_right, true≢false}
 use Rattle.std.proofs.Common.{append_assoc, take-append-drop}
@@ -11,7 +11,7 @@ use Rattle.std.proofs.Common.{max}
 use Rattle.std.specs.Prelude.{nat_le, nat_lt}
 use Rattle.std.specs.List.{AllByRecursion, AllWithin}
 use Rattle.std.specs.List.Sorted.{IsNonDecreasingBy}
-use Rattle.nfs_objects.specs.PageRuns.{IsNextPage, IsWithLast, RunsRise, TellsEmpty, in_run, lists, rest_of}
+use Rattle.nfs_objects.specs.PageRuns.{EndsRun, IsNextPage, IsWithRun, RunsRise, TellsEmpty, in_run, lists, rest_of}
 use Rattle.nfs_objects.specs.declared.page_list.PageRun.{PageRun}
 
 -- all end before a page, and none of them does
@@ -64,7 +64,8 @@ over (run ∷ runs) x (suc j) d begin rise within = over runs x j d begin.1 rise
 pub ends-rise : (runs : List PageRun) → RunsRise runs → IsNonDecreasingBy (λ (run : PageRun). run.last) runs
 ends-rise [] rise i j d le within = absurd (omega (arith, within))
 ends-rise (run ∷ runs) rise zero zero d le within = omega arith
-ends-rise (run ∷ runs) rise zero (suc j) d le within = over runs run.last j d rise.2 rise.3 (omega (arith, within))
+ends-rise (run ∷ runs) rise zero (suc j) d le within =
+    omega (arith, over runs (run.last + 1) j d rise.2 rise.3 (omega (arith, within)))
 ends-rise (run ∷ runs) rise (suc i) zero d le within = absurd (omega (arith, le))
 ends-rise (run ∷ runs) rise (suc i) (suc j) d le within =
     ends-rise runs rise.3 i j d (omega (arith, le)) (omega (arith, within))
@@ -153,7 +154,7 @@ module _ (runs : List PageRun) (page place : ℕ) (before : EndBefore page (take
         ∙ ap (λ b. b || lists others n) (run-has n run most.0 (subst (λ x. x ≤ run.last) (sym same) (end most0))),
     λ q from less. from-place q from ∙ ap (λ rest. lists rest q) rest
         ∙ or_from (in_run q run) (lists others q) (run-behind q run (most.2 q from less))
-        (none-behind q run.last others rising.2 (omega (arith, rising.0, most.2 q from less))),
+        (none-behind q (run.last + 1) others rising.2 (omega (arith, rising.0, most.2 q from less))),
   )
     where
       others : List PageRun
@@ -184,16 +185,36 @@ module _ (runs : List PageRun) (page place : ℕ) (before : EndBefore page (take
           by (inr (inl less)) = absurd (omega (arith, most.2 run.last reaches.0 less, rising.0))
           by (inr (inr more)) = omega (arith, more)
 
+-- ---- where the run of a page ends
+module _ (runs : List PageRun) (page place : ℕ) where
+  pub ends-last : length runs ≤ place → EndsRun page (drop place runs) page (drop place runs)
+  ends-last past = subst (λ (l : List PageRun). EndsRun page l page l) (sym (drop-past place runs past))
+      (inr (tt, refl, refl))
+
+  pub ends-apart : (run : PageRun) → place < length runs → run ≡ get_or runs place run → (run.first ≡ page + 1 → ⊥) →
+      EndsRun page (drop place runs) page (drop place runs)
+  ends-apart run within is apart =
+      subst (λ (l : List PageRun). EndsRun page l page l)
+      (sym (drop-cons runs place run within ∙ ap (λ (r : PageRun). r ∷ drop (suc place) runs) (sym is)))
+      (inr (apart, refl, refl))
+
+  pub ends-joined : (run : PageRun) → place < length runs → run ≡ get_or runs place run → run.first ≡ page + 1 →
+      EndsRun page (drop place runs) run.last (drop (place + 1) runs)
+  ends-joined run within is next =
+      let same : suc place ≡ place + 1 = omega arith in
+      inl (run, drop-cons runs place run within ∙ (λ i. sym is i ∷ drop (same i) runs), next, refl)
+
 -- ---- a page more, and a page less
 -- others in the place of the last runs rise, where they rise, and begin where those did
 pub rise-in : (P : PageRun → Type 0) (front old new : List PageRun) → AllByRecursion P front
-    → ((run : PageRun) → P run → BeginBehind run.last old → BeginBehind run.last new)
+    → ((run : PageRun) → P run → BeginBehind (run.last + 1) old → BeginBehind (run.last + 1) new)
     → RunsRise new → RunsRise (front ++ old) → RunsRise (front ++ new)
 rise-in P [] old new all up rise was = rise
 rise-in P (run ∷ front) old new all up rise was =
     (was.0, was.1, begin front was.2, rise-in P front old new all.1 up rise was.3)
   where
-    begin : (others : List PageRun) → BeginBehind run.last (others ++ old) → BeginBehind run.last (others ++ new)
+    begin : (others : List PageRun) → BeginBehind (run.last + 1) (others ++ old) →
+        BeginBehind (run.last + 1) (others ++ new)
     begin [] behind = up run all.0 behind
     begin (other ∷ others) behind = (behind.0, begin others behind.1)
 
@@ -251,7 +272,7 @@ any-front (run ∷ runs) = (tt, any-front runs)
 not-listed : (page : ℕ) (rest : List PageRun) → RunsRise rest → Reach page rest → lists rest page ≡ false → BeginBehind page rest
 not-listed page [] rise reach out = tt
 not-listed page (run ∷ rest) rise reach out =
-    (by (cases_order page run.first), behind-less run.last page rest reach.0 rise.2)
+    (by (cases_order page run.first), behind-less (run.last + 1) page rest (omega (arith, reach.0)) rise.2)
   where
     by : (page ≡ run.first) ⊎ ((page < run.first) ⊎ (run.first < page)) → page < run.first
     by (inr (inl less)) = less
@@ -272,107 +293,201 @@ own-page page p = by (cases_order p page)
     by (inr (inl less)) = run-behind p own less ∙ sym (ne_eqb p page (λ same. omega (arith, less, same)))
     by (inr (inr more)) = run-before p own more ∙ sym (ne_eqb p page (λ same. omega (arith, more, same)))
 
--- a run that goes on with a page has that besides
-longer : (run : PageRun) (page p : ℕ) → run.first ≤ run.last → run.last + 1 ≡ page →
-    in_run p (record { first = run.first; last = page }) ≡ (in_run p run || (p == page))
-longer run page p some next = by (cases_order p page)
+-- a run that goes on with another has what both have
+both-have : (run more : PageRun) (p : ℕ) → run.first ≤ run.last → more.first ≤ more.last → run.last + 1 ≡ more.first →
+    in_run p (record { first = run.first; last = more.last }) ≡ (in_run p run || in_run p more)
+both-have run more p some there next = by (cases_order p more.first)
   where
     long : PageRun
-    long = record { first = run.first; last = page }
+    long = record { first = run.first; last = more.last }
 
-    by : (p ≡ page) ⊎ ((p < page) ⊎ (page < p)) → in_run p long ≡ (in_run p run || (p == page))
-    by (inl same) =
-        run-has p long (omega (arith, some, next, same)) (omega (arith, same))
-        ∙ sym (or_right (in_run p run) (p == page) (eq-eqb p page same))
+    upper : more.first ≤ p → in_run p long ≡ (in_run p run || in_run p more)
+    upper up =
+        (λ i. le-is run.first p (omega (arith, some, next, up)) i && nat_le p more.last)
+        ∙ sym ((λ i. run-before p run (omega (arith, up, next)) i || (le-is more.first p up i && nat_le p more.last)))
+
+    by : (p ≡ more.first) ⊎ ((p < more.first) ⊎ (more.first < p)) → in_run p long ≡ (in_run p run || in_run p more)
+    by (inl same) = upper (omega (arith, same))
+    by (inr (inr up)) = upper (omega (arith, up))
     by (inr (inl less)) =
-        ap (λ b. nat_le run.first p && b) (le-is p page (omega (arith, less)) ∙ sym (le-is p run.last (omega (arith, less, next))))
-        ∙ sym (ap (λ b. in_run p run || b) (ne_eqb p page (λ same. omega (arith, less, same))) ∙ or-false (in_run p run))
-    by (inr (inr more)) =
-        run-before p long more
-        ∙ sym (or_from (in_run p run) (p == page) (run-before p run (omega (arith, more, next)))
-        (ne_eqb p page (λ same. omega (arith, more, same))))
+        ap (λ b. nat_le run.first p && b)
+        (le-is p more.last (omega (arith, less, there)) ∙ sym (le-is p run.last (omega (arith, less, next))))
+        ∙ sym (ap (λ b. in_run p run || b) (run-behind p more less) ∙ or-false (in_run p run))
 
 -- these rise, and list a page besides
 abbrev IsAdded : (page : ℕ) → (old new : List PageRun) → Type 0
 IsAdded page old new = RunsRise new × ((p : ℕ) → lists new p ≡ (lists old p || (p == page)))
 
-module _ (page : ℕ) (front rest : List PageRun) (rise : RunsRise (front ++ rest)) (ends : EndBefore page front)
-    (behind : BeginBehind page rest) where
-  own-added : page < 2 ^ 64 → IsAdded page (front ++ rest) (front ++ record { first = page; last = page } ∷ rest)
-  own-added fits = (
-    rise-in (λ (run : PageRun). run.last < page) front rest (own ∷ rest) ends (λ run less begin. (less, begin))
-        (omega arith, fits, behind, rise-behind front rest rise) rise,
-    λ p. listed-more front rest (own ∷ rest) page p
-        (ap (λ b. b || lists rest p) (own-page page p) ∙ swap (p == page) (lists rest p)),
+swap : (a b : Bool) → (a || b) ≡ (b || a)
+swap true true = refl
+swap true false = refl
+swap false true = refl
+swap false false = refl
+
+or-over : (a b c : Bool) → (a || (b || c)) ≡ ((a || b) || c)
+or-over true b c = refl
+or-over false b c = refl
+
+-- a page before others, which may begin right behind it
+ended-added : (page last : ℕ) (behind rest : List PageRun) → RunsRise behind → BeginBehind page behind → page < 2 ^ 64 →
+    EndsRun page behind last rest → IsAdded page behind (record { first = page; last = last } ∷ rest) × (page ≤ last)
+ended-added page last behind rest rise begin fits (inl (run, whole, next, same)) =
+    let here : RunsRise (run ∷ rest) = subst RunsRise whole rise in
+    subst (λ (l : List PageRun). IsAdded page l (record { first = page; last = last } ∷ rest) × (page ≤ last))
+    (sym whole)
+    (subst (λ (n : ℕ). IsAdded page (run ∷ rest) (record { first = page; last = n } ∷ rest) × (page ≤ n)) (sym same)
+    (((omega (arith, next, here.0), here.1, here.2, here.3), λ p. list p here), omega (arith, next, here.0)))
+  where
+    own : PageRun
+    own = record { first = page; last = page }
+
+    list : (p : ℕ) → RunsRise (run ∷ rest) →
+        lists (record { first = page; last = run.last } ∷ rest) p ≡ (lists (run ∷ rest) p || (p == page))
+    list p here =
+        ap (λ b. b || lists rest p) (both-have own run p (omega arith) here.0 (sym next))
+        ∙ ap (λ b. (b || in_run p run) || lists rest p) (own-page page p)
+        ∙ sym (or-over (p == page) (in_run p run) (lists rest p)) ∙ swap (p == page) (in_run p run || lists rest p)
+ended-added page last behind rest rise begin fits (inr (apart, same, is)) =
+    subst (λ (l : List PageRun). IsAdded page behind (record { first = page; last = last } ∷ l) × (page ≤ last))
+    (sym same)
+    (subst (λ (n : ℕ). IsAdded page behind (record { first = page; last = n } ∷ behind) × (page ≤ n)) (sym is) (
+      (
+        (omega arith, fits, further behind rise begin apart, rise),
+        λ p. ap (λ b. b || lists behind p) (own-page page p) ∙ swap (p == page) (lists behind p),
+      ),
+      omega arith,
+    ))
+  where
+    further : (runs : List PageRun) → RunsRise runs → BeginBehind page runs →
+        IfSome (slice_get runs 0) (λ run. run.first ≢ page + 1) → BeginBehind (page + 1) runs
+    further [] rises begins other = tt
+    further (run ∷ runs) rises begins other = (
+      by (cases_order run.first (page + 1)),
+      behind-less (run.last + 1) (page + 1) runs (omega (arith, begins.0, rises.0)) rises.2,
+    )
+      where
+        by : (run.first ≡ page + 1) ⊎ ((run.first < page + 1) ⊎ (page + 1 < run.first)) → page + 1 < run.first
+        by (inl same) = absurd (other same)
+        by (inr (inl less)) = absurd (omega (arith, less, begins.0))
+        by (inr (inr more)) = more
+
+rise-front : (front rest : List PageRun) → RunsRise (front ++ rest) → RunsRise front
+rise-front [] rest rise = tt
+rise-front (run ∷ front) rest rise = (rise.0, rise.1, begin front rise.2, rise-front front rest rise.3)
+  where
+    begin : (others : List PageRun) → BeginBehind (run.last + 1) (others ++ rest) → BeginBehind (run.last + 1) others
+    begin [] behind = tt
+    begin (other ∷ others) behind = (behind.0, begin others behind.1)
+
+-- where the last run does not end right before a page, all end further before it
+abbrev EndFurther : (page : ℕ) → List PageRun → Type 0
+EndFurther page runs = AllByRecursion (λ (run : PageRun). run.last + 1 < page) runs
+
+further-before : (page : ℕ) (runs : List PageRun) → RunsRise runs → EndBefore page runs →
+    IfSome (slice_get runs (length runs - 1)) (λ run. run.last + 1 ≢ page) → EndFurther page runs
+further-before page [] rise ends apart = tt
+further-before page (run ∷ []) rise ends apart = (by (cases_order (run.last + 1) page), tt)
+  where
+    by : (run.last + 1 ≡ page) ⊎ ((run.last + 1 < page) ⊎ (page < run.last + 1)) → run.last + 1 < page
+    by (inl same) = absurd (apart same)
+    by (inr (inl less)) = less
+    by (inr (inr more)) = absurd (omega (arith, more, ends.0))
+further-before page (run ∷ (next ∷ runs)) rise ends apart =
+    (omega (arith, rise.2.0, rise.3.0, ends.1.0), further-before page (next ∷ runs) rise.3 ends.1 last)
+  where
+    n : ℕ
+    n = length runs
+
+    one : suc (suc n) - 1 ≡ suc n
+    one = omega arith
+
+    none : n ≡ suc n - 1
+    none = omega arith
+
+    behind : IfSome (slice_get (run ∷ (next ∷ runs)) (suc n)) (λ r. r.last + 1 ≢ page)
+    behind = subst (λ k. IfSome (slice_get (run ∷ (next ∷ runs)) k) (λ r. r.last + 1 ≢ page)) one apart
+
+    last : IfSome (slice_get (next ∷ runs) (suc n - 1)) (λ r. r.last + 1 ≢ page)
+    last = subst (λ k. IfSome (slice_get (next ∷ runs) k) (λ r. r.last + 1 ≢ page)) none behind
+
+-- a run of a page and what is behind it, behind those that end before it
+module _ (page : ℕ) (front behind rest : List PageRun) (own : PageRun) (first : own.first ≡ page)
+    (some : page ≤ own.last)
+    (rise : RunsRise (front ++ behind)) (ends : EndBefore page front) (added : IsAdded page behind (own ∷ rest)) where
+  own-added : EndFurther page front → IsAdded page (front ++ behind) (front ++ own ∷ rest)
+  own-added further = (
+    rise-in (λ (run : PageRun). run.last + 1 < page) front behind (own ∷ rest) further
+        (λ run less begin. (
+          omega (arith, less, first),
+          behind-less (own.last + 1) (run.last + 1) rest (omega (arith, less, some)) added.0.2,
+        )) added.0 rise,
+    λ p. listed-more front behind (own ∷ rest) page p (added.1 p),
   )
-    where
-      own : PageRun
-      own = record { first = page; last = page }
 
-      swap : (a b : Bool) → (a || b) ≡ (b || a)
-      swap true true = refl
-      swap true false = refl
-      swap false true = refl
-      swap false false = refl
-
-longer-added : (page : ℕ) (front rest : List PageRun) (run : PageRun) → RunsRise (front ++ run ∷ rest) → run.last + 1 ≡ page
-    → BeginBehind page rest → page < 2 ^ 64
-    → IsAdded page (front ++ run ∷ rest) (front ++ record { first = run.first; last = page } ∷ rest)
-longer-added page front rest run rise next behind fits = (
-  rise-in (λ (run : PageRun). Unit {0}) front (run ∷ rest) (long ∷ rest) (any-front front) (λ x none begin. begin)
-      (omega (arith, here.0, next), fits, behind, here.3) rise,
-  λ p. listed-more front (run ∷ rest) (long ∷ rest) page p
-      (ap (λ b. b || lists rest p) (longer run page p here.0 next) ∙ swap (in_run p run) (p == page) (lists rest p)),
+longer-added : (page : ℕ) (front behind rest : List PageRun) (run own : PageRun) → own.first ≡ page → page ≤ own.last
+    → RunsRise (front ++ run ∷ behind) → run.last + 1 ≡ page → IsAdded page behind (own ∷ rest)
+    → IsAdded page (front ++ run ∷ behind) (front ++ record { first = run.first; last = own.last } ∷ rest)
+longer-added page front behind rest run own first some rise next added = (
+  rise-in (λ (run : PageRun). Unit {0}) front (run ∷ behind) (long ∷ rest) (any-front front)
+      (λ x none begin. (
+        begin.0,
+        behind-less (own.last + 1) (x.last + 1) rest
+            (omega (arith, begin.0, here.0, next, some)) added.0.2,
+      ))
+      (omega (arith, here.0, next, some), added.0.1, added.0.2, added.0.3) rise,
+  λ p. listed-more front (run ∷ behind) (long ∷ rest) page p
+      (ap (λ b. b || lists rest p) (both-have run own p here.0 (omega (arith, first, some)) (next ∙ sym first))
+      ∙ sym (or-over (in_run p run) (in_run p own) (lists rest p)) ∙ ap (λ b. in_run p run || b) (added.1 p)
+      ∙ or-over (in_run p run) (lists behind p) (p == page)),
 )
   where
     long : PageRun
-    long = record { first = run.first; last = page }
+    long = record { first = run.first; last = own.last }
 
-    here : RunsRise (run ∷ rest)
-    here = rise-behind front (run ∷ rest) rise
-
-    swap : (a b c : Bool) → ((a || b) || c) ≡ ((a || c) || b)
-    swap true b c = refl
-    swap false true true = refl
-    swap false true false = refl
-    swap false false true = refl
-    swap false false false = refl
+    here : RunsRise (run ∷ behind)
+    here = rise-behind front (run ∷ behind) rise
 
 -- a page more: it comes behind the runs that end before it
-pub page-added : (page place : ℕ) (runs new : List PageRun) → RunsRise runs → EndBefore page (take place runs)
-    → Reach page (drop place runs) → lists runs page ≡ false → page < 2 ^ 64 → IsWithLast page (take place runs) new
-    → RunsRise (new ++ drop place runs)
-    × ((p : ℕ) → lists (new ++ drop place runs) p ≡ (lists runs p || (p == page)))
-page-added page place runs new rise ends reach out fits come = by come
+pub page-added : (page place last : ℕ) (runs new rest : List PageRun) → RunsRise runs → EndBefore page (take place runs)
+    → Reach page (drop place runs) → lists runs page ≡ false → page < 2 ^ 64 → EndsRun page (drop place runs) last rest
+    → IsWithRun (record { first = page; last = last }) (take place runs) new
+    → RunsRise (new ++ rest) × ((p : ℕ) → lists (new ++ rest) p ≡ (lists runs p || (p == page)))
+page-added page place last runs new rest rise ends reach out fits end come = by come
   where
     front : List PageRun
     front = take place runs
 
-    rest : List PageRun
-    rest = drop place runs
+    behind : List PageRun
+    behind = drop place runs
 
-    whole : front ++ rest ≡ runs
+    own : PageRun
+    own = record { first = page; last = last }
+
+    whole : front ++ behind ≡ runs
     whole = take-append-drop place runs
 
-    rising : RunsRise (front ++ rest)
+    rising : RunsRise (front ++ behind)
     rising = subst RunsRise (sym whole) rise
 
-    behind : BeginBehind page rest
-    behind = not-listed page rest (rise-behind front rest rising) reach
-        (or_parts (lists front page) (lists rest page) (sym (lists-parts place page runs) ∙ out)).1
+    added : IsAdded page behind (own ∷ rest) × (page ≤ last)
+    added = ended-added page last behind rest (rise-behind front behind rising)
+        (not-listed page behind (rise-behind front behind rising) reach
+        (or_parts (lists front page) (lists behind page) (sym (lists-parts place page runs) ∙ out)).1) fits end
 
-    by : IsWithLast page front new → IsAdded page runs (new ++ rest)
-    by (inr own) =
-        subst (λ old. IsAdded page old (new ++ rest)) whole (subst (λ l. IsAdded page (front ++ rest) l)
-        (sym (ap (λ l. l ++ rest) own ∙ append_assoc front (record { first = page; last = page } ∷ []) rest))
-        (own-added page front rest rising ends behind fits))
-    by (inl last) =
-        let run = last.1 in
-        let split : front ++ rest ≡ last.0 ++ run ∷ rest =
-        ap (λ l. l ++ rest) last.2 ∙ append_assoc last.0 (run ∷ []) rest in
-        subst (λ old. IsAdded page old (new ++ rest)) (sym split ∙ whole) (subst (λ l. IsAdded page (last.0 ++ run ∷ rest) l)
-        (sym (ap (λ l. l ++ rest) last.4 ∙ append_assoc last.0 (record { first = run.first; last = page } ∷ []) rest))
-        (longer-added page last.0 rest run (subst RunsRise split rising) last.3 behind fits))
+    by : IsWithRun own front new → IsAdded page runs (new ++ rest)
+    by (inr (apart, is)) =
+        subst (λ old. IsAdded page old (new ++ rest)) whole (subst (λ l. IsAdded page (front ++ behind) l)
+        (sym (ap (λ l. l ++ rest) is ∙ append_assoc front (own ∷ []) rest))
+        (own-added page front behind rest own refl added.1 rising ends added.0
+        (further-before page front (rise-front front behind rising) ends apart)))
+    by (inl it) =
+        let run = it.1 in
+        let split : front ++ behind ≡ it.0 ++ run ∷ behind =
+        ap (λ l. l ++ behind) it.2 ∙ append_assoc it.0 (run ∷ []) behind in
+        subst (λ old. IsAdded page old (new ++ rest)) (sym split ∙ whole)
+        (subst (λ l. IsAdded page (it.0 ++ run ∷ behind) l)
+        (sym (ap (λ l. l ++ rest) it.4 ∙ append_assoc it.0 (record { first = run.first; last = last } ∷ []) rest))
+        (longer-added page it.0 behind rest run own refl added.1 (subst RunsRise split rising) it.3 added.0))
 
 -- a page less: of its run the pages before it and behind it are left
 module _ (page : ℕ) (run : PageRun) (others : List PageRun) (rise : RunsRise (run ∷ others)) (from : run.first ≤ page)
@@ -392,14 +507,14 @@ module _ (page : ℕ) (run : PageRun) (others : List PageRun) (rise : RunsRise (
       let more = ltb-true page run.last y in (
         omega (arith, less),
         omega (arith, to, rise.1),
-        (omega (arith, less), behind-less run.last (page - 1) others (omega (arith, to)) rise.2),
+        (omega (arith, less), behind-less (run.last + 1) (page - 1 + 1) others (omega (arith, to, less)) rise.2),
         (omega (arith, more), rise.1, rise.2, rise.3),
       )
   rest-rises true false x y =
       let less = ltb-true run.first page x in (
         omega (arith, less),
         omega (arith, to, rise.1),
-        behind-less run.last (page - 1) others (omega (arith, to)) rise.2,
+        behind-less (run.last + 1) (page - 1 + 1) others (omega (arith, to, less)) rise.2,
         rise.3,
       )
   rest-rises false true x y = (omega (arith, ltb-true page run.last y), rise.1, rise.2, rise.3)
@@ -459,7 +574,7 @@ module _ (page : ℕ) (run : PageRun) (others : List PageRun) (rise : RunsRise (
           ((lows || highs) || lists others p) ≡ ((in_run p run || lists others p) && not (p == page))
       by (inl same) =
           or_from (lows || highs) (lists others p) (or_from lows highs (low-lacks p a x (omega (arith, same)))
-          (high-lacks p b (omega (arith, same)))) (none-behind p run.last others rise.2 (omega (arith, same, to)))
+          (high-lacks p b (omega (arith, same)))) (none-behind p (run.last + 1) others rise.2 (omega (arith, same, to)))
           ∙ sym (and_right (in_run p run || lists others p) (not (p == page)) (ap not (eq-eqb p page same)))
       by (inr (inl less)) =
           same-both lows highs (in_run p run) (low-has p a x less) (high-lacks p b (omega (arith, less)))
@@ -477,7 +592,7 @@ page-taken page front others run rise ends from to =
     subst (λ l. RunsRise l × ((p : ℕ) → lists l p ≡ (lists (front ++ run ∷ others) p && not (p == page))))
     (sym (append_assoc front (rest_of page run) others)) (
       rise-in (λ (run : PageRun). Unit {0}) front (run ∷ others) left (any-front front)
-          (λ x none begin. rest-begins page run others here from to x.last a b begin)
+          (λ x none begin. rest-begins page run others here from to (x.last + 1) a b begin)
           (rest-rises page run others here from to a b refl refl) rise,
       λ p. listed-less front (run ∷ others) left page p ends (rest-listed page run others here from to p a b refl refl),
     )

@@ -6,7 +6,7 @@ ghost use Rattle.std.specs.Prelude.{length, not, take};
 ghost use Rattle.std.specs.Arc.{arc_value};
 ghost use Rattle.std.specs.Cmp.Lexicographic.{pointwise};
 ghost use Rattle.std.specs.List.{AllByRecursion};
-ghost use Rattle.nfs_objects.specs.PageRuns.{IsNextPage, IsWithLast, RunsRise, TellsEmpty, in_run, lists};
+ghost use Rattle.nfs_objects.specs.PageRuns.{EndsRun, IsNextPage, IsWithRun, RunsRise, TellsEmpty, in_run, lists};
 ghost use Rattle.nfs_objects.specs.PageRuns.{rest_of};
 
 use std::alloc::{AllocError, Global};
@@ -20,8 +20,8 @@ pub struct PageRun {
     pub last: u64,
 }
 
-/// The pages of a directory that are there, as runs that rise: where names only come it is one run. They are never
-/// changed: clones share them, and a page that comes or goes makes others.
+/// The pages of a directory that are there, as runs that rise, as few as there can be: where names only come it is one
+/// run. They are never changed: clones share them, and a page that comes or goes makes others.
 #[derive(Drop)]
 pub struct PageList {
     runs: Arc<Vec<PageRun>>,
@@ -115,10 +115,11 @@ impl PageList {
         }
         let old = self.runs();
         let place = self.place_of(page);
+        let (last, behind) = run_from(old, place, page);
         let mut runs = Vec::with_capacity(alloc, old.len() + 1)?;
         runs.extend_from_slice(&old[..place])?;
-        push_page(&mut runs, page)?;
-        runs.extend_from_slice(&old[place..])?;
+        push_run(&mut runs, PageRun { first: page, last })?;
+        runs.extend_from_slice(&old[behind..])?;
         Ok(PageList {
             runs: Arc::new(alloc, runs)?,
         })
@@ -150,19 +151,40 @@ impl PageList {
     }
 }
 
-/// Adds a page behind runs that end before it: the last one goes on with it where it ends right before.
-fn push_page(runs: &mut Vec<PageRun>, page: u64) -> Result<(), AllocError>
-    requires { AllByRecursion (λ run. run.last < page) runs.old.items }
-    ensures { OnOk result (IsWithLast page runs.old.items runs.new.items) }
+/// Where the run of a page ends that comes at this place, and the place of the first run behind that: the run at the
+/// place is part of it where it begins right behind the page.
+fn run_from(runs: &[PageRun], place: usize, page: u64) -> (u64, usize)
+    requires { place ≤ length runs.now }
+    ensures ends { EndsRun page (drop place runs.now) result.0 (drop result.1 runs.now) }
+    ensures within { result.1 ≤ length runs.now }
+{
+    match runs.get(place) {
+        Some(run) => {
+            if run.first.saturating_sub(page) == 1 {
+                return (run.last, place + 1);
+            }
+            (page, place)
+        }
+        None => (page, place),
+    }
+}
+
+/// Adds a run behind those that end before it: the last one goes on with it where it ends right before.
+fn push_run(runs: &mut Vec<PageRun>, more: PageRun) -> Result<(), AllocError>
+    requires { AllByRecursion (λ run. run.last < more.first) runs.old.items }
+    ensures { OnOk result (IsWithRun more runs.old.items runs.new.items) }
 {
     let first = match runs.last().copied() {
-        Some(run) if run.last + 1 == page => {
+        Some(run) if run.last + 1 == more.first => {
             runs.pop();
             run.first
         }
-        _ => page,
+        _ => more.first,
     };
-    runs.push(PageRun { first, last: page })?;
+    runs.push(PageRun {
+        first,
+        last: more.last,
+    })?;
     Ok(())
 }
 
