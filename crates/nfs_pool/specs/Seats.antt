@@ -19,7 +19,7 @@ use Rattle.nfs_pool.specs.declared.sent.Sent.{Sent}
 use Rattle.nfs_pool.specs.declared.sent.Sent.TheVariants.{Executed, Repeated, Refused, Early, Unanswered}
 
 pub record SeatValue : Type 0 where
-  -- of which shard its new numbers are
+  -- of which shard the new numbers of its first call are
   pub shard : ℕ
   pub receipts : List Receipt
   -- no receipt's number is above this one, and each that comes is

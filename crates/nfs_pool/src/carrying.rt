@@ -32,6 +32,9 @@ use std::alloc::Global;
 use std::sync::Wait;
 use std::sync::ledger::{Ledger, Share};
 
+/// 2^64 parted by the golden section.
+const STRIDE: u64 = 0x9e37_79b9_7f4a_7c15;
+
 /// What a call is brought on by, and for which seat.
 #[derive(Drop)]
 struct Means<'a, R, S, G> {
@@ -39,7 +42,7 @@ struct Means<'a, R, S, G> {
     alloc: Global,
     steps: &'a S,
     gate: &'a G,
-    /// Of which shard the seat's new numbers are.
+    /// Of which shard the call's new numbers are.
     shard: usize,
     /// The number of the seat's last receipt.
     last: u64,
@@ -85,7 +88,7 @@ pub fn run_call<L: Ledger + Naming, R: Wait, S: Steps<L>, G: Gate>(
         alloc,
         steps,
         gate,
-        shard: seat.shard,
+        shard: shard_in_turn(seat.shard, seat.last),
         last: seat.last,
     };
     gate.before(Step::Admit);
@@ -110,6 +113,17 @@ pub fn run_call<L: Ledger + Naming, R: Wait, S: Steps<L>, G: Gate>(
             Ok(Sent::Refused(decline(alloc, received, asked)))
         }
     }
+}
+
+/// Of which shard the new numbers of a seat's next call are, behind the call of this number. So that the numbers of
+/// what went are used again whoever made it, they are of all shards in turn; those of a seat's first call are of its
+/// own.
+fn shard_in_turn(own: usize, last: u64) -> usize
+    ensures { result < SHARDS }
+{
+    // The upper bits tell numbers at any distance apart, so no rhythm of calls keeps to some of the shards.
+    let turn = (last.wrapping_mul(STRIDE) >> 60) as usize;
+    own.wrapping_add(turn) % SHARDS
 }
 
 /// What came in while a call that came with the same is in progress: it has no reply.

@@ -12,7 +12,7 @@ use std::sync::ledger::{Ledger, Share};
 /// clause sees it as its receipts.
 #[derive(Drop)]
 pub struct Seat<L: Ledger> {
-    /// Of which shard its new numbers are.
+    /// Of which shard the new numbers of its first call are.
     pub(crate) shard: usize,
     pub(crate) share: Share<L>,
     pub(crate) receipts: Vec<Receipt>,
