@@ -121,7 +121,7 @@ pub fn run_call<L: Ledger + Naming, R: Wait, S: Steps<L>, G: Gate>(
 fn shard_in_turn(own: usize, last: u64) -> usize
     ensures { result < SHARDS }
 {
-    // The upper bits tell numbers at any distance apart, so no rhythm of calls keeps to some of the shards.
+    // The upper bits tell numbers at most distances apart, so a rhythm of calls doesn't keep to some of the shards.
     let turn = (last.wrapping_mul(STRIDE) >> 60) as usize;
     own.wrapping_add(turn) % SHARDS
 }
