@@ -1,4 +1,5 @@
--- The steps of calls that make or take away a name that are worked through: what the root's handle names, and the rest computes.
+-- The steps of calls that make or take away a name that are worked through: what the root's handle names, and the rest
+-- computes.
 use Rattle.std.proofs.Common.{◌≡◌, ℕ, ◌+◌, List, [], ◌∷◌, Option, Some, None, option_map}
 use Rattle.std.proofs.Common.{Result, Ok, Err, codes, refl, sym, ◌∙◌, ap, subst}
 use Rattle.std.specs.Prelude.{ok_or}
@@ -59,9 +60,11 @@ module _ (old : State) (name : List ℕ) (wanted : Result Wanted NfsStatus)
   make_by r =
       object_of r >>= λ directory. entries_in directory.object.content >>= λ entries. plain_name_checked status.Exists
       status.Exists name >>= λ _. wanted >>= λ what. changeable old.exports directory.object
-      >>= λ _. permitted nobody directory.object ToChange >>= λ _. make_under what directory.number directory.object entries.list entries.last_cookie (entry_of entries.list name)
+      >>= λ _. permitted nobody directory.object ToChange >>= λ _. make_under what directory.number directory.object
+          entries.list entries.last_cookie (entry_of entries.list name)
 
-  not-made : (o : Living) (reply_of : MadeReply → NfsReply) (e : NfsStatus) → resolve old nobody root_bytes ≡ Names 1 o → make_by (Names 1 o) ≡ Err e
+  not-made : (o : Living) (reply_of : MadeReply → NfsReply) (e : NfsStatus) → resolve old nobody root_bytes ≡ Names 1 o
+      → make_by (Names 1 o) ≡ Err e
       → MakeStep old nobody (in_root name) wanted there reply_of (reply_of (not_made old e)) [] old
   not-made o reply_of e named comes = makes-so (record {
     end = Err e;
@@ -85,20 +88,25 @@ is-new : (name : List ℕ) (wanted : Result Wanted NfsStatus)
     → MakeStep opened nobody (in_root name) wanted there reply_of (reply_of (made_as o)) [] (with_new o)
 is-new name wanted there o reply_of ends = makes-so (record {
   end = Ok (made (with_new o) nobody 5 o, with_new o);
-  ends = subst (λ r. EndsAs opened (make_by opened name wanted there r) (Ok (made (with_new o) nobody 5 o, with_new o))) (sym is-opened) ends;
+  ends = subst (λ r. EndsAs opened (make_by opened name wanted there r) (Ok (made (with_new o) nobody 5 o, with_new o)))
+      (sym is-opened) ends;
   answers = record { reply_is = refl; no_message = refl; state_is = refl };
 })
 
 pub worked-making : WorkedMaking
 unfolding NfsStep fresh
 worked-making = record {
-  directory = is-new (codes "d") (Ok (wanted_of 493 (Directory [] 2) no_attributes)) (λ number object. Err status.Exists) bare_directory nfs_replies.Mkdir (fresh, refl);
-  links = ap (λ (l : Option Living). 2 + count_by (λ (e : Entry). is_living_directory l) (d_entry ∷ [])) (d-lives bare_directory);
+  directory = is-new (codes "d") (Ok (wanted_of 493 (Directory [] 2) no_attributes))
+      (λ number object. Err status.Exists) bare_directory nfs_replies.Mkdir (fresh, refl);
+  links = ap (λ (l : Option Living). 2 + count_by (λ (e : Entry). is_living_directory l) (d_entry ∷ []))
+      (d-lives bare_directory);
   above = not-made _ _ _ _ _ _ _ is-opened refl;
-  link = is-new (codes "d") (Ok (wanted_of 511 (Link (codes "x")) no_attributes)) (λ number object. Err status.Exists) (new 511 (Link (codes "x"))) nfs_replies.Symlink (fresh, refl);
+  link = is-new (codes "d") (Ok (wanted_of 511 (Link (codes "x")) no_attributes)) (λ number object. Err status.Exists)
+      (new 511 (Link (codes "x"))) nfs_replies.Symlink (fresh, refl);
   empty_link = not-made _ _ _ _ _ _ _ is-opened refl;
   long_link = not-made _ _ _ _ _ _ _ is-opened refl;
-  fifo = is-new (codes "d") (wanted_special (special.Fifo no_attributes)) (λ number object. Err status.Exists) (new 420 Fifo) nfs_replies.Mknod (fresh, refl);
+  fifo = is-new (codes "d") (wanted_special (special.Fifo no_attributes)) (λ number object. Err status.Exists)
+      (new 420 Fifo) nfs_replies.Mknod (fresh, refl);
   device = not-made _ _ _ _ _ _ _ is-opened refl;
   regular = not-made _ _ _ _ _ _ _ is-opened refl;
   long_name = not-made _ _ _ _ _ _ _ is-opened refl;
@@ -115,10 +123,12 @@ worked-making = record {
 -- ---- what is taken away
 module _ (old : State) (name : List ℕ) (judged_name : List ℕ → Result (Unit {0}) NfsStatus)
     (judged_content : Content → Result (Unit {0}) NfsStatus) where
-  abbrev take_object : (directory : Named) → (entries : DirectoryEntries) → Option Named → Result (Unit {0} × State) NfsStatus
+  abbrev take_object : (directory : Named) → (entries : DirectoryEntries) → Option Named
+      → Result (Unit {0} × State) NfsStatus
   take_object directory entries found =
       ok_or found status.NoEntry >>= λ object. judged_content object.object.content >>= λ _.
-      let left = with_object old directory.number (with_content directory.object (time 1000 0) (Directory (without entries.list name) entries.last_cookie)) in
+      let left = with_object old directory.number (with_content directory.object (time 1000 0)
+          (Directory (without entries.list name) entries.last_cookie)) in
       Ok (tt, losing_name left (names_of old object.number) (time 1000 0) object.number object.object)
 
   abbrev take_by : Resolved → Result (Unit {0} × State) NfsStatus
@@ -127,12 +137,15 @@ module _ (old : State) (name : List ℕ) (judged_name : List ℕ → Result (Uni
       changeable old.exports directory.object >>= λ _. permitted nobody directory.object ToChange
       >>= λ _. take_object directory entries (object_under old (entry_of entries.list name))
 
-  not-taken : (o : Living) (reply_of : RemovedReply → NfsReply) (e : NfsStatus) → resolve old nobody root_bytes ≡ Names 1 o → take_by (Names 1 o) ≡ Err e
+  not-taken : (o : Living) (reply_of : RemovedReply → NfsReply) (e : NfsStatus)
+      → resolve old nobody root_bytes ≡ Names 1 o → take_by (Names 1 o) ≡ Err e
       → Ends old (taken_reply old nobody (in_root name) reply_of)
       (take_end old nobody (in_root name) judged_name judged_content) (reply_of (not_removed old e)) [] old
   not-taken o reply_of e named comes =
       let end = ap take_by named ∙ comes in record {
-        reply_is = sym (ap (λ end. reply_of (record { directory = wcc (state_after old end) (resolve old nobody root_bytes); result = answer_of end })) end);
+        reply_is = sym (ap (λ end. reply_of
+            (record { directory = wcc (state_after old end) (resolve old nobody root_bytes); result = answer_of end }))
+            end);
         no_message = refl;
         state_is = sym (ap (state_after old) end);
       }
@@ -140,15 +153,26 @@ module _ (old : State) (name : List ℕ) (judged_name : List ℕ → Result (Uni
 pub worked-taking : WorkedTaking
 unfolding NfsStep
 worked-taking = record {
-  self = not-taken opened (codes ".") (plain_name_checked status.Invalid status.Exists) removing.empty_directory root nfs_replies.Rmdir status.Invalid is-opened refl;
-  above = not-taken opened (codes "..") (plain_name_checked status.Invalid status.Exists) removing.empty_directory root nfs_replies.Rmdir status.Exists is-opened refl;
-  nothing = not-taken opened (codes "d") (plain_name_checked status.Invalid status.Exists) removing.empty_directory root nfs_replies.Rmdir status.NoEntry is-opened refl;
+  self = not-taken opened (codes ".") (plain_name_checked status.Invalid status.Exists) removing.empty_directory root
+      nfs_replies.Rmdir status.Invalid is-opened refl;
+  above = not-taken opened (codes "..") (plain_name_checked status.Invalid status.Exists) removing.empty_directory root
+      nfs_replies.Rmdir status.Exists is-opened refl;
+  nothing = not-taken opened (codes "d") (plain_name_checked status.Invalid status.Exists) removing.empty_directory root
+      nfs_replies.Rmdir status.NoEntry is-opened refl;
   file =
-      not-taken with_hi (codes "x") (plain_name_checked status.Invalid status.Exists) removing.empty_directory root_with_x nfs_replies.Rmdir status.NotDirectory is-written
-      (ap (λ (l : Option Living). take_object with_hi (codes "x") (plain_name_checked status.Invalid status.Exists) removing.empty_directory (numbered 1 root_with_x) (entries_with (x_entry ∷ []) 3) (option_map (λ (o : Living). numbered 5 o) l)) x-lives);
-  remove_self = not-taken opened (codes ".") (plain_name_checked status.Invalid status.Invalid) removing.not_directory root nfs_replies.Remove status.Invalid is-opened refl;
-  remove_above = not-taken opened (codes "..") (plain_name_checked status.Invalid status.Invalid) removing.not_directory root nfs_replies.Remove status.Invalid is-opened refl;
+      not-taken with_hi (codes "x") (plain_name_checked status.Invalid status.Exists) removing.empty_directory
+          root_with_x nfs_replies.Rmdir status.NotDirectory is-written
+      (ap (λ (l : Option Living). take_object with_hi (codes "x") (plain_name_checked status.Invalid status.Exists)
+          removing.empty_directory (numbered 1 root_with_x) (entries_with (x_entry ∷ []) 3)
+          (option_map (λ (o : Living). numbered 5 o) l)) x-lives);
+  remove_self = not-taken opened (codes ".") (plain_name_checked status.Invalid status.Invalid) removing.not_directory
+      root nfs_replies.Remove status.Invalid is-opened refl;
+  remove_above = not-taken opened (codes "..") (plain_name_checked status.Invalid status.Invalid) removing.not_directory
+      root nfs_replies.Remove status.Invalid is-opened refl;
   directory =
-      not-taken (with_new bare_directory) (codes "d") (plain_name_checked status.Invalid status.Invalid) removing.not_directory root_with_d nfs_replies.Remove status.IsDirectory (is-made bare_directory)
-      (ap (λ (l : Option Living). take_object (with_new bare_directory) (codes "d") (plain_name_checked status.Invalid status.Invalid) removing.not_directory (numbered 1 root_with_d) (entries_with (d_entry ∷ []) 3) (option_map (λ (o : Living). numbered 5 o) l)) (d-lives bare_directory));
+      not-taken (with_new bare_directory) (codes "d") (plain_name_checked status.Invalid status.Invalid)
+          removing.not_directory root_with_d nfs_replies.Remove status.IsDirectory (is-made bare_directory)
+      (ap (λ (l : Option Living). take_object (with_new bare_directory) (codes "d")
+          (plain_name_checked status.Invalid status.Invalid) removing.not_directory (numbered 1 root_with_d)
+          (entries_with (d_entry ∷ []) 3) (option_map (λ (o : Living). numbered 5 o) l)) (d-lives bare_directory));
 }

@@ -1,5 +1,6 @@
 -- Whole replies from states of which only what lives at one number is known.
-use Rattle.std.proofs.Common.{◌≡◌, ◌||◌, ◌==◌, ℕ, List, [], ◌∷◌, take, Option, Some, None, option_map, Result, Ok, Err, refl, sym, ◌∙◌, ap}
+use Rattle.std.proofs.Common.{◌≡◌, ◌||◌, ◌==◌, ℕ, List, [], ◌∷◌, take, Option, Some, None, option_map, Result, Ok, Err,
+    refl, sym, ◌∙◌, ap}
 use Rattle.std.specs.FinMap.{values}
 use Rattle.nfs_wire.specs.declared.attributes.Attributes.{Attributes}
 use Rattle.nfs_wire.specs.declared.calls.SetattrArguments.{SetattrArguments}
@@ -39,30 +40,36 @@ abbrev set_from : State → Ctx → SetattrArguments → Resolved → Result (Un
 set_from m ctx a r = object_of r >>= λ o. set_object m.exports ctx o.object a >>= λ x. Ok (tt, with_object m o.number x)
 
 abbrev setattr_by : State → Ctx → SetattrArguments → Resolved → NfsReply
-setattr_by m ctx a r = replies.Setattr (record { wcc = wcc (state_after m (set_from m ctx a r)) r; result = answer_of (set_from m ctx a r) })
+setattr_by m ctx a r = replies.Setattr
+    (record { wcc = wcc (state_after m (set_from m ctx a r)) r; result = answer_of (set_from m ctx a r) })
 
 abbrev access_by : State → Ctx → ℕ → Resolved → NfsReply
 access_by m ctx asked r = replies.Access
     (record { attributes = shown m r; result = object_of r >>= λ o. Ok (granted m.exports ctx o.object asked) })
 
 abbrev commit_by : State → Ctx → Resolved → NfsReply
-commit_by m ctx r = replies.Commit (record { wcc = wcc m r; result = object_of r >>= λ file. bytes_in file.object.content >>= λ bytes. Ok (verifier_of ctx) })
+commit_by m ctx r = replies.Commit
+    (record { wcc = wcc m r; result = object_of r >>= λ file. bytes_in file.object.content >>= λ bytes. Ok
+    (verifier_of ctx) })
 
 abbrev pathconf_by : State → Resolved → NfsReply
 pathconf_by m r = replies.Pathconf (record { attributes = shown m r; result = object_of r >>= λ o. Ok path_limits })
 
 abbrev readlink_by : State → Resolved → NfsReply
-readlink_by m r = replies.Readlink (record { attributes = shown m r; result = object_of r >>= λ o. text_in o.object.content })
+readlink_by m r = replies.Readlink
+    (record { attributes = shown m r; result = object_of r >>= λ o. text_in o.object.content })
 
 abbrev fsinfo_by : State → Resolved → NfsReply
 fsinfo_by m r = replies.Fsinfo (record { attributes = shown m r; result = object_of r >>= λ o. Ok file_system })
 
 abbrev fsstat_by : State → ℕ → List Living → Resolved → NfsReply
-fsstat_by m total objects r = replies.Fsstat (record { attributes = shown m r; result = object_of r >>= λ o. Ok (space_left total objects o.object.export) })
+fsstat_by m total objects r = replies.Fsstat
+    (record { attributes = shown m r; result = object_of r >>= λ o. Ok (space_left total objects o.object.export) })
 
 module _ (k : State) (has : HasFile k) where
   named : (uid : ℕ) → resolve (with_writable k) (called_as uid) file_bytes ≡ Names 2 known_file
-  named uid = ap (λ (x : Option Living). living_at x (record { export = 1; start = 7; fileid = 2; generation = 4 })) has.lives
+  named uid = ap (λ (x : Option Living). living_at x (record { export = 1; start = 7; fileid = 2; generation = 4 }))
+      has.lives
 
   at : attributes_at (with_writable k) 2 ≡ Some (file_shown 420 (time 1000 1))
   at = ap (option_map (attributes_of (with_writable k) 2)) has.lives ∙ ap
@@ -90,7 +97,9 @@ module _ (k : State) (has : HasFile k) where
   guarded = record {
     reply_is = sym (
         ap (setattr_by (with_writable k) (called_as 0) (setting_mode (time 1000 0))) (named 0)
-        ∙ ap (λ (x : Option Attributes). replies.Setattr (record { wcc = record { before = Some file_before; after = x }; result = Err status.NotSynchronized })) at);
+        ∙ ap (λ (x : Option Attributes). replies.Setattr
+            (record { wcc = record { before = Some file_before; after = x }; result = Err status.NotSynchronized }))
+            at);
     no_message = refl;
     state_is = sym (ap (λ r. state_after (with_writable k)
         (set_from (with_writable k) (called_as 0) (setting_mode (time 1000 0)) r)) (named 0));
@@ -104,7 +113,8 @@ module _ (k : State) (has : HasFile k) where
   set = record {
     reply_is = sym (
         ap (setattr_by (with_writable k) (called_as 0) (setting_mode (time 1000 1))) (named 0)
-        ∙ ap (λ (x : Option Attributes). replies.Setattr (record { wcc = record { before = Some file_before; after = x }; result = Ok tt })) set-at);
+        ∙ ap (λ (x : Option Attributes). replies.Setattr
+            (record { wcc = record { before = Some file_before; after = x }; result = Ok tt })) set-at);
     no_message = refl;
     state_is = sym (ap (λ r. state_after (with_writable k)
         (set_from (with_writable k) (called_as 0) (setting_mode (time 1000 1)) r)) (named 0));
@@ -139,7 +149,9 @@ module _ (k : State) (has : HasFile k) where
   committed = record {
     reply_is = sym (
         ap (commit_by (with_writable k) (called_as 5)) (named 5)
-        ∙ ap (λ (x : Option Attributes). replies.Commit (record { wcc = record { before = Some file_before; after = x }; result = Ok (verifier_of (called_as 5)) })) at);
+        ∙ ap (λ (x : Option Attributes). replies.Commit
+            (record { wcc = record { before = Some file_before; after = x }; result = Ok (verifier_of (called_as 5)) }))
+            at);
     no_message = refl;
     state_is = refl;
   }
@@ -162,7 +174,8 @@ bad_handle m = record { reply_is = refl; no_message = refl; state_is = refl }
 
 module _ (k : State) (has : HasRootAlone k) where
   root-named : (bytes : ℕ) → resolve (with_writable k) (with_room bytes) root_bytes ≡ Names 1 root
-  root-named bytes = ap (λ (x : Option Living). living_at x (record { export = 1; start = 7; fileid = 1; generation = 1 })) has.lives
+  root-named bytes = ap
+      (λ (x : Option Living). living_at x (record { export = 1; start = 7; fileid = 1; generation = 1 })) has.lives
 
   root-at : attributes_at (with_writable k) 1 ≡ Some root_shown
   root-at = ap (option_map (attributes_of (with_writable k) 1)) has.lives
@@ -179,7 +192,8 @@ module _ (k : State) (has : HasRootAlone k) where
         ∙ ap (λ (x : Option Attributes). replies.Fsstat
         (record { attributes = x; result = Ok (space_left 1099511627776 (values (with_writable k).objects) 1) }))
         root-at
-        ∙ ap (λ (os : List Living). replies.Fsstat (record { attributes = Some root_shown; result = Ok (space_left 1099511627776 os 1) })) has.alone);
+        ∙ ap (λ (os : List Living). replies.Fsstat
+            (record { attributes = Some root_shown; result = Ok (space_left 1099511627776 os 1) })) has.alone);
     no_message = refl;
     state_is = refl;
   }
@@ -202,7 +216,8 @@ module _ (k : State) (has : HasRootAlone k) where
   no_file = record {
     reply_is = sym (
         ap (commit_by (with_writable k) (called_as 0)) (root-named 0)
-        ∙ ap (λ (x : Option Attributes). replies.Commit (record { wcc = record { before = Some (weak root); after = x }; result = Err status.Invalid })) root-at);
+        ∙ ap (λ (x : Option Attributes). replies.Commit
+            (record { wcc = record { before = Some (weak root); after = x }; result = Err status.Invalid })) root-at);
     no_message = refl;
     state_is = refl;
   }

@@ -1,5 +1,6 @@
 -- What the checks of a call tell where they are passed.
-use Rattle.std.proofs.Common.{◌≡◌, ◌==◌, ℕ, Bool, true, false, not, ◌&&◌, cond, List, [], ◌∷◌, length, arith, Option, Some, None, Result, Ok, Err, IfOk, find, refl, ap, subst}
+use Rattle.std.proofs.Common.{◌≡◌, ◌==◌, ℕ, Bool, true, false, not, ◌&&◌, cond, List, [], ◌∷◌, length, arith, Option,
+    Some, None, Result, Ok, Err, IfOk, find, refl, ap, subst}
 use Rattle.std.specs.Cmp.{unsigned_Decides}
 use Rattle.std.specs.Prelude.{is_none, ok_or}
 use Rattle.std.specs.FinMap.{get}
@@ -13,13 +14,15 @@ use Rattle.nfs_machine.specs.RemoveSteps.{empty_directory, not_directory}
 use Rattle.nfs_machine.specs.Exports.{LivingExport, export_admits, export_at}
 use Rattle.nfs_machine.specs.Handles.{handle_of}
 use Rattle.nfs_machine.specs.Resolve.{Named, Stale, Names, living_at, named, resolve}
-use Rattle.nfs_machine.specs.State.{Content, Regular, Directory, Link, BlockDevice, CharacterDevice, Socket, Fifo, Entry, Living, State}
+use Rattle.nfs_machine.specs.State.{Content, Regular, Directory, Link, BlockDevice, CharacterDevice, Socket, Fifo,
+    Entry, Living, State}
 use Rattle.nfs_machine.specs.declared.context.Ctx.{Ctx}
 use Rattle.nfs_machine.specs.declared.handle.Handle.{Handle}
 use Rattle.nfs_machine.proofs.WellFormedLemmas.{no_entries}
 
 -- what holds after each value that a check gives holds of the chain
-pub chained-is : {A B : Type 0} (P : B → Type 0) (r : Result A NfsStatus) (f : A → Result B NfsStatus) → ((x : A) → r ≡ Ok x → IfOk (f x) P) → IfOk (r >>= f) P
+pub chained-is : {A B : Type 0} (P : B → Type 0) (r : Result A NfsStatus) (f : A → Result B NfsStatus)
+    → ((x : A) → r ≡ Ok x → IfOk (f x) P) → IfOk (r >>= f) P
 chained-is P (Ok x) f holds = holds x refl
 chained-is P (Err e) f holds = tt
 
@@ -33,11 +36,14 @@ numbered number o = record { number = number; object = o }
 abbrev pub entries_with : List Entry → ℕ → DirectoryEntries
 entries_with list last = record { list = list; last_cookie = last }
 
-lives-at : (find : ℕ → Option Living) (h : Handle) (o : Option Living) (x : Named) → find h.fileid ≡ o → object_of (living_at o h) ≡ Ok x → find x.number ≡ Some x.object
+lives-at : (find : ℕ → Option Living) (h : Handle) (o : Option Living) (x : Named) → find h.fileid ≡ o
+    → object_of (living_at o h) ≡ Ok x → find x.number ≡ Some x.object
 lives-at find h None x at is = cc
 lives-at find h (Some o) x at is =
-    elim ((o.generation == h.generation) && (o.export == h.export)) as (λ b. object_of (cond b (Names h.fileid o) Stale) ≡ Ok x → find x.number ≡ Some x.object) [
-      | true ↦ λ e. (let same : numbered h.fileid o ≡ x = cc in subst (λ (y : Named). find y.number ≡ Some y.object) same at)
+    elim ((o.generation == h.generation) && (o.export == h.export)) as
+        (λ b. object_of (cond b (Names h.fileid o) Stale) ≡ Ok x → find x.number ≡ Some x.object) [
+      | true ↦ λ e. (let same : numbered h.fileid o ≡ x = cc in subst (λ (y : Named). find y.number ≡ Some y.object)
+          same at)
       | false ↦ λ e. cc
     ] is
 
@@ -52,11 +58,13 @@ named-lives find exports ctx (Some h) x is =
     ] is
 
 -- what a handle names lives
-pub resolved-lives : (m : State) (ctx : Ctx) (bytes : List ℕ) (x : Named) → object_of (resolve m ctx bytes) ≡ Ok x → get m.objects x.number ≡ Some x.object
+pub resolved-lives : (m : State) (ctx : Ctx) (bytes : List ℕ) (x : Named) → object_of (resolve m ctx bytes) ≡ Ok x
+    → get m.objects x.number ≡ Some x.object
 resolved-lives m ctx bytes x is = named-lives (get m.objects) m.exports ctx (handle_of bytes) x is
 
 pub is-directory : (c : Content) (x : DirectoryEntries) → entries_in c ≡ Ok x → c ≡ Directory x.list x.last_cookie
-is-directory (Directory entries last) x is = (let same : entries_with entries last ≡ x = cc in ap (λ (y : DirectoryEntries). Directory y.list y.last_cookie) same)
+is-directory (Directory entries last) x is = (let same : entries_with entries last ≡ x = cc in ap
+    (λ (y : DirectoryEntries). Directory y.list y.last_cookie) same)
 is-directory (Regular bytes) x is = cc
 is-directory (Link text) x is = cc
 is-directory (BlockDevice device) x is = cc
@@ -77,7 +85,8 @@ pub leads-found : (p : Option Named) (x : Named) → ok_or p status.NoEntry ≡ 
 leads-found None x is = cc
 leads-found (Some y) x is = (let same : y ≡ x = cc in ap (λ (z : Named). Some z) same)
 
-pub absent : (entries : List Entry) (name : List ℕ) → is_none (entry_of entries name) ≡ true → find (λ (x : Entry). same_bytes x.name name) entries ≡ None
+pub absent : (entries : List Entry) (name : List ℕ) → is_none (entry_of entries name) ≡ true
+    → find (λ (x : Entry). same_bytes x.name name) entries ≡ None
 absent entries name e =
     elim (entry_of entries name) as (λ (o : Option Entry). is_none o ≡ true → o ≡ None) [
       | None ↦ λ t. refl
@@ -97,7 +106,8 @@ no-entry [] e = refl
 no-entry (x ∷ es) e = (let z = (unsigned_Decides (length (x ∷ es)) 0).0 e in absurd (omega (arith, z)))
 
 pub some-entry : (x : Entry) (es : List Entry) → are_none (x ∷ es) ≡ false
-some-entry x es = false_from_ne_true (are_none (x ∷ es)) (λ e. (let z = (unsigned_Decides (length (x ∷ es)) 0).0 e in omega (arith, z)))
+some-entry x es = false_from_ne_true (are_none (x ∷ es))
+    (λ e. (let z = (unsigned_Decides (length (x ∷ es)) 0).0 e in omega (arith, z)))
 
 pub directory-empty : (c : Content) (x : Unit {0}) → empty_directory c ≡ Ok x → entries_of c ≡ []
 directory-empty (Directory entries last) x is = no-entry entries (holds (are_none entries) _ x is)

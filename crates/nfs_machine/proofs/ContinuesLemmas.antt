@@ -1,5 +1,6 @@
 -- What lives after a step lived before it under the same handle, and is as it was or was changed once; or it is new.
-use Rattle.std.proofs.Common.{◌≡◌, ◌==◌, ℕ, ◌+◌, ◌≤◌, true, false, cond, List, [], Some, None, ◌⊎◌, inl, inr, nat_le, refl, sym, ◌∙◌, ap, subst, arith}
+use Rattle.std.proofs.Common.{◌≡◌, ◌==◌, ℕ, ◌+◌, ◌≤◌, true, false, cond, List, [], Some, None, ◌⊎◌, inl, inr, nat_le,
+    refl, sym, ◌∙◌, ap, subst, arith}
 use Rattle.std.proofs.lemmas.Bool.{leb-true, leb-false}
 use Rattle.std.specs.Cmp.{unsigned_Decides}
 use Rattle.std.specs.FinMap.{get}
@@ -14,9 +15,11 @@ use Rattle.nfs_machine.specs.Times.{touch}
 use Rattle.nfs_machine.specs.WellFormed.{TextsFit, WellFormed, is_root}
 use Rattle.nfs_machine.proofs.MapChangeLemmas.{differs-insert, differs-other, differs-remove, differs-there}
 use Rattle.nfs_machine.proofs.CookieLemmas.{kept-same}
-use Rattle.nfs_machine.proofs.LooseLemmas.{Beside, Loose, also, fastened, loose-come, loose-touched, none_loose, tightened}
+use Rattle.nfs_machine.proofs.LooseLemmas.{Beside, Loose, also, fastened, loose-come, loose-touched, none_loose,
+    tightened}
 
--- an object in the place of another: under the same handle, changed at this time, with no new text, and with entries that keep their cookies
+-- an object in the place of another: under the same handle, changed at this time, with no new text, and with entries
+-- that keep their cookies
 pub record Turns (now : Time) (was is : Living) : Type 0 where
   pub generation : is.generation ≡ was.generation
   pub kind : is_directory is.content ≡ is_directory was.content
@@ -27,7 +30,8 @@ pub record Turns (now : Time) (was is : Living) : Type 0 where
 -- all that lives lived, and is as it was, or in its place
 pub record Continues (now : Time) (old new : State) : Type 0 where
   pub kept : (n g : ℕ) → old.spent n g ≡ true → new.spent n g ≡ true
-  pub lived : (n : ℕ) (o : Living) → get new.objects n ≡ Some o → (p : Living) × (get old.objects n ≡ Some p) × ((o ≡ p) ⊎ Turns now p o)
+  pub lived : (n : ℕ) (o : Living) → get new.objects n ≡ Some o → (p : Living) × (get old.objects n ≡ Some p)
+      × ((o ≡ p) ⊎ Turns now p o)
 
 module _ (now : Time) where
   pub continues-itself : (m : State) → Continues now m m
@@ -37,7 +41,8 @@ module _ (now : Time) where
   pub lived-as : (old new : State) → Continues now old new → (n g : ℕ) → LivesAs new n g → LivesAs old n g
   lived-as old new c n g l =
       let p = c.lived n l.object l.lives in
-      record { object = p.0; lives = p.1; generation_is = elim p.2 [ inl same ↦ ap (λ (x : Living). x.generation) (sym same) | inr t ↦ sym t.generation ] ∙ l.generation_is }
+      record { object = p.0; lives = p.1; generation_is = elim p.2 [ inl same ↦ ap (λ (x : Living). x.generation)
+          (sym same) | inr t ↦ sym t.generation ] ∙ l.generation_is }
 
   pub gives-continued : (old new : State) → Continues now old new → GivesOnce old new
   gives-continued old new c = record { kept = c.kept; handles = λ n g l. inl (lived-as old new c n g l) }
@@ -69,16 +74,19 @@ module _ (now : Time) where
       let p = c.lived n is there in
       let same : p.0 ≡ was = (let both : Some p.0 ≡ Some was = sym p.1 ∙ at in cc) in
       elim p.2 [
-        | inl stays ↦ subst (λ (x : Living). KeepsEntries (entries_of was.content) (entries_of x.content)) (sym (stays ∙ same)) (kept-same (entries_of was.content))
+        | inl stays ↦ subst (λ (x : Living). KeepsEntries (entries_of was.content) (entries_of x.content))
+            (sym (stays ∙ same)) (kept-same (entries_of was.content))
         | inr t ↦ subst (λ (x : Living). KeepsEntries (entries_of x.content) (entries_of is.content)) same t.entries
       ]
 
   pub texts-continued : (old new : State) → Continues now old new → TextsFit old → TextsFit new
   texts-continued old new c fit n o text at is =
       let p = c.lived n o at in
-      fit n p.0 text p.1 (elim p.2 [ inl same ↦ ap (λ (x : Living). x.content) (sym same) ∙ is | inr t ↦ t.text text is ])
+      fit n p.0 text p.1 (elim p.2 [ inl same ↦ ap (λ (x : Living). x.content) (sym same)
+          ∙ is | inr t ↦ t.text text is ])
 
-module _ (now : Time) (old mid : State) (c : Continues now old mid) (number : ℕ) (was : Living) (at : get old.objects number ≡ Some was) where
+module _ (now : Time) (old mid : State) (c : Continues now old mid) (number : ℕ) (was : Living)
+    (at : get old.objects number ≡ Some was) where
   abbrev Lived : ℕ → Living → Type 0
   Lived n p = (q : Living) × (get old.objects n ≡ Some q) × ((p ≡ q) ⊎ Turns now q p)
 
@@ -88,10 +96,13 @@ module _ (now : Time) (old mid : State) (c : Continues now old mid) (number : �
     lived = λ n p there. elim (n == number) as (λ b. (n == number) ≡ b → Lived n p) [
       | true ↦ λ e.
           let is : n ≡ number = (unsigned_Decides n number).0 e in
-          let both : Some o ≡ Some p = sym (ap (get (with_object mid number o).objects) is ∙ differs-there mid.objects (with_object mid number o).objects number (Some o) (differs-insert mid.objects number o)) ∙ there in
+          let both : Some o ≡ Some p = sym (ap (get (with_object mid number o).objects) is
+              ∙ differs-there mid.objects (with_object mid number o).objects number (Some o)
+              (differs-insert mid.objects number o)) ∙ there in
           let new : o ≡ p = cc in
           (was, ap (get old.objects) is ∙ at, inr (subst (Turns now was) new turns))
-      | false ↦ λ e. c.lived n p (sym (differs-other mid.objects (with_object mid number o).objects number (Some o) (differs-insert mid.objects number o) n e) ∙ there)
+      | false ↦ λ e. c.lived n p (sym (differs-other mid.objects (with_object mid number o).objects number (Some o)
+          (differs-insert mid.objects number o) n e) ∙ there)
     ] refl;
   }
 
@@ -101,8 +112,12 @@ module _ (now : Time) (old mid : State) (c : Continues now old mid) (number : �
     lived = λ n p there. elim (n == number) as (λ b. (n == number) ≡ b → Lived n p) [
       | true ↦ λ e.
           let is : n ≡ number = (unsigned_Decides n number).0 e in
-          let none : get (without_object mid number).objects n ≡ None = ap (get (without_object mid number).objects) is ∙ differs-there mid.objects (without_object mid number).objects number None (differs-remove mid.objects number) in cc
-      | false ↦ λ e. c.lived n p (sym (differs-other mid.objects (without_object mid number).objects number None (differs-remove mid.objects number) n e) ∙ there)
+          let none : get (without_object mid number).objects n ≡ None = ap (get (without_object mid number).objects) is
+              ∙ differs-there mid.objects (without_object mid number).objects number None
+              (differs-remove mid.objects number) in cc
+      | false ↦ λ e. c.lived n p
+          (sym (differs-other mid.objects (without_object mid number).objects number None
+          (differs-remove mid.objects number) n e) ∙ there)
     ] refl;
   }
 
@@ -126,7 +141,8 @@ module _ (now : Time) (old mid : State) (c : Continues now old mid) (number : �
 
   pub continues-losing : (names : ℕ) → Continues now old (losing_name mid names now number was)
   continues-losing names =
-      elim (nat_le names 1) as (λ b. Continues now old (cond b (without_object mid number) (with_object mid number (touched was now)))) [
+      elim (nat_le names 1) as
+          (λ b. Continues now old (cond b (without_object mid number) (with_object mid number (touched was now)))) [
         | true ↦ continues-gone
         | false ↦ continues-touched
       ]
@@ -150,7 +166,8 @@ module _ (mid : State) (number : ℕ) (object : Living) (at : get mid.objects nu
         spent = λ n g e. e;
         keeps = record { exports = refl; last = refl };
       }) none_loose l)
-      (λ o there. (let nothing : get (without_object mid number).objects number ≡ None = differs-there mid.objects (without_object mid number).objects number None (differs-remove mid.objects number) in cc)))
+      (λ o there. (let nothing : get (without_object mid number).objects number ≡ None = differs-there mid.objects
+          (without_object mid number).objects number None (differs-remove mid.objects number) in cc)))
 
   stays : (now : Time) → 1 ≤ names_of mid number → Beside (with_object mid number (touched object now)) →
       WellFormed (with_object mid number (touched object now))

@@ -12,7 +12,8 @@ pub opening_numbers_fit : OpeningNumbersFit
 opening_numbers_fit exports moment few number generation l =
     elim (le_or number (length exports)) [
       | inl within ↦ (omega (arith, within, few), subst (λ g. g < 2 ^ 64) first (omega arith))
-      | inr above ↦ (let none : get (opening exports moment).objects number ≡ None = root_none (time_of moment) exports 1 number (inr (omega (arith, above))) in let both : Some l.object ≡ None = sym l.lives ∙ none in cc)
+      | inr above ↦ (let none : get (opening exports moment).objects number ≡ None = root_none (time_of moment) exports
+          1 number (inr (omega (arith, above))) in let both : Some l.object ≡ None = sym l.lives ∙ none in cc)
     ]
   where
     first : 1 ≡ generation

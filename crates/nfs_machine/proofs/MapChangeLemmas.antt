@@ -1,5 +1,7 @@
--- A finite map that differs from another at one key: sums over both, and what names in lists of entries that lose one or have no other.
-use Rattle.std.proofs.Common.{◌≡◌, ◌==◌, ℕ, ◌+◌, ◌<◌, ◌≤◌, Bool, true, false, cond, not, List, [], ◌∷◌, Option, Some, None, find, refl, sym, ◌∙◌, ap, subst, arith}
+-- A finite map that differs from another at one key: sums over both, and what names in lists of entries that lose one
+-- or have no other.
+use Rattle.std.proofs.Common.{◌≡◌, ◌==◌, ℕ, ◌+◌, ◌<◌, ◌≤◌, Bool, true, false, cond, not, List, [], ◌∷◌, Option, Some,
+    None, find, refl, sym, ◌∙◌, ap, subst, arith}
 use Rattle.std.proofs.lemmas.List.Sums.{sum_by-cons}
 use Rattle.std.proofs.lemmas.Cmp.{nat_list_eq_equiv}
 use Rattle.std.specs.Cmp.{nat_cmp_total, nat_eq_equiv, unsigned_Decides, unsigned_ties}
@@ -51,20 +53,24 @@ module _ {X : Type 0} (f : X → ℕ) where
   abbrev total : FinMap nat_cmp X → ℕ
   total m = sum_by f (values m)
 
-  sum-some : (old new : FinMap nat_cmp X) (k : ℕ) (w : X) → Differs old new k (Some w) → total new + weight f (get old k) ≡ total old + f w
+  sum-some : (old new : FinMap nat_cmp X) (k : ℕ) (w : X) → Differs old new k (Some w)
+      → total new + weight f (get old k) ≡ total old + f w
   sum-some old new k w differs =
-      let is : new ≡ insert old k w = same_map nat_cmp_total nat_cmp-IsAntisymmetric _ _ (λ q. differs q ∙ sym (get-inserted old k w q)) in
+      let is : new ≡ insert old k w = same_map nat_cmp_total nat_cmp-IsAntisymmetric _ _ (λ q. differs q
+          ∙ sym (get-inserted old k w q)) in
       let same : total new ≡ total (insert old k w) = ap total is in
       elim (get old k) as (λ o. get old k ≡ o → total new + weight f o ≡ total old + f w) [
         | None ↦ λ e. (let s = sum-insert_new f old k w e in omega (arith, same, s))
         | Some u ↦ λ e. (let s = sum-insert_old f old k u w e in omega (arith, same, s))
       ] refl
 
-  pub sum-differs : (old new : FinMap nat_cmp X) (k : ℕ) (v : Option X) → Differs old new k v → total new + weight f (get old k) ≡ total old + weight f v
+  pub sum-differs : (old new : FinMap nat_cmp X) (k : ℕ) (v : Option X) → Differs old new k v
+      → total new + weight f (get old k) ≡ total old + weight f v
   sum-differs old new k (Some w) differs = sum-some old new k w differs
   sum-differs old new k None differs =
       elim (get old k) as (λ o. get old k ≡ o → total new + weight f o ≡ total old + 0) [
-        | None ↦ λ e. (let same : total new ≡ total old = ap total (same_map nat_cmp_total nat_cmp-IsAntisymmetric _ _ (λ q. differs q ∙ none e q)) in omega (arith, same))
+        | None ↦ λ e. (let same : total new ≡ total old = ap total (same_map nat_cmp_total nat_cmp-IsAntisymmetric _ _
+            (λ q. differs q ∙ none e q)) in omega (arith, same))
         | Some u ↦ λ e. (let s = sum-some new old k u (back u e) in
             let gone : weight f (get new k) ≡ 0 = ap (weight f) (differs-there old new k None differs) in
             omega (arith, s, gone))
@@ -91,7 +97,8 @@ module _ {X : Type 0} (f : X → ℕ) where
 
 -- ---- lists of entries
 -- what is true of all is true of those that a test leaves
-pub all-filter : (P : Entry → Type 0) (p : Entry → Bool) (es : List Entry) → AllByRecursion P es → AllByRecursion P (filter p es)
+pub all-filter : (P : Entry → Type 0) (p : Entry → Bool) (es : List Entry) → AllByRecursion P es
+    → AllByRecursion P (filter p es)
 all-filter P p [] all = tt
 all-filter P p (e ∷ es) all =
     elim (p e) as (λ b. AllByRecursion P (cond b (e ∷ filter p es) (filter p es))) [
@@ -107,61 +114,79 @@ once-filter p (e ∷ es) once =
       | false ↦ once-filter p es once.1
     ]
 
-pub cookies-below : (low below last : ℕ) (es : List Entry) → low ≤ below → CookiesRise below es last → CookiesRise low es last
+pub cookies-below : (low below last : ℕ) (es : List Entry) → low ≤ below → CookiesRise below es last
+    → CookiesRise low es last
 cookies-below low below last [] less rise = omega (arith, less, rise)
-cookies-below low below last (e ∷ es) less rise = ((let first : below < e.cookie = rise.0 in omega (arith, less, first)), rise.1)
+cookies-below low below last (e ∷ es) less
+    rise = ((let first : below < e.cookie = rise.0 in omega (arith, less, first)), rise.1)
 
-pub cookies-filter : (p : Entry → Bool) (below last : ℕ) (es : List Entry) → CookiesRise below es last → CookiesRise below (filter p es) last
+pub cookies-filter : (p : Entry → Bool) (below last : ℕ) (es : List Entry) → CookiesRise below es last
+    → CookiesRise below (filter p es) last
 cookies-filter p below last [] rise = rise
 cookies-filter p below last (e ∷ es) rise =
     elim (p e) as (λ b. CookiesRise below (cond b (e ∷ filter p es) (filter p es)) last) [
       | true ↦ (rise.0, cookies-filter p e.cookie last es rise.1)
-      | false ↦ cookies-below below e.cookie last (filter p es) (let first : below < e.cookie = rise.0 in omega (arith, first)) (cookies-filter p e.cookie last es rise.1)
+      | false ↦ cookies-below below e.cookie last (filter p es) (let first : below < e.cookie = rise.0 in omega
+          (arith, first)) (cookies-filter p e.cookie last es rise.1)
     ]
 
 -- entries of other names stay
-others-stay : (name : List ℕ) (es : List Entry) → AllByRecursion (λ (f : Entry). same_bytes name f.name ≡ false) es → without es name ≡ es
+others-stay : (name : List ℕ) (es : List Entry) → AllByRecursion (λ (f : Entry). same_bytes name f.name ≡ false) es
+    → without es name ≡ es
 others-stay name [] other = refl
 others-stay name (e ∷ es) other =
-    ap (λ b. cond (not b) (e ∷ without es name) (without es name)) away ∙ ap (λ rest. e ∷ rest) (others-stay name es other.1)
+    ap (λ b. cond (not b) (e ∷ without es name) (without es name)) away
+        ∙ ap (λ rest. e ∷ rest) (others-stay name es other.1)
   where
     away : same_bytes e.name name ≡ false
     away = nat_list_eq_equiv.symm e.name name ∙ other.0
 
 -- without a name that no entry has
-pub without-absent : (name : List ℕ) (es : List Entry) → find (λ (e : Entry). same_bytes e.name name) es ≡ None → without es name ≡ es
+pub without-absent : (name : List ℕ) (es : List Entry) → find (λ (e : Entry). same_bytes e.name name) es ≡ None
+    → without es name ≡ es
 without-absent name [] absent = refl
 without-absent name (e ∷ es) absent =
-    elim (same_bytes e.name name) as (λ b. cond b (Some e) (find (λ (x : Entry). same_bytes x.name name) es) ≡ None → cond (not b) (e ∷ without es name) (without es name) ≡ e ∷ es) [
+    elim (same_bytes e.name name) as (λ b. cond b (Some e) (find (λ (x : Entry). same_bytes x.name name) es) ≡ None
+        → cond (not b) (e ∷ without es name) (without es name) ≡ e ∷ es) [
       | true ↦ λ none. cc
       | false ↦ λ none. ap (λ rest. e ∷ rest) (without-absent name es none)
     ] absent
 
 -- a name that is taken away had one entry
-pub count-without : (test : Entry → Bool) (name : List ℕ) (es : List Entry) (e : Entry) → NamesOnce es → find (λ (x : Entry). same_bytes x.name name) es ≡ Some e
+pub count-without : (test : Entry → Bool) (name : List ℕ) (es : List Entry) (e : Entry) → NamesOnce es
+    → find (λ (x : Entry). same_bytes x.name name) es ≡ Some e
     → count_by test (without es name) + cond (test e) 1 0 ≡ count_by test es
 count-without test name [] e once found = cc
 count-without test name (x ∷ es) e once found =
-    elim (same_bytes x.name name) as (λ b. same_bytes x.name name ≡ b → cond b (Some x) (find (λ (y : Entry). same_bytes y.name name) es) ≡ Some e
-    → count_by test (cond (not b) (x ∷ without es name) (without es name)) + cond (test e) 1 0 ≡ count_by test (x ∷ es)) [
+    elim (same_bytes x.name name) as (λ b. same_bytes x.name name ≡ b
+        → cond b (Some x) (find (λ (y : Entry). same_bytes y.name name) es) ≡ Some e
+    → count_by test (cond (not b) (x ∷ without es name) (without es name)) + cond (test e) 1 0 ≡ count_by test
+        (x ∷ es)) [
       | true ↦ λ here is.
           let same : x ≡ e = cc in
-          let rest : without es name ≡ es = others-stay name es (subst (λ n. AllByRecursion (λ (f : Entry). same_bytes n f.name ≡ false) es) ((bytes_decides x.name name).0 here) once.0) in
+          let rest : without es name ≡ es = others-stay name es
+              (subst (λ n. AllByRecursion (λ (f : Entry). same_bytes n f.name ≡ false) es)
+              ((bytes_decides x.name name).0 here) once.0) in
           let count : count_by test (without es name) ≡ count_by test es = ap (count_by test) rest in
-          let own : cond {A = ℕ} (test x) 1 0 ≡ cond (test e) 1 0 = ap (λ (y : Entry). cond {A = ℕ} (test y) 1 0) same in
+          let own : cond {A = ℕ} (test x) 1 0 ≡ cond (test e) 1 0 = ap (λ (y : Entry). cond {A = ℕ} (test y) 1 0)
+              same in
           omega (arith, count, own, sum_by-cons (λ (y : Entry). cond {A = ℕ} (test y) 1 0) x es)
       | false ↦ λ here is.
           let rest = count-without test name es e once.1 is in
-          omega (arith, rest, sum_by-cons (λ (y : Entry). cond {A = ℕ} (test y) 1 0) x es, sum_by-cons (λ (y : Entry). cond {A = ℕ} (test y) 1 0) x (without es name))
+          omega (arith, rest, sum_by-cons (λ (y : Entry). cond {A = ℕ} (test y) 1 0) x es, sum_by-cons
+              (λ (y : Entry). cond {A = ℕ} (test y) 1 0) x (without es name))
     ] refl found
 
 -- where no entry passes a test, each fails it
-pub none-passes : (test : Entry → Bool) (es : List Entry) → count_by test es ≡ 0 → AllByRecursion (λ (e : Entry). test e ≡ false) es
+pub none-passes : (test : Entry → Bool) (es : List Entry) → count_by test es ≡ 0
+    → AllByRecursion (λ (e : Entry). test e ≡ false) es
 none-passes test [] none = tt
 none-passes test (e ∷ es) none =
     elim (test e) as (λ b. test e ≡ b → AllByRecursion (λ (x : Entry). test x ≡ false) (e ∷ es)) [
-      | true ↦ λ t. (let one : cond {A = ℕ} (test e) 1 0 ≡ 1 = ap (λ b. cond b 1 0) t in absurd (omega (arith, one, none, sum_by-cons (λ (y : Entry). cond {A = ℕ} (test y) 1 0) e es)))
-      | false ↦ λ t. (t, none-passes test es (omega (arith, none, sum_by-cons (λ (y : Entry). cond {A = ℕ} (test y) 1 0) e es)))
+      | true ↦ λ t. (let one : cond {A = ℕ} (test e) 1 0 ≡ 1 = ap (λ b. cond b 1 0) t in absurd
+          (omega (arith, one, none, sum_by-cons (λ (y : Entry). cond {A = ℕ} (test y) 1 0) e es)))
+      | false ↦ λ t. (t, none-passes test es
+          (omega (arith, none, sum_by-cons (λ (y : Entry). cond {A = ℕ} (test y) 1 0) e es)))
     ] refl
 
 pub count-filter : (test p : Entry → Bool) (es : List Entry) → count_by test (filter p es) ≤ count_by test es
@@ -169,12 +194,14 @@ count-filter test p [] = omega arith
 count-filter test p (e ∷ es) =
     let rest = count-filter test p es in
     elim (p e) as (λ b. count_by test (cond b (e ∷ filter p es) (filter p es)) ≤ count_by test (e ∷ es)) [
-      | true ↦ omega (arith, rest, sum_by-cons (λ (y : Entry). cond {A = ℕ} (test y) 1 0) e es, sum_by-cons (λ (y : Entry). cond {A = ℕ} (test y) 1 0) e (filter p es))
+      | true ↦ omega (arith, rest, sum_by-cons (λ (y : Entry). cond {A = ℕ} (test y) 1 0) e es, sum_by-cons
+          (λ (y : Entry). cond {A = ℕ} (test y) 1 0) e (filter p es))
       | false ↦ omega (arith, rest, sum_by-cons (λ (y : Entry). cond {A = ℕ} (test y) 1 0) e es)
     ]
 
 -- what is true of all is true of what is found
-pub find-all : (P : Entry → Type 0) (test : Entry → Bool) (es : List Entry) (e : Entry) → AllByRecursion P es → find test es ≡ Some e → P e
+pub find-all : (P : Entry → Type 0) (test : Entry → Bool) (es : List Entry) (e : Entry) → AllByRecursion P es
+    → find test es ≡ Some e → P e
 find-all P test [] e all found = cc
 find-all P test (x ∷ es) e all found =
     elim (test x) as (λ b. cond b (Some x) (find test es) ≡ Some e → P e) [
@@ -186,7 +213,8 @@ find-all P test (x ∷ es) e all found =
 pub find-filter : (test p : Entry → Bool) (es : List Entry) → find test es ≡ None → find test (filter p es) ≡ None
 find-filter test p [] none = refl
 find-filter test p (x ∷ es) none =
-    elim (test x) as (λ b. test x ≡ b → cond b (Some x) (find test es) ≡ None → find test (cond (p x) (x ∷ filter p es) (filter p es)) ≡ None) [
+    elim (test x) as (λ b. test x ≡ b → cond b (Some x) (find test es) ≡ None
+        → find test (cond (p x) (x ∷ filter p es) (filter p es)) ≡ None) [
       | true ↦ λ t is. cc
       | false ↦ λ t is. elim (p x) as (λ b. find test (cond b (x ∷ filter p es) (filter p es)) ≡ None) [
         | true ↦ ap (λ b. cond b (Some x) (find test (filter p es))) t ∙ find-filter test p es is
@@ -195,12 +223,15 @@ find-filter test p (x ∷ es) none =
     ] refl none
 
 -- a name that was taken away is not there
-pub find-taken : (name : List ℕ) (es : List Entry) → find (λ (e : Entry). same_bytes e.name name) (without es name) ≡ None
+pub find-taken : (name : List ℕ) (es : List Entry)
+    → find (λ (e : Entry). same_bytes e.name name) (without es name) ≡ None
 find-taken name [] = refl
 find-taken name (e ∷ es) =
-    elim (same_bytes e.name name) as (λ b. same_bytes e.name name ≡ b → find (λ (x : Entry). same_bytes x.name name) (cond (not b) (e ∷ without es name) (without es name)) ≡ None) [
+    elim (same_bytes e.name name) as (λ b. same_bytes e.name name ≡ b
+        → find (λ (x : Entry). same_bytes x.name name) (cond (not b) (e ∷ without es name) (without es name)) ≡ None) [
       | true ↦ λ t. find-taken name es
-      | false ↦ λ t. ap (λ b. cond b (Some e) (find (λ (x : Entry). same_bytes x.name name) (without es name))) t ∙ find-taken name es
+      | false ↦ λ t. ap (λ b. cond b (Some e) (find (λ (x : Entry). same_bytes x.name name) (without es name))) t
+          ∙ find-taken name es
     ] refl
 
 -- another name is where it was
@@ -209,8 +240,10 @@ pub find-other : (other name : List ℕ) (es : List Entry) → same_bytes other 
 find-other other name [] apart = refl
 find-other other name (e ∷ es) apart =
     elim (same_bytes e.name name) as (λ b. same_bytes e.name name ≡ b
-    → find (λ (x : Entry). same_bytes x.name other) (cond (not b) (e ∷ without es name) (without es name)) ≡ find (λ (x : Entry). same_bytes x.name other) (e ∷ es)) [
-      | true ↦ λ t. find-other other name es apart ∙ sym (ap (λ b. cond b (Some e) (find (λ (x : Entry). same_bytes x.name other) es)) (not-other t))
+    → find (λ (x : Entry). same_bytes x.name other) (cond (not b) (e ∷ without es name) (without es name)) ≡ find
+        (λ (x : Entry). same_bytes x.name other) (e ∷ es)) [
+      | true ↦ λ t. find-other other name es apart
+          ∙ sym (ap (λ b. cond b (Some e) (find (λ (x : Entry). same_bytes x.name other) es)) (not-other t))
       | false ↦ λ t. ap (cond (same_bytes e.name other) (Some e)) (find-other other name es apart)
     ] refl
   where
@@ -218,6 +251,7 @@ find-other other name (e ∷ es) apart =
     not-other t =
         let is : e.name ≡ name = (bytes_decides e.name name).0 t in
         elim (same_bytes e.name other) as (λ b. same_bytes e.name other ≡ b → b ≡ false) [
-          | true ↦ λ u. (let both : other ≡ name = sym ((bytes_decides e.name other).0 u) ∙ is in let no : true ≡ false = sym ((bytes_decides other name).1 both) ∙ apart in cc)
+          | true ↦ λ u. (let both : other ≡ name = sym ((bytes_decides e.name other).0 u)
+              ∙ is in let no : true ≡ false = sym ((bytes_decides other name).1 both) ∙ apart in cc)
           | false ↦ λ u. refl
         ] refl

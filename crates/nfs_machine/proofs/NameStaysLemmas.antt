@@ -1,5 +1,7 @@
--- A name that leads to one object in each state of a chain keeps its entry; and of what pages show, its entry alone has it.
-use Rattle.std.proofs.Common.{◌≡◌, ◌==◌, ℕ, ◌<◌, ◌≤◌, Bool, true, false, cond, List, [], ◌∷◌, ◌++◌, Option, Some, None, option_map, refl, sym, ◌∙◌, ap, subst, arith}
+-- A name that leads to one object in each state of a chain keeps its entry; and of what pages show, its entry alone has
+-- it.
+use Rattle.std.proofs.Common.{◌≡◌, ◌==◌, ℕ, ◌<◌, ◌≤◌, Bool, true, false, cond, List, [], ◌∷◌, ◌++◌, Option, Some, None,
+    option_map, refl, sym, ◌∙◌, ap, subst, arith}
 use Rattle.std.proofs.lemmas.Bool.{ne_eqb}
 use Rattle.std.proofs.lemmas.List.Elements.{Contains-append_right}
 use Rattle.std.proofs.lemmas.List.Sums.{sum_by-cons}
@@ -35,15 +37,20 @@ pub record Entered (m : State) (directory : ℕ) (name : List ℕ) (target : ℕ
   pub leads : entry.number ≡ target
   pub at : EntryAt m directory name entry
 
-pub entered : (m : State) (directory : ℕ) (name : List ℕ) (target : ℕ) → named_in m directory name ≡ Some target → Entered m directory name target
+pub entered : (m : State) (directory : ℕ) (name : List ℕ) (target : ℕ) → named_in m directory name ≡ Some target
+    → Entered m directory name target
 entered m directory name target is = there (get m.objects directory) refl is
   where
-    under : (o : Living) → get m.objects directory ≡ Some o → (x : Option Entry) → entry_of (entries_of o.content) name ≡ x → option_map (λ (e : Entry). e.number) x ≡ Some target → Entered m directory name target
+    under : (o : Living) → get m.objects directory ≡ Some o → (x : Option Entry)
+        → entry_of (entries_of o.content) name ≡ x → option_map (λ (e : Entry). e.number) x ≡ Some target
+        → Entered m directory name target
     under o lives None found is = cc
-    under o lives (Some e) found is = (let same : e.number ≡ target = cc in record { entry = e; leads = same; at = record { object = o; lives = lives; found = found } })
+    under o lives (Some e) found is = (let same : e.number ≡ target = cc in record
+        { entry = e; leads = same; at = record { object = o; lives = lives; found = found } })
 
     there : (x : Option Living) → get m.objects directory ≡ x
-        → elim x as (λ (_ : Option Living). Option ℕ) [ None ↦ None | Some o ↦ option_map (λ (e : Entry). e.number) (entry_of (entries_of o.content) name) ] ≡ Some target → Entered m directory name target
+        → elim x as (λ (_ : Option Living). Option ℕ) [ None ↦ None | Some o ↦ option_map (λ (e : Entry). e.number)
+            (entry_of (entries_of o.content) name) ] ≡ Some target → Entered m directory name target
     there None lives is = cc
     there (Some o) lives is = under o lives (entry_of (entries_of o.content) name) refl is
 
@@ -79,41 +86,51 @@ module _ (directory : ℕ) (name : List ℕ) (target : ℕ) where
 abbrev pub IsOnly : List ℕ → Entry → Entry → Type 0
 IsOnly name e x = same_bytes x.name name ≡ (x.cookie == e.cookie)
 
-pub found-above : (b : ℕ) (es : List Entry) (name : List ℕ) (e : Entry) → Rises b es → entry_of es name ≡ Some e → b < e.cookie
+pub found-above : (b : ℕ) (es : List Entry) (name : List ℕ) (e : Entry) → Rises b es → entry_of es name ≡ Some e
+    → b < e.cookie
 found-above b [] name e rises found = cc
 found-above b (x ∷ es) name e rises found =
     elim (same_bytes x.name name) as (λ t. cond t (Some x) (entry_of es name) ≡ Some e → b < e.cookie) [
       | true ↦ λ is. (let same : x ≡ e = cc in subst (λ (y : Entry). b < y.cookie) same rises.0)
-      | false ↦ λ is. (let above = found-above x.cookie es name e rises.1 is in let first_above = rises.0 in omega (arith, first_above, above))
+      | false ↦ λ is. (let above = found-above x.cookie es name e rises.1 is in let first_above = rises.0 in omega
+          (arith, first_above, above))
     ] found
 
-pub found-name : (es : List Entry) (name : List ℕ) (e : Entry) → entry_of es name ≡ Some e → same_bytes e.name name ≡ true
+pub found-name : (es : List Entry) (name : List ℕ) (e : Entry) → entry_of es name ≡ Some e
+    → same_bytes e.name name ≡ true
 found-name [] name e found = cc
 found-name (x ∷ es) name e found =
-    elim (same_bytes x.name name) as (λ t. same_bytes x.name name ≡ t → cond t (Some x) (entry_of es name) ≡ Some e → same_bytes e.name name ≡ true) [
+    elim (same_bytes x.name name) as (λ t. same_bytes x.name name ≡ t → cond t (Some x) (entry_of es name) ≡ Some e
+        → same_bytes e.name name ≡ true) [
       | true ↦ λ t is. (let same : x ≡ e = cc in subst (λ (y : Entry). same_bytes y.name name ≡ true) same t)
       | false ↦ λ t is. found-name es name e is
     ] refl found
 
-others : (b : ℕ) (es : List Entry) (e : Entry) → e.cookie ≤ b → Rises b es → AllByRecursion (λ (f : Entry). same_bytes e.name f.name ≡ false) es → AllByRecursion (IsOnly e.name e) es
+others : (b : ℕ) (es : List Entry) (e : Entry) → e.cookie ≤ b → Rises b es
+    → AllByRecursion (λ (f : Entry). same_bytes e.name f.name ≡ false) es → AllByRecursion (IsOnly e.name e) es
 others b [] e less rises apart = tt
 others b (x ∷ es) e less rises apart =
     let above = rises.0 in (
-      nat_list_eq_equiv.symm x.name e.name ∙ apart.0 ∙ sym (ne_eqb x.cookie e.cookie (λ same. omega (arith, same, less, above))),
+      nat_list_eq_equiv.symm x.name e.name ∙ apart.0
+          ∙ sym (ne_eqb x.cookie e.cookie (λ same. omega (arith, same, less, above))),
       others x.cookie es e (omega (arith, less, above)) rises.1 apart.1,
     )
 
-pub only : (b : ℕ) (es : List Entry) (name : List ℕ) (e : Entry) → Rises b es → NamesOnce es → entry_of es name ≡ Some e → AllByRecursion (IsOnly name e) es
+pub only : (b : ℕ) (es : List Entry) (name : List ℕ) (e : Entry) → Rises b es → NamesOnce es → entry_of es name ≡ Some e
+    → AllByRecursion (IsOnly name e) es
 only b [] name e rises once found = tt
 only b (x ∷ es) name e rises once found =
-    elim (same_bytes x.name name) as (λ t. same_bytes x.name name ≡ t → cond t (Some x) (entry_of es name) ≡ Some e → AllByRecursion (IsOnly name e) (x ∷ es)) [
+    elim (same_bytes x.name name) as (λ t. same_bytes x.name name ≡ t → cond t (Some x) (entry_of es name) ≡ Some e
+        → AllByRecursion (IsOnly name e) (x ∷ es)) [
       | true ↦ λ t is.
           let same : x ≡ e = cc in
           subst (λ (y : Entry). AllByRecursion (IsOnly name y) (x ∷ es)) same
-          (t ∙ sym (itself x.cookie), subst (λ n. AllByRecursion (IsOnly n x) es) ((bytes_decides x.name name).0 t) (others x.cookie es x (omega arith) rises.1 once.0))
+          (t ∙ sym (itself x.cookie), subst (λ n. AllByRecursion (IsOnly n x) es) ((bytes_decides x.name name).0 t)
+              (others x.cookie es x (omega arith) rises.1 once.0))
       | false ↦ λ t is.
           let above = found-above x.cookie es name e rises.1 is in
-          (t ∙ sym (ne_eqb x.cookie e.cookie (λ same. omega (arith, same, above))), only x.cookie es name e rises.1 once.1 is)
+          (t ∙ sym (ne_eqb x.cookie e.cookie (λ same. omega (arith, same, above))), only x.cookie es name e rises.1
+              once.1 is)
     ] refl found
 
 pub found-in : (es : List Entry) (name : List ℕ) (e : Entry) → entry_of es name ≡ Some e → Contains es e
@@ -129,7 +146,8 @@ all-front : (P : Entry → Type 0) (xs ys : List Entry) → AllByRecursion P (xs
 all-front P [] ys all = tt
 all-front P (x ∷ xs) ys all = (all.0, all-front P xs ys all.1)
 
-all-both : (P : Entry → Type 0) (xs ys : List Entry) → AllByRecursion P xs → AllByRecursion P ys → AllByRecursion P (xs ++ ys)
+all-both : (P : Entry → Type 0) (xs ys : List Entry) → AllByRecursion P xs → AllByRecursion P ys
+    → AllByRecursion P (xs ++ ys)
 all-both P [] ys all more = more
 all-both P (x ∷ xs) ys all more = (all.0, all-both P xs ys all.1 more)
 
@@ -137,18 +155,23 @@ module _ (P : Entry → Type 0) where
   page-all : (c : ℕ) (v : Visit) → IsVisit c v → AllByRecursion P v.entries → AllByRecursion P v.page
   page-all c v is all = all-front P v.page is.0 (subst (AllByRecursion P) is.1.0 (all-filter P _ v.entries all))
 
-  pub shown-all : (c : ℕ) (visits : List Visit) → ReadsOn c visits → AllByRecursion (λ (v : Visit). AllByRecursion P v.entries) visits → AllByRecursion P (shown_by visits)
+  pub shown-all : (c : ℕ) (visits : List Visit) → ReadsOn c visits
+      → AllByRecursion (λ (v : Visit). AllByRecursion P v.entries) visits → AllByRecursion P (shown_by visits)
   shown-all c [] on all = tt
   shown-all c (v ∷ []) on all = all-both P v.page [] (page-all c v on.0 all.0) tt
-  shown-all c (v ∷ w ∷ visits) on all = all-both P v.page (shown_by (w ∷ visits)) (page-all c v on.0 all.0) (shown-all (next_cookie c v.page) (w ∷ visits) on.2 all.1)
+  shown-all c (v ∷ w ∷ visits) on all = all-both P v.page (shown_by (w ∷ visits)) (page-all c v on.0 all.0)
+      (shown-all (next_cookie c v.page) (w ∷ visits) on.2 all.1)
 
-pub count-same : (p q : Entry → Bool) (es : List Entry) → AllByRecursion (λ (x : Entry). p x ≡ q x) es → count_by p es ≡ count_by q es
+pub count-same : (p q : Entry → Bool) (es : List Entry) → AllByRecursion (λ (x : Entry). p x ≡ q x) es
+    → count_by p es ≡ count_by q es
 count-same p q [] all = refl
 count-same p q (x ∷ es) all =
     let rest = count-same p q es all.1 in
     let here : cond {A = ℕ} (p x) 1 0 ≡ cond {A = ℕ} (q x) 1 0 = ap (λ b. cond {A = ℕ} b 1 0) all.0 in
-    omega (arith, rest, here, sum_by-cons (λ (y : Entry). cond {A = ℕ} (p y) 1 0) x es, sum_by-cons (λ (y : Entry). cond {A = ℕ} (q y) 1 0) x es)
+    omega (arith, rest, here, sum_by-cons (λ (y : Entry). cond {A = ℕ} (p y) 1 0) x es, sum_by-cons
+        (λ (y : Entry). cond {A = ℕ} (q y) 1 0) x es)
 
-pub all-map : {A : Type 0} (P Q : A → Type 0) → ((x : A) → P x → Q x) → (xs : List A) → AllByRecursion P xs → AllByRecursion Q xs
+pub all-map : {A : Type 0} (P Q : A → Type 0) → ((x : A) → P x → Q x) → (xs : List A) → AllByRecursion P xs
+    → AllByRecursion Q xs
 all-map P Q f [] all = tt
 all-map P Q f (x ∷ xs) all = (f x all.0, all-map P Q f xs all.1)

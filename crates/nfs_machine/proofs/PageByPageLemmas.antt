@@ -1,7 +1,9 @@
 -- A directory that is read page by page shows each entry that stayed, once.
-use Rattle.std.proofs.Common.{◌≡◌, ◌==◌, ℕ, suc, ◌+◌, ◌<◌, ◌≤◌, true, false, cond, List, [], ◌∷◌, ◌++◌, nat_lt, ◌⊎◌, inl, inr, refl, sym, ◌∙◌, ap, subst, arith}
+use Rattle.std.proofs.Common.{◌≡◌, ◌==◌, ℕ, suc, ◌+◌, ◌<◌, ◌≤◌, true, false, cond, List, [], ◌∷◌, ◌++◌, nat_lt, ◌⊎◌,
+    inl, inr, refl, sym, ◌∙◌, ap, subst, arith}
 use Rattle.std.proofs.lemmas.Bool.{both_ways, leb-true, le-leb, ne_eqb}
-use Rattle.std.proofs.lemmas.List.Elements.{Contains-append_cases, Contains-append_left, Contains-append_right, Contains-push_cases}
+use Rattle.std.proofs.lemmas.List.Elements.{Contains-append_cases, Contains-append_left, Contains-append_right,
+    Contains-push_cases}
 use Rattle.std.proofs.lemmas.List.Sums.{sum_by-cons}
 use Rattle.std.specs.Cmp.{unsigned_Decides}
 use Rattle.std.specs.List.{Contains, count_by}
@@ -79,7 +81,8 @@ left c (x ∷ es) e lt at =
         | inr more ↦ Contains-append_right (x ∷ []) (behind c es) e (left c es e lt more)
       ]
       | false ↦ λ is. elim (cases x es e at) [
-        | inl same ↦ (let passes = le-leb (suc c) x.cookie (subst (λ (y : Entry). suc c ≤ y.cookie) (sym same) (omega (arith, lt))) in absurd (both_ways (nat_lt c x.cookie) is passes))
+        | inl same ↦ (let passes = le-leb (suc c) x.cookie (subst (λ (y : Entry). suc c ≤ y.cookie) (sym same)
+            (omega (arith, lt))) in absurd (both_ways (nat_lt c x.cookie) is passes))
         | inr more ↦ left c es e lt more
       ]
     ] refl
@@ -92,12 +95,14 @@ pages-rise c (v ∷ []) order on =
     rises-both c v.page [] (rises-front c v.page on.0.0 whole) tt
 pages-rise c (v ∷ w ∷ visits) order on =
     let whole = subst (Rises c) on.0.1.0 (behind-rises 0 c v.entries order.0) in
-    rises-both c v.page (shown_by (w ∷ visits)) (rises-front c v.page on.0.0 whole) (pages-rise (next_cookie c v.page) (w ∷ visits) order.1 on.2)
+    rises-both c v.page (shown_by (w ∷ visits)) (rises-front c v.page on.0.0 whole)
+        (pages-rise (next_cookie c v.page) (w ∷ visits) order.1 on.2)
 
 none-left : (es : List Entry) (e : Entry) → are_none es ≡ true → Contains es e → ⊥
 none-left es e is at = nowhere e (subst (λ l. Contains l e) (no-entry es is) at)
 
-shows : (c : ℕ) (visits : List Visit) (e : Entry) → InOrder visits → ReadsOn c visits → IsAtEach visits e → c < e.cookie → Contains (shown_by visits) e
+shows : (c : ℕ) (visits : List Visit) (e : Entry) → InOrder visits → ReadsOn c visits → IsAtEach visits e → c < e.cookie
+    → Contains (shown_by visits) e
 shows c [] e order on stays lt = absurd on
 shows c (v ∷ []) e order on stays lt =
     let here = subst (λ es. Contains es e) on.0.1.0 (left c v.entries e lt stays.0) in
@@ -111,7 +116,8 @@ shows c (v ∷ w ∷ visits) e order on stays lt =
     elim (Contains-append_cases v.page on.0.0 e here) [
       | inl in_page ↦ Contains-append_left v.page (shown_by (w ∷ visits)) e in_page
       | inr in_rest ↦ Contains-append_right v.page (shown_by (w ∷ visits)) e
-          (shows (next_cookie c v.page) (w ∷ visits) e order.1 on.2 stays.1 (above-all (next_cookie c v.page) on.0.0 e (rises-rest c v.page on.0.0 whole) in_rest))
+          (shows (next_cookie c v.page) (w ∷ visits) e order.1 on.2 stays.1 (above-all (next_cookie c v.page) on.0.0 e
+              (rises-rest c v.page on.0.0 whole) in_rest))
     ]
 
 -- ---- once
@@ -134,7 +140,8 @@ one b (x ∷ es) e h at =
     elim (cases x es e at) [
       | inl same ↦ (
           let cookie = ap (λ (y : Entry). y.cookie) same in
-          let here : cond {A = ℕ} (x.cookie == e.cookie) 1 0 ≡ 1 = ap (λ t. cond t 1 0) ((unsigned_Decides x.cookie e.cookie).1 cookie) in
+          let here : cond {A = ℕ} (x.cookie == e.cookie) 1 0 ≡ 1 = ap (λ t. cond t 1 0)
+              ((unsigned_Decides x.cookie e.cookie).1 cookie) in
           omega (arith, counted e.cookie x es, here, none-below e.cookie x.cookie es (omega (arith, cookie)) h.1)
           )
       | inr more ↦ (

@@ -1,4 +1,5 @@
--- What each procedure that changes names or objects leaves: handles are given once, and what is true of every state stays true.
+-- What each procedure that changes names or objects leaves: handles are given once, and what is true of every state
+-- stays true.
 use Rattle.std.proofs.Common.{◌≡◌, ◌==◌, ℕ, ◌+◌, ◌<◌, ◌≤◌, ◌^◌, Bool, true, false, not}
 use Rattle.std.proofs.Common.{◌&&◌, ◌||◌, cond, List, [], Option, Some, None, Result, Ok, Err, IfOk, IfSome}
 use Rattle.std.proofs.Common.{find, is_ok, length, take, nat_le, nat_lt, ◌⊎◌, inl, inr, refl, sym, ◌∙◌}
@@ -22,7 +23,8 @@ use Rattle.nfs_machine.specs.LocksFormed.{NoConflict, NoLocksConflict, NoSharesC
 use Rattle.nfs_machine.specs.Answers.{state_after}
 use Rattle.nfs_machine.specs.Attributes.{entries_of, is_directory, links_of}
 use Rattle.nfs_machine.specs.Bytes.{same_bytes}
-use Rattle.nfs_machine.specs.Checks.{◌>>=◌, holding, object_of, entries_in, bytes_in, plain_name_checked, changeable, permitted, entry_of}
+use Rattle.nfs_machine.specs.Checks.{◌>>=◌, holding, object_of, entries_in, bytes_in, plain_name_checked, changeable,
+    permitted, entry_of}
 use Rattle.nfs_machine.specs.Data.{size_limit, resized, written}
 use Rattle.nfs_machine.specs.DataSteps.{WriteEnd, write_count, write_object}
 use Rattle.nfs_machine.specs.Grants.{AllHeldUp, FileWaits}
@@ -51,7 +53,8 @@ use Rattle.nfs_machine.proofs.NewObjectLemmas.{MakesEntry, names_of-kept, well_f
 use Rattle.nfs_machine.specs.DataSteps.{write_end}
 use Rattle.nfs_machine.proofs.ChecksPassedLemmas.{chained-is, is-directory, is-regular, resolved-lives}
 use Rattle.nfs_machine.proofs.FileMapLemmas.{each-with, of-other, of-with}
-use Rattle.nfs_machine.proofs.FirmLemmas.{FilesOn, Firm, firm-losing, firm-of, firm-on, formed-of, put-directory, put-new}
+use Rattle.nfs_machine.proofs.FirmLemmas.{FilesOn, Firm, firm-losing, firm-of, firm-on, formed-of, put-directory,
+    put-new}
 use Rattle.nfs_machine.proofs.FirmLemmas.{put-over}
 use Rattle.nfs_machine.proofs.LooseLemmas.{Beside, well_formed-alike}
 use Rattle.nfs_machine.proofs.LinkTextLemmas.{texts-put}
@@ -152,9 +155,11 @@ bounds-losing m names now number o fit =
       | false ↦ fit
     ]
 
-pub mounts-losing : (m : State) (names : ℕ) (now : Time) (number : ℕ) (o : Living) → (losing_name m names now number o).mounts ≡ m.mounts
+pub mounts-losing : (m : State) (names : ℕ) (now : Time) (number : ℕ) (o : Living)
+    → (losing_name m names now number o).mounts ≡ m.mounts
 mounts-losing m names now number o =
-    elim (nat_le names 1) as (λ b. (cond b (without_object m number) (with_object m number (touched o now))).mounts ≡ m.mounts) [ true ↦ refl | false ↦ refl ]
+    elim (nat_le names 1) as (λ b. (cond b (without_object m number) (with_object m number (touched o now))).mounts ≡
+        m.mounts) [ true ↦ refl | false ↦ refl ]
 
 pub exports-losing : (m : State) (names : ℕ) (now : Time) (number : ℕ) (o : Living) →
     KeepsExports m (losing_name m names now number o)
@@ -179,7 +184,8 @@ follows-itself now m =
       bounds = λ h. h;
     }
 
-pub follows-after : {A : Type 0} (now : Time) (old : State) (end : Result (A × State) NfsStatus) → IfOk end (λ e. Follows now old e.1) → Follows now old (state_after old end)
+pub follows-after : {A : Type 0} (now : Time) (old : State) (end : Result (A × State) NfsStatus)
+    → IfOk end (λ e. Follows now old e.1) → Follows now old (state_after old end)
 follows-after now old (Ok end) f = f
 follows-after now old (Err e) f = follows-itself now old
 
@@ -194,7 +200,8 @@ pub record Alters (now : Time) (was is : Living) : Type 0 where
   pub turns : Turns now was is
   pub regular : is_ok (bytes_in was.content) ≡ true → is_ok (bytes_in is.content) ≡ true
 
-pub follows-altered : (now : Time) (m : State) (number : ℕ) (was is : Living) → get m.objects number ≡ Some was → Alters now was is → Follows now m (with_object m number is)
+pub follows-altered : (now : Time) (m : State) (number : ℕ) (was is : Living) → get m.objects number ≡ Some was
+    → Alters now was is → Follows now m (with_object m number is)
 follows-altered now m number was is lives alters =
     let c = continues-over now m m (continues-itself now m) number was lives is alters.turns in
     let locks = locks-on m (insert m.objects number is) m.spent
@@ -214,13 +221,16 @@ follows-altered now m number was is lives alters =
       bounds = λ h. h;
     }
 
-follows-replaced : (now : Time) (m : State) (number : ℕ) (was : Living) (is : Option Living) → get m.objects number ≡ Some was → IfSome is (Alters now was) → Follows now m (replaced m number is)
+follows-replaced : (now : Time) (m : State) (number : ℕ) (was : Living) (is : Option Living)
+    → get m.objects number ≡ Some was → IfSome is (Alters now was) → Follows now m (replaced m number is)
 follows-replaced now m number was None lives alters = follows-itself now m
 follows-replaced now m number was (Some o) lives alters = follows-altered now m number was o lives alters
 
-alters-regular : (o : Living) (now : Time) (bytes : List ℕ) → is_directory o.content ≡ false → Alters now o (with_content o now (Regular bytes))
+alters-regular : (o : Living) (now : Time) (bytes : List ℕ) → is_directory o.content ≡ false
+    → Alters now o (with_content o now (Regular bytes))
 alters-regular o now bytes plain = record {
-  keeps = record { export = refl; generation = refl; kind = sym plain; content = λ e. (let no : true ≡ false = sym e ∙ plain in cc) };
+  keeps = record { export = refl; generation = refl; kind = sym plain; content = λ e. (let no : true ≡ false = sym e
+      ∙ plain in cc) };
   turns = record {
     generation = refl;
     kind = sym plain;
@@ -241,17 +251,23 @@ module _ (m : State) (ctx : Ctx) where
       (λ bytes is. chained-is P (holding (a.count == length a.«data») status.Invalid) _
       (λ x1 e1. chained-is P (changeable m.exports file) _
       (λ x2 e2. chained-is P (permitted ctx file ToWrite) _ (λ x3 e3.
-      chained-is P (holding ((write_count a == 0) || nat_le (a.offset + write_count a) size_limit) status.FileTooBig) _ (λ x4 e4.
-      of (is-regular file.content bytes is) (write_count a == 0) (written bytes a.offset (take (write_count a) a.«data»)))))))
+      chained-is P (holding ((write_count a == 0) || nat_le (a.offset + write_count a) size_limit) status.FileTooBig) _
+          (λ x4 e4.
+      of (is-regular file.content bytes is) (write_count a == 0)
+          (written bytes a.offset (take (write_count a) a.«data»)))))))
     where
-      of : is_directory file.content ≡ false → (b : Bool) (bytes : List ℕ) → IfSome (cond b None (Some (with_content file (time_of ctx.moment) (Regular bytes)))) (Alters (time_of ctx.moment) file)
+      of : is_directory file.content ≡ false → (b : Bool) (bytes : List ℕ)
+          → IfSome (cond b None (Some (with_content file (time_of ctx.moment) (Regular bytes))))
+          (Alters (time_of ctx.moment) file)
       of plain true bytes = tt
       of plain false bytes = alters-regular file (time_of ctx.moment) bytes plain
 
   pub write-follows : (a : WriteArguments) → IfOk (write_end m ctx a) (λ e. Follows (time_of ctx.moment) m e.1)
   write-follows a =
-      chained-is (λ (e : Written × State). Follows (time_of ctx.moment) m e.1) (object_of (resolve m ctx a.file)) _ (λ file at.
-      chained-is (λ (e : Written × State). Follows (time_of ctx.moment) m e.1) (write_object m.exports ctx file.object a) _
+      chained-is (λ (e : Written × State). Follows (time_of ctx.moment) m e.1) (object_of (resolve m ctx a.file)) _
+          (λ file at.
+      chained-is (λ (e : Written × State). Follows (time_of ctx.moment) m e.1)
+          (write_object m.exports ctx file.object a) _
       (λ end is.
       follows-replaced (time_of ctx.moment) m file.number file.object end.after (resolved-lives m ctx a.file file at)
       (of-ok (λ (e : WriteEnd). IfSome e.after (Alters (time_of ctx.moment) file.object))
@@ -262,21 +278,28 @@ module _ (m : State) (ctx : Ctx) where
   EndFollows (Known answer new) = Follows (time_of ctx.moment) m new
   EndFollows (Chosen makes shows) = (fresh : Fresh m) → Follows (time_of ctx.moment) m (makes fresh.choice).1
 
-  pub ends-follow : (r : Result (End m) NfsStatus) (end : Result (Made × State) NfsStatus) → EndsAs m r end → IfOk r EndFollows → IfOk end (λ e. Follows (time_of ctx.moment) m e.1)
-  ends-follow (Ok (Known answer new)) end is follows = subst (λ (r : Result (Made × State) NfsStatus). IfOk r (λ e. Follows (time_of ctx.moment) m e.1)) (sym is) follows
+  pub ends-follow : (r : Result (End m) NfsStatus) (end : Result (Made × State) NfsStatus) → EndsAs m r end
+      → IfOk r EndFollows → IfOk end (λ e. Follows (time_of ctx.moment) m e.1)
+  ends-follow (Ok (Known answer new)) end is follows = subst (λ (r : Result (Made × State) NfsStatus). IfOk r
+      (λ e. Follows (time_of ctx.moment) m e.1)) (sym is) follows
   ends-follow (Ok (Chosen makes shows)) end (fresh, is) follows = subst
       (λ (r : Result (Made × State) NfsStatus). IfOk r (λ e. Follows (time_of ctx.moment) m e.1)) (sym is)
       (follows fresh)
-  ends-follow (Err e) end is follows = subst (λ (r : Result (Made × State) NfsStatus). IfOk r (λ e. Follows (time_of ctx.moment) m e.1)) (sym is) tt
+  ends-follow (Err e) end is follows = subst (λ (r : Result (Made × State) NfsStatus). IfOk r
+      (λ e. Follows (time_of ctx.moment) m e.1)) (sym is) tt
 
   -- the text of a link was checked
-  text-within : (links : ℕ) (c : Content) (x : Unit {0}) → kind_checked ctx links c ≡ Ok x → (t : List ℕ) → c ≡ Link t → length t ≤ 4096
+  text-within : (links : ℕ) (c : Content) (x : Unit {0}) → kind_checked ctx links c ≡ Ok x → (t : List ℕ) → c ≡ Link t
+      → length t ≤ 4096
   text-within links (Link text) x is t e =
       let same : text ≡ t = cc in
-      subst (λ (s : List ℕ). length s ≤ 4096) same (of-ok (λ _. length text ≤ 4096) (kind_checked ctx links (Link text)) x is
-      (chained-is (λ _. length text ≤ 4096) (holding (nat_le 1 (length text) && not (list_any (λ b. b == 0) text)) status.Invalid) _ (λ x1 e1. short text (nat_le (length text) 4096) refl)))
+      subst (λ (s : List ℕ). length s ≤ 4096) same
+          (of-ok (λ _. length text ≤ 4096) (kind_checked ctx links (Link text)) x is
+      (chained-is (λ _. length text ≤ 4096) (holding (nat_le 1 (length text) && not (list_any (λ b. b == 0) text))
+          status.Invalid) _ (λ x1 e1. short text (nat_le (length text) 4096) refl)))
     where
-      short : (text : List ℕ) (b : Bool) → nat_le (length text) 4096 ≡ b → IfOk (holding b status.NameTooLong) (λ _. length text ≤ 4096)
+      short : (text : List ℕ) (b : Bool) → nat_le (length text) 4096 ≡ b
+          → IfOk (holding b status.NameTooLong) (λ _. length text ≤ 4096)
       short text true e = leb-true (length text) 4096 e
       short text false e = tt
   text-within links other x is t e = cc
@@ -287,7 +310,8 @@ module _ (m : State) (ctx : Ctx) where
     pub cookies : (last : ℕ) → wanted.content ≡ Directory [] last → 2 ≤ last
 
   module _ (name : List ℕ) (wanted : Wanted) (number : ℕ) (directory : Living) (entries : List Entry) (last : ℕ)
-      (lives : get m.objects number ≡ Some directory) (content : directory.content ≡ Directory entries last) (none : find (λ (x : Entry). same_bytes x.name name) entries ≡ None) (plain : Plain wanted)
+      (lives : get m.objects number ≡ Some directory) (content : directory.content ≡ Directory entries last)
+          (none : find (λ (x : Entry). same_bytes x.name name) entries ≡ None) (plain : Plain wanted)
       (text : (t : List ℕ) → wanted.content ≡ Link t → length t ≤ 4096) where
     module _ (fresh : Fresh m) where
       abbrev wider : Living
@@ -300,14 +324,16 @@ module _ (m : State) (ctx : Ctx) where
       new = record (with_object (with_object m number wider) fresh.number o) { spent = fresh.spent }
 
       keeps : KeepsEntries (entries_of directory.content) (entries_of (with_entry entries last name fresh.number))
-      keeps = kept-of directory.content entries _ last content (kept-added entries entries _ (kept-same entries) (λ e there same. cc))
+      keeps = kept-of directory.content entries _ last content (kept-added entries entries _ (kept-same entries)
+          (λ e there same. cc))
 
       wide : Continues (time_of ctx.moment) m (with_object m number wider)
       wide = continues-with (time_of ctx.moment) m m (continues-itself (time_of ctx.moment) m) number directory lives
           (ap is_directory content) _ _ keeps
 
       other : (n : ℕ) → (n == fresh.number) ≡ false → get new.objects n ≡ get (with_object m number wider).objects n
-      other n e = differs-other (with_object m number wider).objects new.objects fresh.number (Some o) (differs-insert (with_object m number wider).objects fresh.number o) n e
+      other n e = differs-other (with_object m number wider).objects new.objects fresh.number (Some o)
+          (differs-insert (with_object m number wider).objects fresh.number o) n e
 
       abbrev Given : ℕ → ℕ → Type 0
       Given n g = LivesAs m n g ⊎ ((m.spent n g ≡ false) × (new.spent n g ≡ true) × (n < 2 ^ 64) × (g < 2 ^ 64))
@@ -317,33 +343,44 @@ module _ (m : State) (ctx : Ctx) where
           elim (n == fresh.number) as (λ b. (n == fresh.number) ≡ b → Given n g) [
             | true ↦ λ e.
                 let is : n ≡ fresh.number = (unsigned_Decides n fresh.number).0 e in
-                let there : get new.objects fresh.number ≡ Some o = differs-there (with_object m number wider).objects new.objects fresh.number (Some o) (differs-insert (with_object m number wider).objects fresh.number o) in
+                let there : get new.objects fresh.number ≡ Some o = differs-there (with_object m number wider).objects
+                    new.objects fresh.number (Some o) (differs-insert (with_object m number wider).objects
+                    fresh.number o) in
                 let both : Some o ≡ Some l.object = sym (ap (get new.objects) is ∙ there) ∙ l.lives in
                 let same : o ≡ l.object = cc in
                 let generation : fresh.generation ≡ g = ap (λ (x : Living). x.generation) same ∙ l.generation_is in
                 inr (
-                  subst (λ k. m.spent k g ≡ false) (sym is) (subst (λ k. m.spent fresh.number k ≡ false) generation fresh.never_given),
-                  subst (λ k. fresh.spent k g ≡ true) (sym is) (subst (λ k. fresh.spent fresh.number k ≡ true) generation fresh.given),
+                  subst (λ k. m.spent k g ≡ false) (sym is) (subst (λ k. m.spent fresh.number k ≡ false) generation
+                      fresh.never_given),
+                  subst (λ k. fresh.spent k g ≡ true) (sym is) (subst (λ k. fresh.spent fresh.number k ≡ true)
+                      generation fresh.given),
                   subst (λ k. k < 2 ^ 64) (sym is) fresh.number_fits,
                   subst (λ k. k < 2 ^ 64) generation fresh.generation_fits,
                 )
             | false ↦ λ e.
-                inl (lived-as (time_of ctx.moment) m (with_object m number wider) wide n g (record { object = l.object; lives = sym (other n e) ∙ l.lives; generation_is = l.generation_is }))
+                inl (lived-as (time_of ctx.moment) m (with_object m number wider) wide n g
+                    (record { object = l.object; lives = sym (other n e) ∙ l.lives; generation_is = l.generation_is }))
           ] refl
 
       -- the new number had no object
       touches : TouchesOnce (time_of ctx.moment) m new
       touches n was is at there =
-          elim (n == fresh.number) as (λ b. (n == fresh.number) ≡ b → (is ≡ was) ⊎ (is.changed ≡ touch was.changed (time_of ctx.moment))) [
-            | true ↦ λ e. (let none : get m.objects n ≡ None = ap (get m.objects) ((unsigned_Decides n fresh.number).0 e) ∙ fresh.free in cc)
-            | false ↦ λ e. touches-continued (time_of ctx.moment) m (with_object m number wider) wide n was is at (sym (other n e) ∙ there)
+          elim (n == fresh.number) as (λ b. (n == fresh.number) ≡ b
+              → (is ≡ was) ⊎ (is.changed ≡ touch was.changed (time_of ctx.moment))) [
+            | true ↦ λ e. (let none : get m.objects n ≡ None = ap (get m.objects)
+                ((unsigned_Decides n fresh.number).0 e) ∙ fresh.free in cc)
+            | false ↦ λ e. touches-continued (time_of ctx.moment) m (with_object m number wider) wide n was is at
+                (sym (other n e) ∙ there)
           ] refl
 
       cookies : KeepsCookies m new
       cookies n was is at there =
-          elim (n == fresh.number) as (λ b. (n == fresh.number) ≡ b → KeepsEntries (entries_of was.content) (entries_of is.content)) [
-            | true ↦ λ e. (let none : get m.objects n ≡ None = ap (get m.objects) ((unsigned_Decides n fresh.number).0 e) ∙ fresh.free in cc)
-            | false ↦ λ e. cookies-continued (time_of ctx.moment) m (with_object m number wider) wide n was is at (sym (other n e) ∙ there)
+          elim (n == fresh.number) as (λ b. (n == fresh.number) ≡ b
+              → KeepsEntries (entries_of was.content) (entries_of is.content)) [
+            | true ↦ λ e. (let none : get m.objects n ≡ None = ap (get m.objects)
+                ((unsigned_Decides n fresh.number).0 e) ∙ fresh.free in cc)
+            | false ↦ λ e. cookies-continued (time_of ctx.moment) m (with_object m number wider) wide n was is at
+                (sym (other n e) ∙ there)
           ] refl
 
       gives : GivesOnce m new
@@ -379,7 +416,8 @@ module _ (m : State) (ctx : Ctx) where
       formed w =
           well_formed-made m new number fresh.number directory wider o name (makes w) w
           (beside-follows m new
-          (texts-put (with_object m number wider) fresh.number o (texts-continued (time_of ctx.moment) m (with_object m number wider) wide w.texts) text)
+          (texts-put (with_object m number wider) fresh.number o
+              (texts-continued (time_of ctx.moment) m (with_object m number wider) wide w.texts) text)
           locks refl w)
 
       counts : WellFormed m → Counts (time_of ctx.moment) m new
@@ -408,13 +446,16 @@ module _ (m : State) (ctx : Ctx) where
         bounds = λ h. h;
       }
 
-  new-follows : (name : List ℕ) (wanted : Wanted) (number : ℕ) (directory : Living) (entries : List Entry) (last : ℕ) → get m.objects number ≡ Some directory → directory.content ≡ Directory entries last
-      → find (λ (x : Entry). same_bytes x.name name) entries ≡ None → Plain wanted → IfOk (make_new m ctx name wanted number directory entries last) EndFollows
+  new-follows : (name : List ℕ) (wanted : Wanted) (number : ℕ) (directory : Living) (entries : List Entry) (last : ℕ)
+      → get m.objects number ≡ Some directory → directory.content ≡ Directory entries last
+      → find (λ (x : Entry). same_bytes x.name name) entries ≡ None → Plain wanted
+          → IfOk (make_new m ctx name wanted number directory entries last) EndFollows
   new-follows name wanted number directory entries last lives content none plain =
       chained-is EndFollows (kind_checked ctx (links_of m number directory.content) wanted.content) _ (λ x0 e0.
       chained-is EndFollows (given_attributes ctx wanted.attributes) _ (λ x1 e1.
       chained-is EndFollows (holding (nat_lt (last + 1) (2 ^ 64)) status.NoSpace) _ (λ x2 e2.
-      made-follows name wanted number directory entries last lives content none plain (text-within (links_of m number directory.content) wanted.content x0 e0))))
+      made-follows name wanted number directory entries last lives content none plain
+          (text-within (links_of m number directory.content) wanted.content x0 e0))))
 
   pub make-follows : (place : Place) (wanted : Result Wanted NfsStatus)
       (there : ℕ → Option Living → Result (Made × State) NfsStatus) → IfOk wanted Plain
@@ -428,9 +469,11 @@ module _ (m : State) (ctx : Ctx) where
       chained-is EndFollows (changeable m.exports directory.object) _ (λ x3 e3.
       chained-is EndFollows (permitted ctx directory.object ToChange) _ (λ x4 e4.
       under what (of-ok Plain wanted what e2 plain) directory.number directory.object entries.list entries.last_cookie
-      (resolved-lives m ctx place.directory directory at) (is-directory directory.object.content entries is) (entry_of entries.list place.name) refl))))))
+      (resolved-lives m ctx place.directory directory at) (is-directory directory.object.content entries is)
+          (entry_of entries.list place.name) refl))))))
     where
-      under : (what : Wanted) → Plain what → (number : ℕ) (directory : Living) (entries : List Entry) (last : ℕ) → get m.objects number ≡ Some directory → directory.content ≡ Directory entries last
+      under : (what : Wanted) → Plain what → (number : ℕ) (directory : Living) (entries : List Entry) (last : ℕ)
+          → get m.objects number ≡ Some directory → directory.content ≡ Directory entries last
           → (e : Option Entry) → entry_of entries place.name ≡ e
           → IfOk (elim e as (λ (_ : Option Entry). Result (End m) NfsStatus) [
             | Some e ↦ known (there e.number (get m.objects e.number))
@@ -439,21 +482,32 @@ module _ (m : State) (ctx : Ctx) where
           ]) EndFollows
       under what plain number directory entries last lives content (Some e) is = known-holds EndFollows
           (there e.number (get m.objects e.number)) (found e.number)
-      under what plain number directory entries last lives content None is = new-follows place.name what number directory entries last lives content is plain
+      under what plain number directory entries last lives content None is = new-follows place.name what number
+          directory entries last lives content is plain
 
   -- CREATE of what is there
-  over-alters : (how : CreateHow) (file : Living) (r : Result (List ℕ) NfsStatus) → bytes_in file.content ≡ r → IfOk (create_over ctx how file r) (λ after. IfSome after (Alters (time_of ctx.moment) file))
+  over-alters : (how : CreateHow) (file : Living) (r : Result (List ℕ) NfsStatus) → bytes_in file.content ≡ r
+      → IfOk (create_over ctx how file r) (λ after. IfSome after (Alters (time_of ctx.moment) file))
   over-alters how file (Err e) is = tt
   over-alters (Guarded a) file (Ok bytes) is = tt
   over-alters (Exclusive verifier) file (Ok bytes) is =
-      elim (elim file.verifier as (λ (_ : Option (List ℕ)). Bool) [ None ↦ false | Some kept ↦ same_bytes kept verifier.bytes ]) as (λ b. IfOk (cond b (Ok None) (Err status.Exists)) (λ after. IfSome after (Alters (time_of ctx.moment) file))) [ true ↦ tt | false ↦ tt ]
+      elim (elim file.verifier as (λ (_ : Option (List ℕ)). Bool) [ None ↦ false | Some kept ↦ same_bytes kept
+          verifier.bytes ]) as (λ b. IfOk (cond b (Ok None) (Err status.Exists))
+          (λ after. IfSome after (Alters (time_of ctx.moment) file))) [ true ↦ tt | false ↦ tt ]
   over-alters (Unchecked a) file (Ok bytes) is = sized a.size
     where
-      sized : (size : Option ℕ) → IfOk (elim size as (λ (_ : Option ℕ). Result (Option Living) NfsStatus) [ None ↦ Ok None | Some size ↦ permitted ctx file ToWrite >>= λ _. holding (nat_le size size_limit) status.FileTooBig >>= λ _. Ok (Some (with_content file (time_of ctx.moment) (Regular (resized bytes size)))) ]) (λ after. IfSome after (Alters (time_of ctx.moment) file))
+      sized : (size : Option ℕ)
+          → IfOk (elim size as (λ (_ : Option ℕ). Result (Option Living) NfsStatus)
+          [ None ↦ Ok None | Some size ↦ permitted ctx file ToWrite >>= λ _. holding (nat_le size size_limit)
+          status.FileTooBig >>= λ _. Ok (Some (with_content file (time_of ctx.moment) (Regular (resized bytes size))))
+          ]) (λ after. IfSome after (Alters (time_of ctx.moment) file))
       sized None = tt
       sized (Some size) =
           let P : Option Living → Type 0 = λ (after : Option Living). IfSome after (Alters (time_of ctx.moment) file) in
-          chained-is P (permitted ctx file ToWrite) _ (λ x1 e1. chained-is P (holding (nat_le size size_limit) status.FileTooBig) _ (λ x2 e2. alters-regular file (time_of ctx.moment) (resized bytes size) (is-regular file.content bytes is)))
+          chained-is P (permitted ctx file ToWrite) _
+              (λ x1 e1. chained-is P (holding (nat_le size size_limit) status.FileTooBig) _
+              (λ x2 e2. alters-regular file (time_of ctx.moment) (resized bytes size)
+              (is-regular file.content bytes is)))
 
   pub existing-follows : (how : CreateHow) (number : ℕ) (o : Option Living) → get m.objects number ≡ o → IfOk
       (create_existing m ctx how number o) (λ e. Follows (time_of ctx.moment) m e.1)
@@ -461,7 +515,11 @@ module _ (m : State) (ctx : Ctx) where
   existing-follows how number (Some o) at =
       chained-is (λ (e : Made × State). Follows (time_of ctx.moment) m e.1)
       (create_over ctx how o (bytes_in o.content)) _ (λ after is.
-      follows-replaced (time_of ctx.moment) m number o after at (of-ok (λ (after : Option Living). IfSome after (Alters (time_of ctx.moment) o)) (create_over ctx how o (bytes_in o.content)) after is (over-alters how o (bytes_in o.content) refl)))
+      follows-replaced (time_of ctx.moment) m number o after at
+          (of-ok (λ (after : Option Living). IfSome after (Alters (time_of ctx.moment) o))
+          (create_over ctx how o (bytes_in o.content)) after is (over-alters how o (bytes_in o.content) refl)))
 
   pub file-plain : (how : CreateHow) → Plain (wanted_file how)
-  file-plain how = record { entries = refl; cookies = λ k c. (let no : is_directory (wanted_file how).content ≡ true = ap is_directory c in cc) }
+  file-plain how = record
+      { entries = refl; cookies = λ k c. (let no : is_directory (wanted_file how).content ≡ true = ap is_directory c
+      in cc) }

@@ -15,7 +15,8 @@ use Rattle.nfs_machine.proofs.ChoiceLemmas.{makes-as}
 use Rattle.nfs_machine.specs.RemoveSteps.{rmdir_end}
 use Rattle.nfs_machine.specs.RemoveSteps.{remove_end}
 
-stays : {A : Type 0} (old : State) (end : Result (A × State) NfsStatus) → is_some (failure_of (answer_of end)) ≡ true → state_after old end ≡ old
+stays : {A : Type 0} (old : State) (end : Result (A × State) NfsStatus) → is_some (failure_of (answer_of end)) ≡ true
+    → state_after old end ≡ old
 stays old (Ok end) e = cc
 stays old (Err e) refused = refl
 
@@ -54,8 +55,10 @@ refusals_unchanged old ctx (calls.Setattr a) reply messages new step e =
     (step.state_is ∙ stays old (setattr_end old ctx a) (sym (ap is_refusal step.reply_is) ∙ e), step.no_message)
 refusals_unchanged old ctx (calls.Access a) reply messages new step e = (step.state_is, step.no_message)
 refusals_unchanged old ctx (calls.Readlink object) reply messages new step e = (step.state_is, step.no_message)
-refusals_unchanged old ctx (calls.Readdir a) reply messages new step e = (step.answers.state_is, step.answers.no_message)
-refusals_unchanged old ctx (calls.Readdirplus a) reply messages new step e = (step.answers.state_is, step.answers.no_message)
+refusals_unchanged old ctx (calls.Readdir a) reply messages new step
+    e = (step.answers.state_is, step.answers.no_message)
+refusals_unchanged old ctx (calls.Readdirplus a) reply messages new step
+    e = (step.answers.state_is, step.answers.no_message)
 refusals_unchanged old ctx (calls.Fsstat object) reply messages new step e = (step.state_is, step.no_message)
 refusals_unchanged old ctx (calls.Fsinfo object) reply messages new step e = (step.state_is, step.no_message)
 refusals_unchanged old ctx (calls.Pathconf object) reply messages new step e = (step.state_is, step.no_message)

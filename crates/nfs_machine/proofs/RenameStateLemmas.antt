@@ -1,5 +1,7 @@
--- What a RENAME leaves is well formed: the new name is taken from what had it, the old one is taken away, and the object gets the new one.
-use Rattle.std.proofs.Common.{◌≡◌, ◌==◌, ℕ, ◌≤◌, ◌<◌, Bool, true, false, not, ◌||◌, ◌&&◌, cond, List, [], Option, Some, None, find, option_map, ◌⊎◌, inl, inr, refl, sym, ◌∙◌, ap, subst, arith}
+-- What a RENAME leaves is well formed: the new name is taken from what had it, the old one is taken away, and the
+-- object gets the new one.
+use Rattle.std.proofs.Common.{◌≡◌, ◌==◌, ℕ, ◌≤◌, ◌<◌, Bool, true, false, not, ◌||◌, ◌&&◌, cond, List, [], Option, Some,
+    None, find, option_map, ◌⊎◌, inl, inr, refl, sym, ◌∙◌, ap, subst, arith}
 use Rattle.std.specs.Cmp.{nat_cmp_total, unsigned_Decides}
 use Rattle.std.specs.Cmp.Lexicographic.{bytes_decides}
 use Rattle.std.specs.FinMap.{FinMap, get, nat_cmp-IsAntisymmetric, same_map}
@@ -15,15 +17,18 @@ use Rattle.nfs_machine.specs.RenameSteps.{IsWithin, itself, below, is_compatible
 use Rattle.nfs_machine.specs.Shown.{touched, with_content, with_object}
 use Rattle.nfs_machine.specs.State.{Content, Directory, Entry, Living, State}
 use Rattle.nfs_machine.specs.WellFormed.{Leads, WellFormed, is_root}
-use Rattle.nfs_machine.proofs.MapChangeLemmas.{apart, count-filter, differs-insert, differs-other, differs-there, find-all, find-filter, find-other, find-taken, flipped, without-absent}
+use Rattle.nfs_machine.proofs.MapChangeLemmas.{apart, count-filter, differs-insert, differs-other, differs-there,
+    find-all, find-filter, find-other, find-taken, flipped, without-absent}
 use Rattle.nfs_machine.proofs.ContinuesLemmas.{kinds-continued, well_formed-losing}
 use Rattle.nfs_machine.specs.Times.{touch}
 use Rattle.nfs_machine.specs.Resolve.{Named}
 use Rattle.nfs_machine.proofs.LinksCountedLemmas.{Counts, changed-losing, names-losing}
 use Rattle.nfs_machine.proofs.ChecksPassedLemmas.{are_none, no-entry, numbered}
 use Rattle.nfs_machine.proofs.LooseLemmas.{AddsName, Beside, Deepens, Loose, also, loose-added, loose-replaced}
-use Rattle.nfs_machine.proofs.LooseLemmas.{loose-touched, loosened, names_of-added, names_of-taken, none_loose, tightened}
-use Rattle.nfs_machine.proofs.MovedNameLemmas.{GoesIntoItself, Move, NamedEntry, entries_kept, with_moved, with_names_moved, without_replaced}
+use Rattle.nfs_machine.proofs.LooseLemmas.{loose-touched, loosened, names_of-added, names_of-taken, none_loose,
+    tightened}
+use Rattle.nfs_machine.proofs.MovedNameLemmas.{GoesIntoItself, Move, NamedEntry, entries_kept, with_moved,
+    with_names_moved, without_replaced}
 use Rattle.nfs_machine.proofs.RenameChecksLemmas.{IsMove, continues-moved}
 use Rattle.nfs_machine.proofs.MapSumLemmas.{get-inserted}
 use Rattle.nfs_machine.proofs.TakenNameLemmas.{IsNamedEntry, loose-mid, one-less, takes, under-entry}
@@ -31,18 +36,24 @@ use Rattle.nfs_machine.proofs.WellFormedLemmas.{Deep, KeepsNames, no_entries, re
 use Rattle.nfs_machine.proofs.WithinLemmas.{deepened, depth}
 
 -- ---- a directory that has names less
-pub within-less : (m : State) (place : ℕ) (was is : Living) → get m.objects place ≡ Some was → ((k : ℕ) → names_in k is ≤ names_in k was) → (upper lower : ℕ) → IsWithin (with_object m place is) upper lower → IsWithin m upper lower
+pub within-less : (m : State) (place : ℕ) (was is : Living) → get m.objects place ≡ Some was
+    → ((k : ℕ) → names_in k is ≤ names_in k was) → (upper lower : ℕ) → IsWithin (with_object m place is) upper lower
+    → IsWithin m upper lower
 within-less m place was is at less _ _ (itself number) = itself number
 within-less m place was is at less _ _ (below upper middle lower directory within lives named) =
     let up = within-less m place was is at less upper middle within in
     elim (middle == place) as (λ b. (middle == place) ≡ b → IsWithin m upper lower) [
       | true ↦ λ e.
           let same : middle ≡ place = (unsigned_Decides middle place).0 e in
-          let both : Some is ≡ Some directory = sym (ap (get (with_object m place is).objects) same ∙ differs-there m.objects (with_object m place is).objects place (Some is) (differs-insert m.objects place is)) ∙ lives in
+          let both : Some is ≡ Some directory = sym (ap (get (with_object m place is).objects) same
+              ∙ differs-there m.objects (with_object m place is).objects place (Some is)
+              (differs-insert m.objects place is)) ∙ lives in
           let own : is ≡ directory = cc in
           let some : 1 ≤ names_in lower is = subst (λ (d : Living). 1 ≤ names_in lower d) (sym own) named in
           below upper middle lower was up (ap (get m.objects) same ∙ at) (omega (arith, some, less lower))
-      | false ↦ λ e. below upper middle lower directory up (sym (differs-other m.objects (with_object m place is).objects place (Some is) (differs-insert m.objects place is) middle e) ∙ lives) named
+      | false ↦ λ e. below upper middle lower directory up
+          (sym (differs-other m.objects (with_object m place is).objects place (Some is)
+          (differs-insert m.objects place is) middle e) ∙ lives) named
     ] refl
 
 -- ---- what may be replaced contains no name
@@ -54,38 +65,46 @@ either-way false true e t = cc
 either-way false false e t = inr refl
 
 replaced-empty : (moved replaced : Content) → is_compatible moved replaced ≡ true → entries_of replaced ≡ []
-replaced-empty moved replaced t = elim (either-way (is_directory moved) (is_directory replaced) (are_none (entries_of replaced)) t) [
+replaced-empty moved replaced t = elim (either-way (is_directory moved) (is_directory replaced)
+    (are_none (entries_of replaced)) t) [
   | inl none ↦ no-entry (entries_of replaced) none
   | inr plain ↦ no_entries replaced plain
 ]
 
 -- ---- entries of a directory
-module _ (m : State) (w : WellFormed m) (place : ℕ) (directory : Living) (entries : List Entry) (last : ℕ) (lives : get m.objects place ≡ Some directory) (content : directory.content ≡ Directory entries last)
+module _ (m : State) (w : WellFormed m) (place : ℕ) (directory : Living) (entries : List Entry) (last : ℕ)
+    (lives : get m.objects place ≡ Some directory) (content : directory.content ≡ Directory entries last)
     (name : List ℕ) (e : Entry) (found : find (λ (x : Entry). same_bytes x.name name) entries ≡ Some e) where
   of_content : entries_of directory.content ≡ entries
   of_content = ap entries_of content
 
   -- what a name leads to
   pub entry-leads : Leads m directory e
-  entry-leads = find-all (Leads m directory) (λ (x : Entry). same_bytes x.name name) entries e (subst (AllByRecursion (Leads m directory)) of_content (w.names place directory lives).leads) found
+  entry-leads = find-all (Leads m directory) (λ (x : Entry). same_bytes x.name name) entries e
+      (subst (AllByRecursion (Leads m directory)) of_content (w.names place directory lives).leads) found
 
   -- is not the directory itself
   pub entry-apart : (e.number == place) ≡ false
   entry-apart = apart e.number place (λ same.
-      let deep = find-all (Deep m w.depth place) (λ (x : Entry). same_bytes x.name name) entries e (subst (AllByRecursion (Deep m w.depth place)) of_content (w.deeper place directory lives)) found in
-      let living : is_living_directory (get m.objects e.number) ≡ true = ap is_living_directory (ap (get m.objects) same ∙ lives) ∙ ap is_directory content in
+      let deep = find-all (Deep m w.depth place) (λ (x : Entry). same_bytes x.name name) entries e
+          (subst (AllByRecursion (Deep m w.depth place)) of_content (w.deeper place directory lives)) found in
+      let living : is_living_directory (get m.objects e.number) ≡ true = ap is_living_directory (ap (get m.objects) same
+          ∙ lives) ∙ ap is_directory content in
       let less : w.depth place < w.depth e.number = deep living in
       let equal : w.depth e.number ≡ w.depth place = ap w.depth same in
       absurd (omega (arith, less, equal)))
 
-none-under : (m : State) (directory : Living) (x : Option Entry) → ((e : Entry) → x ≡ Some e → Leads m directory e) → object_under m x ≡ None → x ≡ None
+none-under : (m : State) (directory : Living) (x : Option Entry) → ((e : Entry) → x ≡ Some e → Leads m directory e)
+    → object_under m x ≡ None → x ≡ None
 none-under m directory None leads none = refl
 none-under m directory (Some e) leads none =
     let l = leads e refl in
-    let some : object_under m (Some e) ≡ Some (numbered e.number l.object) = ap (option_map (λ (o : Living). numbered e.number o)) l.lives in
+    let some : object_under m (Some e) ≡ Some (numbered e.number l.object) = ap
+        (option_map (λ (o : Living). numbered e.number o)) l.lives in
     cc
 
-module _ (m : State) (now : Time) (move : Move) (is : IsMove m move) (w : WellFormed m) (out : GoesIntoItself m move → ⊥) where
+module _ (m : State) (now : Time) (move : Move) (is : IsMove m move) (w : WellFormed m) (out : GoesIntoItself m move
+    → ⊥) where
   abbrev number : ℕ
   number = move.from.number
 
@@ -104,7 +123,8 @@ module _ (m : State) (now : Time) (move : Move) (is : IsMove m move) (w : WellFo
 
   not-named : move.replaced ≡ None → entry_of move.entries move.name ≡ None
   not-named none =
-      none-under m move.directory (entry_of move.entries move.name) (λ e found. entry-leads m w target move.directory move.entries move.last_cookie is.lives is.content move.name e found) (sym is.over ∙ none)
+      none-under m move.directory (entry_of move.entries move.name) (λ e found. entry-leads m w target move.directory
+          move.entries move.last_cookie is.lives is.content move.name e found) (sym is.over ∙ none)
 
   freed-keeps : move.replaced ≡ None → KeepsNames move.directory freed
   freed-keeps none = record {
@@ -121,7 +141,8 @@ module _ (m : State) (now : Time) (move : Move) (is : IsMove m move) (w : WellFo
 
   -- what has it
   abbrev over_named : Named → NamedEntry
-  over_named o = record { place = target; directory = move.directory; entries = move.entries; last_cookie = move.last_cookie; name = move.name; number = o.number; object = o.object }
+  over_named o = record { place = target; directory = move.directory; entries = move.entries;
+      last_cookie = move.last_cookie; name = move.name; number = o.number; object = o.object }
 
   is-over : (o : Named) → move.replaced ≡ Some o → IsNamedEntry m (over_named o)
   is-over o some =
@@ -133,18 +154,22 @@ module _ (m : State) (now : Time) (move : Move) (is : IsMove m move) (w : WellFo
 
   -- ---- numbers that are apart
   object-leads : Leads m move.from.directory is.from.entry
-  object-leads = entry-leads m w place move.from.directory move.from.entries move.from.last_cookie is.from.lives is.from.content move.from.name is.from.entry is.from.found
+  object-leads = entry-leads m w place move.from.directory move.from.entries move.from.last_cookie is.from.lives
+      is.from.content move.from.name is.from.entry is.from.found
 
   number-place : (number == place) ≡ false
   number-place =
       subst (λ k. (k == place) ≡ false) is.from.number
-      (entry-apart m w place move.from.directory move.from.entries move.from.last_cookie is.from.lives is.from.content move.from.name is.from.entry is.from.found)
+      (entry-apart m w place move.from.directory move.from.entries move.from.last_cookie is.from.lives is.from.content
+          move.from.name is.from.entry is.from.found)
 
   number-target : (number == target) ≡ false
   number-target = apart number target (λ same.
-      let both : Some move.from.object ≡ Some move.directory = sym is.from.object ∙ ap (get m.objects) same ∙ is.lives in
+      let both : Some move.from.object ≡ Some move.directory = sym is.from.object ∙ ap (get m.objects) same
+          ∙ is.lives in
       let own : move.from.object ≡ move.directory = cc in
-      out (ap (λ (o : Living). is_directory o.content) own ∙ ap is_directory is.content, subst (λ k. IsWithin m number k) same (itself number)))
+      out (ap (λ (o : Living). is_directory o.content) own
+          ∙ ap is_directory is.content, subst (λ k. IsWithin m number k) same (itself number)))
 
   -- ---- the old name is taken away
   abbrev fd : Bool → Living
@@ -157,13 +182,16 @@ module _ (m : State) (now : Time) (move : Move) (is : IsMove m move) (w : WellFo
   fl b = cond b move.last_cookie move.from.last_cookie
 
   abbrev leaving : NamedEntry
-  leaving = record { place = place; directory = fd (target == place); entries = fe (target == place); last_cookie = fl (target == place); name = move.from.name; number = number; object = move.from.object }
+  leaving = record { place = place; directory = fd (target == place); entries = fe (target == place); last_cookie = fl
+      (target == place); name = move.from.name; number = number; object = move.from.object }
 
   one-directory : target ≡ place → move.directory ≡ move.from.directory
-  one-directory same = (let both : Some move.directory ≡ Some move.from.directory = sym is.lives ∙ ap (get m.objects) same ∙ is.from.lives in cc)
+  one-directory same = (let both : Some move.directory ≡ Some move.from.directory = sym is.lives
+      ∙ ap (get m.objects) same ∙ is.from.lives in cc)
 
   one-list : target ≡ place → move.entries ≡ move.from.entries
-  one-list same = sym (ap entries_of is.content) ∙ ap (λ (o : Living). entries_of o.content) (one-directory same) ∙ ap entries_of is.from.content
+  one-list same = sym (ap entries_of is.content) ∙ ap (λ (o : Living). entries_of o.content) (one-directory same)
+      ∙ ap entries_of is.from.content
 
   -- in one directory, the names differ
   names-differ : target ≡ place → same_bytes move.from.name move.name ≡ false
@@ -171,10 +199,13 @@ module _ (m : State) (now : Time) (move : Move) (is : IsMove m move) (w : WellFo
       elim (same_bytes move.from.name move.name) as (λ b. same_bytes move.from.name move.name ≡ b → b ≡ false) [
         | true ↦ λ t.
             let name : move.from.name ≡ move.name = (bytes_decides move.from.name move.name).0 t in
-            let found : entry_of move.entries move.name ≡ Some is.from.entry = ap (λ n. entry_of move.entries n) (sym name) ∙ ap (λ es. entry_of es move.from.name) (one-list same) ∙ is.from.found in
+            let found : entry_of move.entries move.name ≡ Some is.from.entry = ap (λ n. entry_of move.entries n)
+                (sym name) ∙ ap (λ es. entry_of es move.from.name) (one-list same) ∙ is.from.found in
             let some : move.replaced ≡ Some (numbered is.from.entry.number object-leads.object) =
-            is.over ∙ ap (object_under m) found ∙ ap (option_map (λ (o : Living). numbered is.from.entry.number o)) object-leads.lives in
-            let no : true ≡ false = sym ((unsigned_Decides is.from.entry.number number).1 is.from.number) ∙ is.other (numbered is.from.entry.number object-leads.object) some in
+            is.over ∙ ap (object_under m) found ∙ ap (option_map (λ (o : Living). numbered is.from.entry.number o))
+                object-leads.lives in
+            let no : true ≡ false = sym ((unsigned_Decides is.from.entry.number number).1 is.from.number)
+                ∙ is.other (numbered is.from.entry.number object-leads.object) some in
             cc
         | false ↦ λ t. refl
       ] refl
@@ -182,22 +213,27 @@ module _ (m : State) (now : Time) (move : Move) (is : IsMove m move) (w : WellFo
   is-leaving : IsNamedEntry free leaving
   is-leaving = record {
     lives = elim (target == place) as (λ b. (target == place) ≡ b → get free.objects place ≡ Some (fd b)) [
-      | true ↦ λ e. ap (get free.objects) (sym ((unsigned_Decides target place).0 e)) ∙ differs-there m.objects free.objects target (Some freed) (differs-insert m.objects target freed)
-      | false ↦ λ e. differs-other m.objects free.objects target (Some freed) (differs-insert m.objects target freed) place (flipped target place e) ∙ is.from.lives
+      | true ↦ λ e. ap (get free.objects) (sym ((unsigned_Decides target place).0 e))
+          ∙ differs-there m.objects free.objects target (Some freed) (differs-insert m.objects target freed)
+      | false ↦ λ e. differs-other m.objects free.objects target (Some freed) (differs-insert m.objects target freed)
+          place (flipped target place e) ∙ is.from.lives
     ] refl;
     content = elim (target == place) as (λ b. (fd b).content ≡ Directory (fe b) (fl b)) [
       | true ↦ refl
       | false ↦ is.from.content
     ];
     entry = is.from.entry;
-    found = elim (target == place) as (λ b. (target == place) ≡ b → find (λ (x : Entry). same_bytes x.name move.from.name) (fe b) ≡ Some is.from.entry) [
+    found = elim (target == place) as (λ b. (target == place) ≡ b
+        → find (λ (x : Entry). same_bytes x.name move.from.name) (fe b) ≡ Some is.from.entry) [
       | true ↦ λ e.
           let same : target ≡ place = (unsigned_Decides target place).0 e in
-          find-other move.from.name move.name move.entries (names-differ same) ∙ ap (find (λ (x : Entry). same_bytes x.name move.from.name)) (one-list same) ∙ is.from.found
+          find-other move.from.name move.name move.entries (names-differ same)
+              ∙ ap (find (λ (x : Entry). same_bytes x.name move.from.name)) (one-list same) ∙ is.from.found
       | false ↦ λ e. is.from.found
     ] refl;
     number = is.from.number;
-    object = differs-other m.objects free.objects target (Some freed) (differs-insert m.objects target freed) number number-target ∙ is.from.object;
+    object = differs-other m.objects free.objects target (Some freed) (differs-insert m.objects target freed) number
+        number-target ∙ is.from.object;
   }
 
   abbrev left_of : Bool → Living
@@ -207,7 +243,8 @@ module _ (m : State) (now : Time) (move : Move) (is : IsMove m move) (w : WellFo
   left = with_object free place (left_of (target == place))
 
   object-left : get left.objects number ≡ Some move.from.object
-  object-left = differs-other free.objects left.objects place (Some (left_of (target == place))) (differs-insert free.objects place (left_of (target == place))) number number-place ∙ is-leaving.object
+  object-left = differs-other free.objects left.objects place (Some (left_of (target == place)))
+      (differs-insert free.objects place (left_of (target == place))) number number-place ∙ is-leaving.object
 
   -- ---- the target as it is then
   abbrev waiting_of : Bool → Living
@@ -217,12 +254,16 @@ module _ (m : State) (now : Time) (move : Move) (is : IsMove m move) (w : WellFo
   waiting = waiting_of (target == place)
 
   waiting-lives : get left.objects target ≡ Some waiting
-  waiting-lives = elim (target == place) as (λ b. (target == place) ≡ b → get left.objects target ≡ Some (waiting_of b)) [
+  waiting-lives = elim (target == place) as (λ b. (target == place) ≡ b
+      → get left.objects target ≡ Some (waiting_of b)) [
     | true ↦ λ e.
-        ap (get left.objects) ((unsigned_Decides target place).0 e) ∙ differs-there free.objects left.objects place (Some (left_of (target == place))) (differs-insert free.objects place (left_of (target == place)))
+        ap (get left.objects) ((unsigned_Decides target place).0 e)
+            ∙ differs-there free.objects left.objects place (Some (left_of (target == place)))
+            (differs-insert free.objects place (left_of (target == place)))
         ∙ ap (λ b. Some (left_of b)) e
     | false ↦ λ e.
-        differs-other free.objects left.objects place (Some (left_of (target == place))) (differs-insert free.objects place (left_of (target == place))) target e
+        differs-other free.objects left.objects place (Some (left_of (target == place)))
+            (differs-insert free.objects place (left_of (target == place))) target e
         ∙ differs-there m.objects free.objects target (Some freed) (differs-insert m.objects target freed)
   ] refl
 
@@ -233,26 +274,33 @@ module _ (m : State) (now : Time) (move : Move) (is : IsMove m move) (w : WellFo
   named = with_object left target wider
 
   waiting-content : waiting.content ≡ Directory (entries_kept move) move.last_cookie
-  waiting-content = elim (target == place) as (λ b. (waiting_of b).content ≡ Directory (cond b (without (without move.entries move.name) move.from.name) (without move.entries move.name)) move.last_cookie) [
+  waiting-content = elim (target == place) as (λ b. (waiting_of b).content ≡ Directory
+      (cond b (without (without move.entries move.name) move.from.name) (without move.entries move.name))
+      move.last_cookie) [
     | true ↦ refl
     | false ↦ refl
   ]
 
   waiting-export : waiting.export ≡ move.directory.export
-  waiting-export = elim (target == place) as (λ b. (waiting_of b).export ≡ move.directory.export) [ true ↦ refl | false ↦ refl ]
+  waiting-export = elim (target == place) as (λ b. (waiting_of b).export ≡ move.directory.export)
+      [ true ↦ refl | false ↦ refl ]
 
   waiting-generation : waiting.generation ≡ move.directory.generation
-  waiting-generation = elim (target == place) as (λ b. (waiting_of b).generation ≡ move.directory.generation) [ true ↦ refl | false ↦ refl ]
+  waiting-generation = elim (target == place) as (λ b. (waiting_of b).generation ≡ move.directory.generation)
+      [ true ↦ refl | false ↦ refl ]
 
   absent-left : find (λ (x : Entry). same_bytes x.name move.name) (entries_kept move) ≡ None
   absent-left =
-      elim (target == place) as (λ b. find (λ (x : Entry). same_bytes x.name move.name) (cond b (without (without move.entries move.name) move.from.name) (without move.entries move.name)) ≡ None) [
-        | true ↦ find-filter (λ (x : Entry). same_bytes x.name move.name) _ (without move.entries move.name) (find-taken move.name move.entries)
+      elim (target == place) as (λ b. find (λ (x : Entry). same_bytes x.name move.name)
+          (cond b (without (without move.entries move.name) move.from.name) (without move.entries move.name)) ≡ None) [
+        | true ↦ find-filter (λ (x : Entry). same_bytes x.name move.name) _ (without move.entries move.name)
+            (find-taken move.name move.entries)
         | false ↦ find-taken move.name move.entries
       ]
 
   same-object : object-leads.object ≡ move.from.object
-  same-object = (let both : Some object-leads.object ≡ Some move.from.object = sym object-leads.lives ∙ ap (get m.objects) is.from.number ∙ is.from.object in cc)
+  same-object = (let both : Some object-leads.object ≡ Some move.from.object = sym object-leads.lives
+      ∙ ap (get m.objects) is.from.number ∙ is.from.object in cc)
 
   object-export : move.from.object.export ≡ waiting.export
   object-export = sym (ap (λ (o : Living). o.export) same-object) ∙ object-leads.export ∙ is.export ∙ sym waiting-export
@@ -292,34 +340,45 @@ module _ (m : State) (now : Time) (move : Move) (is : IsMove m move) (w : WellFo
     less-freed : (k : ℕ) → names_in k freed ≤ names_in k move.directory
     less-freed k =
         let test : Entry → Bool = λ (x : Entry). x.number == k in
-        let was : names_in k move.directory ≡ count_by test move.entries = ap (λ c. count_by test (entries_of c)) is.content in
+        let was : names_in k move.directory ≡ count_by test move.entries = ap (λ c. count_by test (entries_of c))
+            is.content in
         omega (arith, was, count-filter test (λ (x : Entry). not (same_bytes x.name move.name)) move.entries)
 
     less-left : (k : ℕ) → names_in k (left_of (target == place)) ≤ names_in k (fd (target == place))
     less-left k =
         let test : Entry → Bool = λ (x : Entry). x.number == k in
-        let was : names_in k (fd (target == place)) ≡ count_by test (fe (target == place)) = ap (λ c. count_by test (entries_of c)) is-leaving.content in
-        omega (arith, was, count-filter test (λ (x : Entry). not (same_bytes x.name move.from.name)) (fe (target == place)))
+        let was : names_in k (fd (target == place)) ≡ count_by test (fe (target == place)) = ap
+            (λ c. count_by test (entries_of c)) is-leaving.content in
+        omega (arith, was, count-filter test (λ (x : Entry). not (same_bytes x.name move.from.name))
+            (fe (target == place)))
 
     stays-out : is_directory move.from.object.content ≡ true → IsWithin left number target → ⊥
     stays-out kind within =
-        out (kind, within-less m target move.directory freed is.lives less-freed number target (within-less free place (fd (target == place)) (left_of (target == place)) is-leaving.lives less-left number target within))
+        out (kind, within-less m target move.directory freed is.lives less-freed number target
+            (within-less free place (fd (target == place)) (left_of (target == place)) is-leaving.lives less-left number
+            target within))
 
     deepens : (depth : ℕ → ℕ) × Deepens left depth target number move.from.object
     deepens =
-        elim (is_directory move.from.object.content) as (λ b. is_directory move.from.object.content ≡ b → (depth : ℕ → ℕ) × Deepens left depth target number move.from.object) [
+        elim (is_directory move.from.object.content) as (λ b. is_directory move.from.object.content ≡ b
+            → (depth : ℕ → ℕ) × Deepens left depth target number move.from.object) [
           | true ↦ λ e. (
-            depth left (also number loose) left-loose number move.from.object object-left target waiting waiting-lives (ap is_directory waiting-content) (stays-out e),
-            deepened left (also number loose) left-loose number move.from.object object-left target waiting waiting-lives (ap is_directory waiting-content) (stays-out e),
+            depth left (also number loose) left-loose number move.from.object object-left target waiting waiting-lives
+                (ap is_directory waiting-content) (stays-out e),
+            deepened left (also number loose) left-loose number move.from.object object-left target waiting
+                waiting-lives (ap is_directory waiting-content) (stays-out e),
           )
-          | false ↦ λ e. (left-loose.depth, record { deeper = left-loose.deeper; added = λ t. (let no : true ≡ false = sym t ∙ e in cc) })
+          | false ↦ λ e. (left-loose.depth, record
+              { deeper = left-loose.deeper; added = λ t. (let no : true ≡ false = sym t ∙ e in cc) })
         ] refl
 
     named-loose : Loose loose named
-    named-loose = loose-added left named target number waiting wider move.from.object move.name adds loose left-loose deepens.0 deepens.1
+    named-loose = loose-added left named target number waiting wider move.from.object move.name adds loose left-loose
+        deepens.0 deepens.1
 
     object-named : get named.objects number ≡ Some move.from.object
-    object-named = differs-other left.objects named.objects target (Some wider) (differs-insert left.objects target wider) number number-target ∙ object-left
+    object-named = differs-other left.objects named.objects target (Some wider)
+        (differs-insert left.objects target wider) number number-target ∙ object-left
 
     abbrev moved : State
     moved = with_object named number (touched move.from.object now)
@@ -330,13 +389,16 @@ module _ (m : State) (now : Time) (move : Move) (is : IsMove m move) (w : WellFo
     names_of-moved : (n : ℕ) → names_of moved n ≡ names_of free n
     unfolding is-leaving
     names_of-moved n =
-        let one : cond {A = ℕ} (is.from.entry.number == n) 1 0 ≡ cond (number == n) 1 0 = ap (λ k. cond {A = ℕ} (k == n) 1 0) is.from.number in
+        let one : cond {A = ℕ} (is.from.entry.number == n) 1 0 ≡ cond (number == n) 1 0 = ap
+            (λ k. cond {A = ℕ} (k == n) 1 0) is.from.number in
         omega (
           arith,
           one,
-          replaced-names named number move.from.object (touched move.from.object now) object-named (record { export = refl; generation = refl; kind = refl; content = λ e. refl }) n,
+          replaced-names named number move.from.object (touched move.from.object now) object-named
+              (record { export = refl; generation = refl; kind = refl; content = λ e. refl }) n,
           names_of-added left named target number waiting wider move.from.object move.name adds n,
-          names_of-taken free left place (fd (target == place)) (left_of (target == place)) move.from.name is.from.entry (takes free now leaving is-leaving) loose l n,
+          names_of-taken free left place (fd (target == place)) (left_of (target == place)) move.from.name is.from.entry
+              (takes free now leaving is-leaving) loose l n,
         )
 
   -- ---- the same as the step's state
@@ -344,20 +406,26 @@ module _ (m : State) (now : Time) (move : Move) (is : IsMove m move) (w : WellFo
   step = with_object (with_names_moved m now move) number (touched move.from.object now)
 
   abbrev narrower : Living
-  narrower = with_content move.from.directory now (Directory (without move.from.entries move.from.name) move.from.last_cookie)
+  narrower = with_content move.from.directory now (Directory (without move.from.entries move.from.name)
+      move.from.last_cookie)
 
   same-objects : named.objects ≡ (with_names_moved m now move).objects
   same-objects = same_map nat_cmp_total nat_cmp-IsAntisymmetric _ _ (λ q.
       get-inserted left.objects target wider q
-      ∙ elim (q == target) as (λ b. (q == target) ≡ b → cond b (Some wider) (get left.objects q) ≡ cond b (Some wider) (get (with_object m place narrower).objects q)) [
+      ∙ elim (q == target) as (λ b. (q == target) ≡ b → cond b (Some wider) (get left.objects q) ≡ cond b (Some wider)
+          (get (with_object m place narrower).objects q)) [
         | true ↦ λ e. refl
         | false ↦ λ e.
             get-inserted free.objects place (left_of (target == place)) q
-            ∙ elim (q == place) as (λ b. (q == place) ≡ b → cond b (Some (left_of (target == place))) (get free.objects q) ≡ cond b (Some narrower) (get m.objects q)) [
+            ∙ elim (q == place) as (λ b. (q == place) ≡ b
+                → cond b (Some (left_of (target == place))) (get free.objects q) ≡ cond b (Some narrower)
+                (get m.objects q)) [
               | true ↦ λ f.
-                  let other : (target == place) ≡ false = flipped place target (subst (λ k. (k == target) ≡ false) ((unsigned_Decides q place).0 f) e) in
+                  let other : (target == place) ≡ false = flipped place target
+                      (subst (λ k. (k == target) ≡ false) ((unsigned_Decides q place).0 f) e) in
                   ap (λ b. Some (left_of b)) other
-              | false ↦ λ f. differs-other m.objects free.objects target (Some freed) (differs-insert m.objects target freed) q e
+              | false ↦ λ f. differs-other m.objects free.objects target (Some freed)
+                  (differs-insert m.objects target freed) q e
             ] refl
             ∙ sym (get-inserted m.objects place narrower q)
       ] refl
@@ -370,7 +438,8 @@ module _ (m : State) (now : Time) (move : Move) (is : IsMove m move) (w : WellFo
   step-loose loose l = subst (λ objects. Loose loose (of_objects objects)) same-objects (moved-loose loose l)
 
   names_of-step : (loose : ℕ → Bool) → Loose loose free → (n : ℕ) → names_of step n ≡ names_of free n
-  names_of-step loose l n = subst (λ objects. names_of (of_objects objects) n ≡ names_of free n) same-objects (names_of-moved loose l n)
+  names_of-step loose l n = subst (λ objects. names_of (of_objects objects) n ≡ names_of free n) same-objects
+      (names_of-moved loose l n)
 
   -- ---- what had the name
   module _ (o : Named) (some : move.replaced ≡ Some o) where
@@ -382,14 +451,18 @@ module _ (m : State) (now : Time) (move : Move) (is : IsMove m move) (w : WellFo
 
     over-target : (o.number == target) ≡ false
     over-target =
-        subst (λ k. (k == target) ≡ false) over.number (entry-apart m w target move.directory move.entries move.last_cookie is.lives is.content move.name over.entry over.found)
+        subst (λ k. (k == target) ≡ false) over.number (entry-apart m w target move.directory move.entries
+            move.last_cookie is.lives is.content move.name over.entry over.found)
 
     over-place : (o.number == place) ≡ false
     over-place = apart o.number place (λ same.
-        let both : Some o.object ≡ Some move.from.directory = sym over.object ∙ ap (get m.objects) same ∙ is.from.lives in
+        let both : Some o.object ≡ Some move.from.directory = sym over.object ∙ ap (get m.objects) same
+            ∙ is.from.lives in
         let own : o.object ≡ move.from.directory = cc in
-        let none : move.from.entries ≡ [] = sym (ap entries_of is.from.content) ∙ sym (ap (λ (x : Living). entries_of x.content) own) ∙ empty in
-        let found : find (λ (x : Entry). same_bytes x.name move.from.name) [] ≡ Some is.from.entry = subst (λ es. find (λ (x : Entry). same_bytes x.name move.from.name) es ≡ Some is.from.entry) none is.from.found in
+        let none : move.from.entries ≡ [] = sym (ap entries_of is.from.content)
+            ∙ sym (ap (λ (x : Living). entries_of x.content) own) ∙ empty in
+        let found : find (λ (x : Entry). same_bytes x.name move.from.name) [] ≡ Some is.from.entry = subst
+            (λ es. find (λ (x : Entry). same_bytes x.name move.from.name) es ≡ Some is.from.entry) none is.from.found in
         cc)
 
     over-no_root : is_root m o.number ≡ false
@@ -400,9 +473,13 @@ module _ (m : State) (now : Time) (move : Move) (is : IsMove m move) (w : WellFo
 
     over-lives : get step.objects o.number ≡ Some o.object
     over-lives =
-        differs-other (with_names_moved m now move).objects step.objects number (Some (touched move.from.object now)) (differs-insert (with_names_moved m now move).objects number (touched move.from.object now)) o.number (is.other o some)
-        ∙ differs-other (with_object m place narrower).objects (with_names_moved m now move).objects target (Some wider) (differs-insert (with_object m place narrower).objects target wider) o.number over-target
-        ∙ differs-other m.objects (with_object m place narrower).objects place (Some narrower) (differs-insert m.objects place narrower) o.number over-place
+        differs-other (with_names_moved m now move).objects step.objects number (Some (touched move.from.object now))
+            (differs-insert (with_names_moved m now move).objects number (touched move.from.object now)) o.number
+            (is.other o some)
+        ∙ differs-other (with_object m place narrower).objects (with_names_moved m now move).objects target (Some wider)
+            (differs-insert (with_object m place narrower).objects target wider) o.number over-target
+        ∙ differs-other m.objects (with_object m place narrower).objects place (Some narrower)
+            (differs-insert m.objects place narrower) o.number over-place
         ∙ over.object
 
     over-formed : Beside (without_replaced m step now (Some o)) → WellFormed (without_replaced m step now (Some o))
@@ -441,7 +518,8 @@ module _ (m : State) (now : Time) (move : Move) (is : IsMove m move) (w : WellFo
           (is'.changed ≡ touch was.changed now)) [
             | true ↦ λ t.
                 let same : k ≡ o.number = (unsigned_Decides k o.number).0 t in
-                let own : o.object ≡ was = (let both : Some o.object ≡ Some was = sym (over o e).object ∙ ap (get m.objects)
+                let own : o.object ≡ was = (let both : Some o.object ≡ Some was = sym (over o e).object
+                    ∙ ap (get m.objects)
                 (sym same) ∙ at in cc) in
                 inr (changed-losing step now o.number o.object (over-lives o e) (names_of m o.number) is'
                 (ap (get (without_replaced m step now (Some o)).objects) (sym same) ∙ there)

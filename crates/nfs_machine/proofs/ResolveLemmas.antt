@@ -12,7 +12,8 @@ module _ (find : ℕ → Option Living) (number : ℕ) (o : Living) where
   living : (x : Option Living) (h : Handle) → find h.fileid ≡ x → living_at x h ≡ Names number o → find number ≡ Some o
   living None h at is = cc
   living (Some object) h at is =
-      elim ((object.generation == h.generation) && (object.export == h.export)) as (λ t. cond t (Names h.fileid object) Stale ≡ Names number o → find number ≡ Some o) [
+      elim ((object.generation == h.generation) && (object.export == h.export)) as
+          (λ t. cond t (Names h.fileid object) Stale ≡ Names number o → find number ≡ Some o) [
         | true ↦ λ same. (let n : h.fileid ≡ number = cc in let e : object ≡ o = cc in cc)
         | false ↦ λ same. cc
       ] is
@@ -28,14 +29,17 @@ module _ (find : ℕ → Option Living) (number : ℕ) (o : Living) where
       ] is
 
 -- the number is that of the handle
-pub resolved-number : (m : State) (ctx : Ctx) (bytes : List ℕ) (h : Handle) (number : ℕ) (o : Living) → handle_of bytes ≡ Some h → resolve m ctx bytes ≡ Names number o → number ≡ h.fileid
+pub resolved-number : (m : State) (ctx : Ctx) (bytes : List ℕ) (h : Handle) (number : ℕ) (o : Living)
+    → handle_of bytes ≡ Some h → resolve m ctx bytes ≡ Names number o → number ≡ h.fileid
 resolved-number m ctx bytes h number o handle is = admitted
     (sym (ap (named (get m.objects) m.exports ctx) handle) ∙ is)
   where
     same : (x : Option Living) → living_at x h ≡ Names number o → number ≡ h.fileid
     same None at = cc
     same (Some object) at =
-        elim ((object.generation == h.generation) && (object.export == h.export)) as (λ t. cond t (Names h.fileid object) Stale ≡ Names number o → number ≡ h.fileid) [ true ↦ λ e. cc | false ↦ λ e. cc ] at
+        elim ((object.generation == h.generation) && (object.export == h.export)) as
+            (λ t. cond t (Names h.fileid object) Stale ≡ Names number o → number ≡ h.fileid)
+            [ true ↦ λ e. cc | false ↦ λ e. cc ] at
 
     admitted : named (get m.objects) m.exports ctx (Some h) ≡ Names number o → number ≡ h.fileid
     admitted at =
@@ -45,5 +49,6 @@ resolved-number m ctx bytes h number o handle is = admitted
           | false ↦ λ e. cc
         ] at
 
-pub resolved-lives : (m : State) (ctx : Ctx) (bytes : List ℕ) (number : ℕ) (o : Living) → resolve m ctx bytes ≡ Names number o → get m.objects number ≡ Some o
+pub resolved-lives : (m : State) (ctx : Ctx) (bytes : List ℕ) (number : ℕ) (o : Living)
+    → resolve m ctx bytes ≡ Names number o → get m.objects number ≡ Some o
 resolved-lives m ctx bytes number o is = found (get m.objects) number o m.exports ctx (handle_of bytes) is

@@ -249,7 +249,8 @@ module _ (m : State) (ctx : Ctx) where
     by-name what number directory entries last (Some e) = tells-known (there e.number (get m.objects e.number))
         (found e.number (get m.objects e.number))
 
-    tells-make : (wanted : Result Wanted NfsStatus) → TellsStatus wanted → TellsStatus (make_plan m ctx place wanted there)
+    tells-make : (wanted : Result Wanted NfsStatus) → TellsStatus wanted
+        → TellsStatus (make_plan m ctx place wanted there)
     tells-make wanted known =
         tells-chain (object_of (resolve m ctx place.directory)) _ (tells-object _) (λ directory.
         tells-chain (entries_in directory.object.content) _ (tells-entries _) (λ entries.
@@ -259,7 +260,8 @@ module _ (m : State) (ctx : Ctx) where
         tells-chain wanted _ known (λ what.
         tells-chain (changeable m.exports directory.object) _ (tells-held _ _ refl) (λ x2.
         tells-chain (permitted ctx directory.object ToChange) _ (tells-held _ _ refl) (λ x3.
-        by-name what directory.number directory.object entries.list entries.last_cookie (entry_of entries.list place.name)))))))
+        by-name what directory.number directory.object entries.list entries.last_cookie
+            (entry_of entries.list place.name)))))))
 
   tells-ends : (r : Result (End m) NfsStatus) (end : Result (Made × State) NfsStatus) → EndsAs m r end →
       TellsStatus r →
@@ -403,7 +405,8 @@ unfolding walk
 walk-tells find number [] = chain (directory_at (find number)) _ (directory-tells (find number)) (λ d. tt)
 walk-tells find number (name ∷ names) =
     chain (directory_at (find number)) _ (directory-tells (find number)) (λ d.
-    chain (ok_or (entry_of (entries_of d.content) name) mount_status.NoEntry) _ (entry-tells (entry_of (entries_of d.content) name)) (λ e.
+    chain (ok_or (entry_of (entries_of d.content) name) mount_status.NoEntry) _
+        (entry-tells (entry_of (entries_of d.content) name)) (λ e.
     walk-tells find e.number names))
 
 path-tells : (path : List ℕ) (e : MountStatus) → path_fault path ≡ Some e → mount_never_answers e ≡ false

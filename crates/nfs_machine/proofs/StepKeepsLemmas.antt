@@ -33,7 +33,8 @@ use Rattle.nfs_machine.specs.Permission.{ToChange}
 use Rattle.nfs_machine.specs.Answers.{Answers, state_after}
 use Rattle.nfs_machine.specs.Attributes.{links_of, names_in, names_of, is_directory, is_living_directory}
 use Rattle.nfs_machine.specs.Chains.{Chain, Transition}
-use Rattle.nfs_machine.specs.Checks.{DirectoryEntries, holding, link_limit, ◌>>=◌, object_of, entries_in, entry_of, changeable, permitted, plain_name_checked}
+use Rattle.nfs_machine.specs.Checks.{DirectoryEntries, holding, link_limit, ◌>>=◌, object_of, entries_in, entry_of,
+    changeable, permitted, plain_name_checked}
 use Rattle.nfs_machine.specs.Laws.{GivesOnce, KeepsCookies, KeepsExports, LivesAs, NeverGivenAgain, ChainsKeepForm}
 use Rattle.nfs_machine.specs.Laws.{StepsGiveOnce, StepsKeepCookies, StepsKeepExports, StepsKeepForm}
 use Rattle.nfs_machine.specs.Laws.{AreWithin, ChainsNumberOnce, GoneIsStale, NumbersOnce, StepsKeepWithin}
@@ -78,8 +79,10 @@ use Rattle.nfs_machine.specs.DataSteps.{write_end}
 use Rattle.nfs_machine.specs.AttributeSteps.{setattr_end}
 use Rattle.nfs_machine.proofs.ChecksPassedLemmas.{chained-is, holds, is-directory, leads-found, resolved-lives}
 use Rattle.nfs_machine.proofs.ProcedureFollowsLemmas.{Follows, LocksFollow, Plain, beside-follows, bounds-losing}
-use Rattle.nfs_machine.proofs.ProcedureFollowsLemmas.{ends-follow, exports-losing, follows-after, follows-itself, locks-losing, locks-on}
-use Rattle.nfs_machine.proofs.ProcedureFollowsLemmas.{make-follows, mounts-losing, write-follows, file-plain, existing-follows}
+use Rattle.nfs_machine.proofs.ProcedureFollowsLemmas.{ends-follow, exports-losing, follows-after, follows-itself,
+    locks-losing, locks-on}
+use Rattle.nfs_machine.proofs.ProcedureFollowsLemmas.{make-follows, mounts-losing, write-follows, file-plain,
+    existing-follows}
 use Rattle.nfs_machine.proofs.FirmLemmas.{FilesOn, firm-of, firm-on, formed-of, put-directory, put-over}
 use Rattle.nfs_machine.proofs.NlmStepLemmas.{Untouched, nlm-touches}
 use Rattle.nfs_machine.proofs.LooseLemmas.{Beside, well_formed-alike}
@@ -100,14 +103,18 @@ use Rattle.side_wire.specs.declared.mount.lists.MountBody.{MountBody}
 stays : (now : Time) (old new : State) → new ≡ old → Follows now old new
 stays now old new same = subst (Follows now old) (sym same) (follows-itself now old)
 
-answered : {A : Type 0} {Answer : Type 0} (now : Time) (answer : Answer) (old : State) (end : Result (A × State) NfsStatus) (reply : Answer) (messages : List Message) (new : State)
-    → Answers answer (state_after old end) reply messages new → IfOk end (λ e. Follows now old e.1) → Follows now old new
-answered now answer old end reply messages new step f = subst (Follows now old) (sym step.state_is) (follows-after now old end f)
+answered : {A : Type 0} {Answer : Type 0} (now : Time) (answer : Answer) (old : State)
+    (end : Result (A × State) NfsStatus) (reply : Answer) (messages : List Message) (new : State)
+    → Answers answer (state_after old end) reply messages new → IfOk end (λ e. Follows now old e.1)
+        → Follows now old new
+answered now answer old end reply messages new step f = subst (Follows now old) (sym step.state_is)
+    (follows-after now old end f)
 
 made : (old : State) (ctx : Ctx) (place : Place) (wanted : Result Wanted NfsStatus)
     (there : ℕ → Option Living → Result (Made × State) NfsStatus) (reply_of : MadeReply → NfsReply)
     (reply : NfsReply)
-    (messages : List Message) (new : State) → MakeStep old ctx place wanted there reply_of reply messages new → IfOk wanted (Plain old ctx)
+    (messages : List Message) (new : State) → MakeStep old ctx place wanted there reply_of reply messages new
+        → IfOk wanted (Plain old ctx)
     → ((number : ℕ) → IfOk (there number (get old.objects number)) (λ e. Follows (time_of ctx.moment) old e.1))
     → Follows (time_of ctx.moment) old new
 made old ctx place wanted there reply_of reply messages new step plain found =
@@ -143,7 +150,8 @@ module _ (old : State) (ctx : Ctx) where
 
   moved-locks : (now : Time) (move : Move) → IsMove old move → (replaced : Option Named) →
       move.replaced ≡ replaced
-      → LocksFollow old (without_replaced old (with_object (with_names_moved old now move) move.from.number (touched move.from.object now)) now replaced)
+      → LocksFollow old (without_replaced old (with_object (with_names_moved old now move) move.from.number
+          (touched move.from.object now)) now replaced)
   moved-locks now move is None e =
       locks-on old (with_object (with_names_moved old now move) move.from.number (touched move.from.object now)).objects
       old.spent
@@ -165,16 +173,21 @@ module _ (old : State) (ctx : Ctx) where
       record { exports = k.exports; last = k.last }
 
   moved-mounts : (now : Time) (move : Move) (replaced : Option Named)
-      → (without_replaced old (with_object (with_names_moved old now move) move.from.number (touched move.from.object now)) now replaced).mounts ≡ old.mounts
+      → (without_replaced old (with_object (with_names_moved old now move) move.from.number
+          (touched move.from.object now)) now replaced).mounts ≡ old.mounts
   moved-mounts now move None = refl
-  moved-mounts now move (Some o) = mounts-losing (with_object (with_names_moved old now move) move.from.number (touched move.from.object now)) (names_of old o.number) now o.number o.object
+  moved-mounts now move (Some o) = mounts-losing (with_object (with_names_moved old now move) move.from.number
+      (touched move.from.object now)) (names_of old o.number) now o.number o.object
 
   moved-bounds : (now : Time) (move : Move) (replaced : Option Named)
-      → LocksFit old → LocksFit (without_replaced old (with_object (with_names_moved old now move) move.from.number (touched move.from.object now)) now replaced)
+      → LocksFit old → LocksFit (without_replaced old (with_object (with_names_moved old now move) move.from.number
+          (touched move.from.object now)) now replaced)
   moved-bounds now move None = λ h. h
-  moved-bounds now move (Some o) = bounds-losing (with_object (with_names_moved old now move) move.from.number (touched move.from.object now)) (names_of old o.number) now o.number o.object
+  moved-bounds now move (Some o) = bounds-losing (with_object (with_names_moved old now move) move.from.number
+      (touched move.from.object now)) (names_of old o.number) now o.number o.object
 
-  moved-follows : (now : Time) (move : Move) → IsMove old move → (GoesIntoItself old move → ⊥) → Follows now old (with_moved old now move)
+  moved-follows : (now : Time) (move : Move) → IsMove old move → (GoesIntoItself old move → ⊥)
+      → Follows now old (with_moved old now move)
   moved-follows now move is out = record {
     gives = gives-continued now old (with_moved old now move) (continues-moved old now move is);
     touches = touches-continued now old (with_moved old now move) (continues-moved old now move is);
@@ -218,7 +231,8 @@ module _ (old : State) (ctx : Ctx) where
           cc
 
       abbrev gains : Option Named → Result (Unit {0}) NfsStatus
-      gains replaced = holding (not (is_directory moved.object.content) || (to.number == from.number) || is_some replaced || nat_lt
+      gains replaced = holding (not (is_directory moved.object.content) || (to.number == from.number) || is_some
+          replaced || nat_lt
           (links_of old to.number to.object.content) link_limit) status.TooManyLinks
 
       abbrev end_of : Option Named → Result (Unit {0} × State) NfsStatus
@@ -241,10 +255,12 @@ module _ (old : State) (ctx : Ctx) where
       move-follows None begun = end-follows None (moves-free old (move_of None) begun refl)
       move-follows (Some r) begun =
           elim (r.number == moved.number) as (λ b. (r.number == moved.number) ≡ b
-          → IfOk (cond b (Ok (tt, old)) (holding (is_compatible moved.object.content r.object.content) status.Exists >>= λ _.
+          → IfOk (cond b (Ok (tt, old)) (holding (is_compatible moved.object.content r.object.content) status.Exists
+              >>= λ _.
           end_of (Some r))) Followed) [
             | true ↦ λ e. follows-itself (time_of ctx.moment) old
-            | false ↦ λ e. chained-is Followed (holding (is_compatible moved.object.content r.object.content) status.Exists) _
+            | false ↦ λ e. chained-is Followed (holding (is_compatible moved.object.content r.object.content)
+                status.Exists) _
                 (λ x1 e1.
                 end-follows (Some r) (moves-over old (move_of (Some r)) begun r refl e
                 (holds (is_compatible moved.object.content r.object.content) status.Exists x1 e1)))
@@ -276,29 +292,40 @@ module _ (old : State) (ctx : Ctx) where
           over = refl;
         }))))))))))))
 
-pub nfs-follows : (old : State) (ctx : Ctx) (call : NfsCall) (reply : NfsReply) (messages : List Message) (new : State) → NfsStep old ctx call reply messages new → Follows (time_of ctx.moment) old new
+pub nfs-follows : (old : State) (ctx : Ctx) (call : NfsCall) (reply : NfsReply) (messages : List Message) (new : State)
+    → NfsStep old ctx call reply messages new → Follows (time_of ctx.moment) old new
 unfolding NfsStep
 nfs-follows old ctx nfs.Null reply messages new step = stays (time_of ctx.moment) old new step.state_is
 nfs-follows old ctx (nfs.Getattr object) reply messages new step = stays (time_of ctx.moment) old new step.state_is
 nfs-follows old ctx (nfs.Lookup place) reply messages new step = stays (time_of ctx.moment) old new step.2.state_is
 nfs-follows old ctx (nfs.Read a) reply messages new step = stays (time_of ctx.moment) old new step.state_is
-nfs-follows old ctx (nfs.Write a) reply messages new step = answered (time_of ctx.moment) _ old (write_end old ctx a) reply messages new step (write-follows old ctx a)
+nfs-follows old ctx (nfs.Write a) reply messages new step = answered (time_of ctx.moment) _ old (write_end old ctx a)
+    reply messages new step (write-follows old ctx a)
 nfs-follows old ctx (nfs.Create a) reply messages new step =
-    made old ctx a.place _ _ _ reply messages new step (file-plain old ctx a.how) (λ number. existing-follows old ctx a.how number (get old.objects number) refl)
-nfs-follows old ctx (nfs.Mkdir a) reply messages new step = made old ctx a.place _ _ _ reply messages new step (record { entries = refl; cookies = directory-plain }) (λ number. tt)
-nfs-follows old ctx (nfs.Symlink a) reply messages new step = made old ctx a.place _ _ _ reply messages new step (record { entries = refl; cookies = λ last is. cc }) (λ number. tt)
-nfs-follows old ctx (nfs.Mknod a) reply messages new step = made old ctx a.place _ _ _ reply messages new step (special-plain old ctx a.what) (λ number. tt)
-nfs-follows old ctx (nfs.Remove place) reply messages new step = answered (time_of ctx.moment) _ old (remove_end old ctx place) reply messages new step (remove-follows old ctx place)
-nfs-follows old ctx (nfs.Rmdir place) reply messages new step = answered (time_of ctx.moment) _ old (rmdir_end old ctx place) reply messages new step (rmdir-follows old ctx place)
-nfs-follows old ctx (nfs.Link a) reply messages new step = answered (time_of ctx.moment) _ old (link_end old ctx a) reply messages new step (link-follows old ctx a)
+    made old ctx a.place _ _ _ reply messages new step (file-plain old ctx a.how)
+        (λ number. existing-follows old ctx a.how number (get old.objects number) refl)
+nfs-follows old ctx (nfs.Mkdir a) reply messages new step = made old ctx a.place _ _ _ reply messages new step
+    (record { entries = refl; cookies = directory-plain }) (λ number. tt)
+nfs-follows old ctx (nfs.Symlink a) reply messages new step = made old ctx a.place _ _ _ reply messages new step
+    (record { entries = refl; cookies = λ last is. cc }) (λ number. tt)
+nfs-follows old ctx (nfs.Mknod a) reply messages new step = made old ctx a.place _ _ _ reply messages new step
+    (special-plain old ctx a.what) (λ number. tt)
+nfs-follows old ctx (nfs.Remove place) reply messages new step = answered (time_of ctx.moment) _ old
+    (remove_end old ctx place) reply messages new step (remove-follows old ctx place)
+nfs-follows old ctx (nfs.Rmdir place) reply messages new step = answered (time_of ctx.moment) _ old
+    (rmdir_end old ctx place) reply messages new step (rmdir-follows old ctx place)
+nfs-follows old ctx (nfs.Link a) reply messages new step = answered (time_of ctx.moment) _ old (link_end old ctx a)
+    reply messages new step (link-follows old ctx a)
 nfs-follows old ctx (nfs.Rename a) reply messages new step =
     answered (time_of ctx.moment) _ old (rename_end old ctx a step.is_within) reply messages new step.answers
     (rename-follows old ctx step.is_within step.tells a)
-nfs-follows old ctx (nfs.Setattr a) reply messages new step = answered (time_of ctx.moment) _ old (setattr_end old ctx a) reply messages new step (setattr-follows old ctx a)
+nfs-follows old ctx (nfs.Setattr a) reply messages new step = answered (time_of ctx.moment) _ old
+    (setattr_end old ctx a) reply messages new step (setattr-follows old ctx a)
 nfs-follows old ctx (nfs.Access a) reply messages new step = stays (time_of ctx.moment) old new step.state_is
 nfs-follows old ctx (nfs.Readlink object) reply messages new step = stays (time_of ctx.moment) old new step.state_is
 nfs-follows old ctx (nfs.Readdir a) reply messages new step = stays (time_of ctx.moment) old new step.answers.state_is
-nfs-follows old ctx (nfs.Readdirplus a) reply messages new step = stays (time_of ctx.moment) old new step.answers.state_is
+nfs-follows old ctx (nfs.Readdirplus a) reply messages new step = stays (time_of ctx.moment) old new
+    step.answers.state_is
 nfs-follows old ctx (nfs.Fsstat object) reply messages new step = stays (time_of ctx.moment) old new step.state_is
 nfs-follows old ctx (nfs.Fsinfo object) reply messages new step = stays (time_of ctx.moment) old new step.state_is
 nfs-follows old ctx (nfs.Pathconf object) reply messages new step = stays (time_of ctx.moment) old new step.state_is
@@ -332,9 +359,12 @@ unchanged now old new same = keeps now old new (stays now old new same)
 with-mounts : (now : Time) (m : State) (mounts : List MountBody) → (MountsFormed m.mounts → MountsFormed mounts)
     → Keeps now m (record m { mounts = mounts })
 with-mounts now m mounts formed = record {
-  gives = gives-continued now m (record m { mounts = mounts }) (record { kept = λ n g e. e; lived = λ n o at. (o, at, inl refl) });
-  touches = touches-continued now m (record m { mounts = mounts }) (record { kept = λ n g e. e; lived = λ n o at. (o, at, inl refl) });
-  cookies = cookies-continued now m (record m { mounts = mounts }) (record { kept = λ n g e. e; lived = λ n o at. (o, at, inl refl) });
+  gives = gives-continued now m (record m { mounts = mounts })
+      (record { kept = λ n g e. e; lived = λ n o at. (o, at, inl refl) });
+  touches = touches-continued now m (record m { mounts = mounts })
+      (record { kept = λ n g e. e; lived = λ n o at. (o, at, inl refl) });
+  cookies = cookies-continued now m (record m { mounts = mounts })
+      (record { kept = λ n g e. e; lived = λ n o at. (o, at, inl refl) });
   formed = λ w.
       let firm = firm-on m (firm-of m w.locks) m.objects (λ n file. file) m.spent mounts in
       well_formed-alike m (record m { mounts = mounts }) (λ n. alike_itself (get m.objects n)) (λ n. refl)
@@ -366,17 +396,22 @@ unmounted now m goes =
     with-mounts now m (filter (λ (x : MountBody). not (goes x)) m.mounts)
     (mounts-left (λ (x : MountBody). not (goes x)) m.mounts)
 
-mnt : (old : State) (ctx : Ctx) (path : List ℕ) (result : Result (List ℕ) MountStatus) (new : State) → MntAnswers old ctx path result new → Keeps (time_of ctx.moment) old new
-mnt old ctx path (Ok handle) new (found, target, is, same) = subst (Keeps (time_of ctx.moment) old) (sym same) (mounted (time_of ctx.moment) old (record { hostname = ctx.host; directory = path }))
+mnt : (old : State) (ctx : Ctx) (path : List ℕ) (result : Result (List ℕ) MountStatus) (new : State)
+    → MntAnswers old ctx path result new → Keeps (time_of ctx.moment) old new
+mnt old ctx path (Ok handle) new (found, target, is, same) = subst (Keeps (time_of ctx.moment) old) (sym same)
+    (mounted (time_of ctx.moment) old (record { hostname = ctx.host; directory = path }))
 mnt old ctx path (Err e) new (why, same) = unchanged (time_of ctx.moment) old new same
 
-mount-keeps : (old : State) (ctx : Ctx) (call : MountCall) (reply : MountReply) (messages : List Message) (new : State) → MountStep old ctx call reply messages new → Keeps (time_of ctx.moment) old new
+mount-keeps : (old : State) (ctx : Ctx) (call : MountCall) (reply : MountReply) (messages : List Message) (new : State)
+    → MountStep old ctx call reply messages new → Keeps (time_of ctx.moment) old new
 unfolding MountStep
 mount-keeps old ctx mount.Null reply messages new step = unchanged (time_of ctx.moment) old new step.state_is
 mount-keeps old ctx (mount.Mnt path) reply messages new step = mnt old ctx path step.0 new step.3
 mount-keeps old ctx mount.Dump reply messages new step = unchanged (time_of ctx.moment) old new step.state_is
-mount-keeps old ctx (mount.Unmount path) reply messages new step = subst (Keeps (time_of ctx.moment) old) (sym step.state_is) (unmounted (time_of ctx.moment) old (is_of ctx.host path))
-mount-keeps old ctx mount.UnmountAll reply messages new step = subst (Keeps (time_of ctx.moment) old) (sym step.state_is) (unmounted (time_of ctx.moment) old (λ (x : MountBody). same_bytes x.hostname ctx.host))
+mount-keeps old ctx (mount.Unmount path) reply messages new step = subst (Keeps (time_of ctx.moment) old)
+    (sym step.state_is) (unmounted (time_of ctx.moment) old (is_of ctx.host path))
+mount-keeps old ctx mount.UnmountAll reply messages new step = subst (Keeps (time_of ctx.moment) old)
+    (sym step.state_is) (unmounted (time_of ctx.moment) old (λ (x : MountBody). same_bytes x.hostname ctx.host))
 mount-keeps old ctx mount.Export reply messages new step = unchanged (time_of ctx.moment) old new step.state_is
 
 -- so does NLM
@@ -416,7 +451,8 @@ untouched now old new same waits = of same.objects same.spent (λ w. record {
         names : (n : ℕ) → names_of new n ≡ names_of old n
         names n = ap (λ (x : FinMap nat_cmp Living). sum_by (names_in n) (values x)) objects
 
-nlm-keeps : (old : State) (ctx : Ctx) (call : NlmCall) (reply : NlmReply) (messages : List Message) (new : State) → NlmStep old ctx call reply messages new → Keeps (time_of ctx.moment) old new
+nlm-keeps : (old : State) (ctx : Ctx) (call : NlmCall) (reply : NlmReply) (messages : List Message) (new : State)
+    → NlmStep old ctx call reply messages new → Keeps (time_of ctx.moment) old new
 nlm-keeps old ctx call reply messages new step =
     untouched (time_of ctx.moment) old new (nlm-touches old ctx call reply messages new step)
     (nlm-waits old ctx call reply messages new step)

@@ -14,7 +14,8 @@ use Rattle.nfs_wire.specs.declared.status.NfsStatus.{NfsStatus}
 use Rattle.nfs_wire.specs.declared.status.NfsStatus.TheVariants as status
 use Rattle.nfs_machine.specs.Attributes.{entries_of, is_directory, names_of, links_of}
 use Rattle.nfs_machine.specs.Bytes.{same_bytes}
-use Rattle.nfs_machine.specs.Checks.{DirectoryEntries, holding, object_of, entries_in, plain_name_checked, changeable, permitted, entry_of, link_limit}
+use Rattle.nfs_machine.specs.Checks.{DirectoryEntries, holding, object_of, entries_in, plain_name_checked, changeable,
+    permitted, entry_of, link_limit}
 use Rattle.nfs_machine.specs.Laws.{KeepsEntries}
 use Rattle.nfs_machine.specs.LinkSteps.{link_end}
 use Rattle.nfs_machine.specs.Making.{with_entry}
@@ -26,7 +27,8 @@ use Rattle.nfs_machine.specs.State.{Content, Directory, Entry, Living, State}
 use Rattle.nfs_machine.specs.Times.{time_of}
 use Rattle.nfs_machine.specs.WellFormed.{Leads, WellFormed, is_root}
 use Rattle.nfs_machine.specs.declared.context.Ctx.{Ctx}
-use Rattle.nfs_machine.proofs.MapChangeLemmas.{apart, differs-insert, differs-other, differs-there, find-all, flipped, itself}
+use Rattle.nfs_machine.proofs.MapChangeLemmas.{apart, differs-insert, differs-other, differs-there, find-all, flipped,
+    itself}
 use Rattle.nfs_machine.proofs.WellFormedLemmas.{replaced-names}
 use Rattle.nfs_machine.specs.Times.{touch}
 use Rattle.nfs_machine.proofs.ContinuesLemmas.{Continues, kinds-continued, continues-itself, continues-losing}
@@ -34,12 +36,15 @@ use Rattle.nfs_machine.proofs.ContinuesLemmas.{continues-touched, continues-with
 use Rattle.nfs_machine.proofs.ContinuesLemmas.{texts-continued, touches-continued, well_formed-losing}
 use Rattle.nfs_machine.proofs.LinksCountedLemmas.{Counts, changed-losing, names-losing}
 use Rattle.nfs_machine.proofs.CookieLemmas.{kept-added, kept-of, kept-same, kept-without}
-use Rattle.nfs_machine.proofs.ChecksPassedLemmas.{absent, chained-is, directory-empty, holds, is-directory, leads-found, plain-empty, resolved-lives, numbered}
+use Rattle.nfs_machine.proofs.ChecksPassedLemmas.{absent, chained-is, directory-empty, holds, is-directory, leads-found,
+    plain-empty, resolved-lives, numbered}
 use Rattle.nfs_machine.proofs.FirmLemmas.{put-directory, put-over}
-use Rattle.nfs_machine.proofs.ProcedureFollowsLemmas.{Follows, LocksFollow, beside-follows, bounds-losing, exports-losing, locks-losing}
+use Rattle.nfs_machine.proofs.ProcedureFollowsLemmas.{Follows, LocksFollow, beside-follows, bounds-losing,
+    exports-losing, locks-losing}
 use Rattle.nfs_machine.proofs.ProcedureFollowsLemmas.{locks-on, mounts-losing}
 use Rattle.nfs_machine.proofs.LooseLemmas.{AddsName, Loose, Swaps, TakesName, also, loose-added, loose-taken}
-use Rattle.nfs_machine.proofs.LooseLemmas.{loose-touched, loosened, names_of-added, names_of-taken, none_loose, tightened}
+use Rattle.nfs_machine.proofs.LooseLemmas.{loose-touched, loosened, names_of-added, names_of-taken, none_loose,
+    tightened}
 use Rattle.nfs_machine.specs.RemoveSteps.{take_end}
 use Rattle.nfs_machine.specs.RemoveSteps.{rmdir_end}
 use Rattle.nfs_machine.specs.RemoveSteps.{remove_end}
@@ -56,27 +61,35 @@ pub record IsNamedEntry (m : State) (n : NamedEntry) : Type 0 where
   pub object : get m.objects n.number ≡ Some n.object
 
 -- what an entry leads to lives at its number
-pub under-entry : (m : State) (x : Option Entry) (o : Named) → object_under m x ≡ Some o → (e : Entry) × (x ≡ Some e) × (e.number ≡ o.number) × (get m.objects o.number ≡ Some o.object)
+pub under-entry : (m : State) (x : Option Entry) (o : Named) → object_under m x ≡ Some o → (e : Entry) × (x ≡ Some e)
+    × (e.number ≡ o.number) × (get m.objects o.number ≡ Some o.object)
 under-entry m None o is = cc
 under-entry m (Some e) o is = found (get m.objects e.number) refl is
   where
-    found : (l : Option Living) → get m.objects e.number ≡ l → option_map (λ (x : Living). numbered e.number x) l ≡ Some o → (f : Entry) × (Some e ≡ Some f) × (f.number ≡ o.number) × (get m.objects o.number ≡ Some o.object)
+    found : (l : Option Living) → get m.objects e.number ≡ l → option_map (λ (x : Living). numbered e.number x) l ≡ Some
+        o → (f : Entry) × (Some e ≡ Some f) × (f.number ≡ o.number) × (get m.objects o.number ≡ Some o.object)
     found None at some = cc
-    found (Some x) at some = (let same : numbered e.number x ≡ o = cc in (e, refl, ap (λ (y : Named). y.number) same, subst (λ (y : Named). get m.objects y.number ≡ Some y.object) same at))
+    found (Some x) at some = (let same : numbered e.number x ≡ o = cc in (e, refl, ap (λ (y : Named). y.number) same,
+        subst (λ (y : Named). get m.objects y.number ≡ Some y.object) same at))
 
-pub is-under : (m : State) (directory : Named) (entries : DirectoryEntries) (name : List ℕ) (o : Named) → get m.objects directory.number ≡ Some directory.object → directory.object.content ≡ Directory entries.list entries.last_cookie
+pub is-under : (m : State) (directory : Named) (entries : DirectoryEntries) (name : List ℕ) (o : Named)
+    → get m.objects directory.number ≡ Some directory.object
+    → directory.object.content ≡ Directory entries.list entries.last_cookie
     → object_under m (entry_of entries.list name) ≡ Some o → IsNamedEntry m (named_as directory entries name o)
 is-under m directory entries name o lives content is =
     let e = under-entry m (entry_of entries.list name) o is in
     record { lives = lives; content = content; entry = e.0; found = e.1; number = e.2; object = e.3 }
 
 -- the names beside it keep their cookies
-pub kept-taken : (m : State) (n : NamedEntry) → IsNamedEntry m n → KeepsEntries (entries_of n.directory.content) (without n.entries n.name)
-kept-taken m n named = kept-of n.directory.content n.entries (without n.entries n.name) n.last_cookie named.content (kept-without n.entries n.entries n.name (kept-same n.entries))
+pub kept-taken : (m : State) (n : NamedEntry) → IsNamedEntry m n
+    → KeepsEntries (entries_of n.directory.content) (without n.entries n.name)
+kept-taken m n named = kept-of n.directory.content n.entries (without n.entries n.name) n.last_cookie named.content
+    (kept-without n.entries n.entries n.name (kept-same n.entries))
 
 -- a directory in the place of another: its entries alone differ
 pub narrower-swaps : (m : State) (n : NamedEntry) (now : Time) (entries : List Entry) (last : ℕ) → IsNamedEntry m n
-    → Swaps m (with_object m n.place (with_content n.directory now (Directory entries last))) n.place n.directory (with_content n.directory now (Directory entries last))
+    → Swaps m (with_object m n.place (with_content n.directory now (Directory entries last))) n.place n.directory
+        (with_content n.directory now (Directory entries last))
 narrower-swaps m n now entries last named = record {
   lives = named.lives;
   objects = differs-insert m.objects n.place (with_content n.directory now (Directory entries last));
@@ -105,12 +118,14 @@ module _ (m : State) (now : Time) (n : NamedEntry) (named : IsNamedEntry m n) wh
   }
 
   pub loose-mid : (loose : ℕ → Bool) → Loose loose m → Loose (also n.number loose) mid
-  loose-mid loose l = subst (λ k. Loose (also k loose) mid) named.number (loose-taken m mid n.place n.directory narrower n.name named.entry takes loose l)
+  loose-mid loose l = subst (λ k. Loose (also k loose) mid) named.number (loose-taken m mid n.place n.directory narrower
+      n.name named.entry takes loose l)
 
   -- the object has one name less
   pub one-less : (loose : ℕ → Bool) → Loose loose m → names_of mid n.number + 1 ≡ names_of m n.number
   one-less loose l =
-      let one : cond {A = ℕ} (named.entry.number == n.number) 1 0 ≡ 1 = ap (λ k. cond {A = ℕ} (k == n.number) 1 0) named.number ∙ ap (λ b. cond b 1 0) (itself n.number) in
+      let one : cond {A = ℕ} (named.entry.number == n.number) 1 0 ≡ 1 = ap (λ k. cond {A = ℕ} (k == n.number) 1 0)
+          named.number ∙ ap (λ b. cond b 1 0) (itself n.number) in
       omega (arith, names_of-taken m mid n.place n.directory narrower n.name named.entry takes loose l n.number, one)
 
   -- what a name leads to is no root
@@ -128,12 +143,15 @@ module _ (m : State) (now : Time) (n : NamedEntry) (named : IsNamedEntry m n) wh
     elsewhere = apart n.number n.place (λ same.
         let both : Some n.object ≡ Some n.directory = sym named.object ∙ ap (get m.objects) same ∙ named.lives in
         let is : n.object ≡ n.directory = cc in
-        let none : n.entries ≡ [] = sym (ap entries_of named.content) ∙ sym (ap (λ (o : Living). entries_of o.content) is) ∙ empty in
-        let found : find (λ (x : Entry). same_bytes x.name n.name) [] ≡ Some named.entry = subst (λ es. find (λ (x : Entry). same_bytes x.name n.name) es ≡ Some named.entry) none named.found in
+        let none : n.entries ≡ [] = sym (ap entries_of named.content)
+            ∙ sym (ap (λ (o : Living). entries_of o.content) is) ∙ empty in
+        let found : find (λ (x : Entry). same_bytes x.name n.name) [] ≡ Some named.entry = subst
+            (λ es. find (λ (x : Entry). same_bytes x.name n.name) es ≡ Some named.entry) none named.found in
         cc)
 
     object-there : get mid.objects n.number ≡ Some n.object
-    object-there = differs-other m.objects mid.objects n.place (Some narrower) (differs-insert m.objects n.place narrower) n.number elsewhere ∙ named.object
+    object-there = differs-other m.objects mid.objects n.place (Some narrower)
+        (differs-insert m.objects n.place narrower) n.number elsewhere ∙ named.object
 
     continues-taken : Continues now m (with_name_taken m now n)
     continues-taken =
@@ -199,7 +217,8 @@ module _ (m : State) (ctx : Ctx) where
   abbrev Leaves : Unit {0} × State → Type 0
   Leaves e = Follows (time_of ctx.moment) m e.1
 
-  take-follows : (place : Place) (name : List ℕ → Result (Unit {0}) NfsStatus) (content : Content → Result (Unit {0}) NfsStatus) → ((c : Content) (x : Unit {0}) → content c ≡ Ok x → entries_of c ≡ [])
+  take-follows : (place : Place) (name : List ℕ → Result (Unit {0}) NfsStatus) (content : Content
+      → Result (Unit {0}) NfsStatus) → ((c : Content) (x : Unit {0}) → content c ≡ Ok x → entries_of c ≡ [])
       → IfOk (take_end m ctx place name content) Leaves
   take-follows place name content empty =
       chained-is Leaves (object_of (resolve m ctx place.directory)) _ (λ directory at.
@@ -210,7 +229,8 @@ module _ (m : State) (ctx : Ctx) where
       chained-is Leaves (ok_or (object_under m (entry_of entries.list place.name)) status.NoEntry) _ (λ o e4.
       chained-is Leaves (content o.object.content) _ (λ x5 e5.
       taken-follows m (time_of ctx.moment) (named_as directory entries place.name o)
-      (is-under m directory entries place.name o (resolved-lives m ctx place.directory directory at) (is-directory directory.object.content entries is)
+      (is-under m directory entries place.name o (resolved-lives m ctx place.directory directory at)
+          (is-directory directory.object.content entries is)
       (leads-found (object_under m (entry_of entries.list place.name)) o e4))
       (empty o.object.content x5 e5))))))))
 
@@ -218,12 +238,16 @@ module _ (m : State) (ctx : Ctx) where
   remove-follows place = take-follows place (plain_name_checked status.Invalid status.Invalid) not_directory plain-empty
 
   pub rmdir-follows : (place : Place) → IfOk (rmdir_end m ctx place) Leaves
-  rmdir-follows place = take-follows place (plain_name_checked status.Invalid status.Exists) empty_directory directory-empty
+  rmdir-follows place = take-follows place (plain_name_checked status.Invalid status.Exists) empty_directory
+      directory-empty
 
 -- ---- one name more
-module _ (m : State) (now : Time) (number : ℕ) (object : Living) (place : ℕ) (directory : Living) (entries : List Entry) (last : ℕ) (name : List ℕ)
-    (there : get m.objects number ≡ Some object) (lives : get m.objects place ≡ Some directory) (export : object.export ≡ directory.export) (plain : is_directory object.content ≡ false)
-    (content : directory.content ≡ Directory entries last) (none : find (λ (x : Entry). same_bytes x.name name) entries ≡ None) where
+module _ (m : State) (now : Time) (number : ℕ) (object : Living) (place : ℕ) (directory : Living) (entries : List Entry)
+    (last : ℕ) (name : List ℕ)
+    (there : get m.objects number ≡ Some object) (lives : get m.objects place ≡ Some directory)
+        (export : object.export ≡ directory.export) (plain : is_directory object.content ≡ false)
+    (content : directory.content ≡ Directory entries last) (none : find (λ (x : Entry). same_bytes x.name name)
+        entries ≡ None) where
   abbrev wider : Living
   wider = with_content directory now (with_entry entries last name number)
 
@@ -262,7 +286,8 @@ module _ (m : State) (now : Time) (number : ℕ) (object : Living) (place : ℕ)
   }
 
   keeps : KeepsEntries (entries_of directory.content) (entries_of (with_entry entries last name number))
-  keeps = kept-of directory.content entries _ last content (kept-added entries entries _ (kept-same entries) (λ e found same. cc))
+  keeps = kept-of directory.content entries _ last content (kept-added entries entries _ (kept-same entries)
+      (λ e found same. cc))
 
   continues-linked : Continues now m (with_object added number (touched object now))
   continues-linked = continues-touched now m added
@@ -277,8 +302,10 @@ module _ (m : State) (now : Time) (number : ℕ) (object : Living) (place : ℕ)
   formed : WellFormed m → WellFormed (with_object added number (touched object now))
   formed w =
       let l = loosened (also number none_loose) m w in
-      let wide = loose-added m added place number directory wider object name (adds w) none_loose l l.depth (record { deeper = l.deeper; added = λ e. (let no : true ≡ false = sym e ∙ plain in cc) }) in
-      let at : get added.objects number ≡ Some object = differs-other m.objects added.objects place (Some wider) (differs-insert m.objects place wider) number other-place ∙ there in
+      let wide = loose-added m added place number directory wider object name (adds w) none_loose l l.depth
+          (record { deeper = l.deeper; added = λ e. (let no : true ≡ false = sym e ∙ plain in cc) }) in
+      let at : get added.objects number ≡ Some object = differs-other m.objects added.objects place (Some wider)
+          (differs-insert m.objects place wider) number other-place ∙ there in
       tightened (with_object added number (touched object now))
       (beside-follows m (with_object added number (touched object now))
       (texts-continued now m (with_object added number (touched object now)) continues-linked w.texts) locks-linked refl
@@ -340,11 +367,15 @@ link-follows m ctx a =
     chained-is P (changeable m.exports directory.object) _ (λ x4 e4.
     chained-is P (permitted ctx directory.object ToChange) _ (λ x5 e5.
     chained-is P (holding (is_none (entry_of entries.list a.place.name)) status.Exists) _ (λ x6 e6.
-    chained-is P (holding (nat_lt (links_of m file.number file.object.content) link_limit) status.TooManyLinks) _ (λ x7 e7.
+    chained-is P (holding (nat_lt (links_of m file.number file.object.content) link_limit) status.TooManyLinks) _
+        (λ x7 e7.
     chained-is P (holding (nat_lt (entries.last_cookie + 1) (2 ^ 64)) status.NoSpace) _ (λ x8 e8.
-    linked-follows m (time_of ctx.moment) file.number file.object directory.number directory.object entries.list entries.last_cookie a.place.name
+    linked-follows m (time_of ctx.moment) file.number file.object directory.number directory.object entries.list
+        entries.last_cookie a.place.name
     (resolved-lives m ctx a.file file at) (resolved-lives m ctx a.place.directory directory there)
-    ((unsigned_Decides file.object.export directory.object.export).0 (holds (file.object.export == directory.object.export) status.CrossDevice x1 e1))
+    ((unsigned_Decides file.object.export directory.object.export).0
+        (holds (file.object.export == directory.object.export) status.CrossDevice x1 e1))
     (not-true (is_directory file.object.content) (holds (not (is_directory file.object.content)) status.Invalid x2 e2))
     (is-directory directory.object.content entries is)
-    (absent entries.list a.place.name (holds (is_none (entry_of entries.list a.place.name)) status.Exists x6 e6)))))))))))))
+    (absent entries.list a.place.name (holds (is_none (entry_of entries.list a.place.name)) status.Exists x6
+        e6)))))))))))))

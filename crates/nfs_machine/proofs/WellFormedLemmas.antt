@@ -1,11 +1,14 @@
--- Where what has a name lives on, names lead where they led, links are as many and parents stay; so where objects change but for their names.
-use Rattle.std.proofs.Common.{◌≡◌, ◌==◌, ℕ, ◌+◌, ◌<◌, ◌≤◌, Bool, true, false, cond, List, [], ◌∷◌, ◌++◌, Option, Some, None, inl, inr, refl, sym, ◌∙◌, ap, subst, arith}
+-- Where what has a name lives on, names lead where they led, links are as many and parents stay; so where objects
+-- change but for their names.
+use Rattle.std.proofs.Common.{◌≡◌, ◌==◌, ℕ, ◌+◌, ◌<◌, ◌≤◌, Bool, true, false, cond, List, [], ◌∷◌, ◌++◌, Option, Some,
+    None, inl, inr, refl, sym, ◌∙◌, ap, subst, arith}
 use Rattle.std.proofs.lemmas.List.Sums.{sum_by-cons}
 use Rattle.std.specs.Cmp.{unsigned_Decides}
 use Rattle.std.specs.FinMap.{get, insert}
 use Rattle.std.specs.List.{AllByRecursion, count_by, list_any}
 use Rattle.nfs_machine.specs.Attributes.{entries_of, is_directory, is_living_directory, links_of, names_in, names_of}
-use Rattle.nfs_machine.specs.State.{Content, Regular, Directory, Link, BlockDevice, CharacterDevice, Socket, Fifo, Entry, Living, State}
+use Rattle.nfs_machine.specs.State.{Content, Regular, Directory, Link, BlockDevice, CharacterDevice, Socket, Fifo,
+    Entry, Living, State}
 use Rattle.nfs_machine.specs.Exports.{LivingExport}
 use Rattle.nfs_machine.specs.WellFormed.{IsDirectoryOf, IsParent, Leads, is_root}
 use Rattle.nfs_machine.proofs.MapChangeLemmas.{part-of_sum}
@@ -21,7 +24,8 @@ module _ {X : Type 0} (P Q : X → Type 0) where
   all_both [] ps qs = tt
   all_both (x ∷ xs) ps qs = ((ps.0, qs.0), all_both xs ps.1 qs.1)
 
-pub all_last : {X : Type 0} (P : X → Type 0) (xs : List X) (x : X) → AllByRecursion P xs → P x → AllByRecursion P (xs ++ x ∷ [])
+pub all_last : {X : Type 0} (P : X → Type 0) (xs : List X) (x : X) → AllByRecursion P xs → P x
+    → AllByRecursion P (xs ++ x ∷ [])
 all_last P [] x all p = (p, tt)
 all_last P (y ∷ xs) x all p = (all.0, all_last P xs x all.1 p)
 
@@ -36,26 +40,33 @@ no_entries Socket e = refl
 no_entries Fifo e = refl
 
 -- each entry of a list is counted in it
-pub counted : (es : List Entry) → AllByRecursion (λ (e : Entry). 1 ≤ count_by (λ (x : Entry). x.number == e.number) es) es
+pub counted : (es : List Entry)
+    → AllByRecursion (λ (e : Entry). 1 ≤ count_by (λ (x : Entry). x.number == e.number) es) es
 counted [] = tt
 counted (e ∷ es) = (
-  (let one : cond {A = ℕ} (e.number == e.number) 1 0 ≡ 1 = ap (λ b. cond b 1 0) ((unsigned_Decides e.number e.number).1 refl) in
+  (let one : cond {A = ℕ} (e.number == e.number) 1 0 ≡ 1 = ap (λ b. cond b 1 0)
+      ((unsigned_Decides e.number e.number).1 refl) in
       omega (arith, one, sum_by-cons (λ (x : Entry). cond {A = ℕ} (x.number == e.number) 1 0) e es)),
-  all_map (λ (f : Entry). 1 ≤ count_by (λ (x : Entry). x.number == f.number) es) (λ (f : Entry). 1 ≤ count_by (λ (x : Entry). x.number == f.number) (e ∷ es))
-      (λ f some. omega (arith, some, sum_by-cons (λ (x : Entry). cond {A = ℕ} (x.number == f.number) 1 0) e es)) es (counted es),
+  all_map (λ (f : Entry). 1 ≤ count_by (λ (x : Entry). x.number == f.number) es)
+      (λ (f : Entry). 1 ≤ count_by (λ (x : Entry). x.number == f.number) (e ∷ es))
+      (λ f some. omega (arith, some, sum_by-cons (λ (x : Entry). cond {A = ℕ} (x.number == f.number) 1 0) e es)) es
+          (counted es),
 )
 
 -- what an entry of a living directory leads to has a name
-has-names : (m : State) (n : ℕ) (d : Living) → get m.objects n ≡ Some d → AllByRecursion (λ (e : Entry). 1 ≤ names_of m e.number) (entries_of d.content)
+has-names : (m : State) (n : ℕ) (d : Living) → get m.objects n ≡ Some d
+    → AllByRecursion (λ (e : Entry). 1 ≤ names_of m e.number) (entries_of d.content)
 has-names m n d at =
-    all_map (λ (e : Entry). 1 ≤ names_in e.number d) (λ (e : Entry). 1 ≤ names_of m e.number) (λ e some. (let part = part-of_sum (names_in e.number) m.objects n d at in omega (arith, some, part)))
+    all_map (λ (e : Entry). 1 ≤ names_in e.number d) (λ (e : Entry). 1 ≤ names_of m e.number)
+        (λ e some. (let part = part-of_sum (names_in e.number) m.objects n d at in omega (arith, some, part)))
     (entries_of d.content) (counted (entries_of d.content))
 
 -- ---- links
 abbrev pub is_subdirectory : State → Entry → Bool
 is_subdirectory m e = is_living_directory (get m.objects e.number)
 
-pub links-by : (m : State) (n : ℕ) (c : Content) → links_of m n c ≡ cond (is_directory c) (2 + count_by (is_subdirectory m) (entries_of c)) (names_of m n)
+pub links-by : (m : State) (n : ℕ) (c : Content)
+    → links_of m n c ≡ cond (is_directory c) (2 + count_by (is_subdirectory m) (entries_of c)) (names_of m n)
 links-by m n (Directory entries last) = refl
 links-by m n (Regular bytes) = refl
 links-by m n (Link text) = refl
@@ -66,11 +77,15 @@ links-by m n Fifo = refl
 
 -- the links of what is no directory are its names
 pub links-names : (m : State) (n : ℕ) (c : Content) → is_directory c ≡ false → links_of m n c ≡ names_of m n
-links-names m n c plain = links-by m n c ∙ ap (λ b. cond b (2 + count_by (is_subdirectory m) (entries_of c)) (names_of m n)) plain
+links-names m n c plain = links-by m n c
+    ∙ ap (λ b. cond b (2 + count_by (is_subdirectory m) (entries_of c)) (names_of m n)) plain
 
-pub links-same : (old new : State) (n : ℕ) (c : Content) → names_of new n ≡ names_of old n → count_by (is_subdirectory new) (entries_of c) ≡ count_by (is_subdirectory old) (entries_of c) → links_of new n c ≡ links_of old n c
+pub links-same : (old new : State) (n : ℕ) (c : Content) → names_of new n ≡ names_of old n
+    → count_by (is_subdirectory new) (entries_of c) ≡ count_by (is_subdirectory old) (entries_of c)
+    → links_of new n c ≡ links_of old n c
 links-same old new n c names counts =
-    links-by new n c ∙ ap (λ k. cond (is_directory c) (2 + k) (names_of new n)) counts ∙ ap (cond (is_directory c) (2 + count_by (is_subdirectory old) (entries_of c))) names ∙ sym (links-by old n c)
+    links-by new n c ∙ ap (λ k. cond (is_directory c) (2 + k) (names_of new n)) counts
+        ∙ ap (cond (is_directory c) (2 + count_by (is_subdirectory old) (entries_of c))) names ∙ sym (links-by old n c)
 
 -- entries that lead to directories where they did
 pub counts-same : (old new : State) (es : List Entry) →
@@ -106,7 +121,8 @@ abbrev pub Deep : State → (ℕ → ℕ) → ℕ → Entry → Type 0
 Deep m depth n e = is_living_directory (get m.objects e.number) ≡ true → depth n < depth e.number
 
 -- where all that has a name lives on
-module _ (old new : State) (on : (n : ℕ) (o : Living) → get old.objects n ≡ Some o → 1 ≤ names_of old n → LivesOn new n o) where
+module _ (old new : State) (on : (n : ℕ) (o : Living) → get old.objects n ≡ Some o → 1 ≤ names_of old n
+    → LivesOn new n o) where
   module _ (n : ℕ) (d : Living) (at : get old.objects n ≡ Some d) where
     abbrev LeadsOn : Entry → Type 0
     LeadsOn e = (l : Leads old d e) × LivesOn new e.number l.object
@@ -115,7 +131,8 @@ module _ (old new : State) (on : (n : ℕ) (o : Living) → get old.objects n �
     all-on leads =
         all_map (λ (e : Entry). (1 ≤ names_of old e.number) × Leads old d e) LeadsOn
         (λ e both. (both.1, on e.number (both.1).object (both.1).lives both.0))
-        (entries_of d.content) (all_both (λ (e : Entry). 1 ≤ names_of old e.number) (Leads old d) (entries_of d.content) (has-names old n d at) leads)
+        (entries_of d.content) (all_both (λ (e : Entry). 1 ≤ names_of old e.number) (Leads old d) (entries_of d.content)
+            (has-names old n d at) leads)
 
     pub leads-on : new.exports ≡ old.exports → (is : Living) → is.export ≡ d.export →
         AllByRecursion (Leads old d) (entries_of d.content) → AllByRecursion (Leads new is) (entries_of d.content)
@@ -129,7 +146,8 @@ module _ (old new : State) (on : (n : ℕ) (o : Living) → get old.objects n �
         })
         (entries_of d.content) (all-on leads)
 
-    kinds-on : AllByRecursion (Leads old d) (entries_of d.content) → AllByRecursion (λ (e : Entry). is_subdirectory new e ≡ is_subdirectory old e) (entries_of d.content)
+    kinds-on : AllByRecursion (Leads old d) (entries_of d.content)
+        → AllByRecursion (λ (e : Entry). is_subdirectory new e ≡ is_subdirectory old e) (entries_of d.content)
     kinds-on leads =
         all_map LeadsOn (λ (e : Entry). is_subdirectory new e ≡ is_subdirectory old e)
         (λ e l. ap is_living_directory (l.1).lives ∙ (l.1).kind ∙ sym (ap is_living_directory (l.0).lives))
@@ -138,12 +156,17 @@ module _ (old new : State) (on : (n : ℕ) (o : Living) → get old.objects n �
     pub names-on : new.exports ≡ old.exports → IsDirectoryOf old d → IsDirectoryOf new d
     names-on exports was = record { once = was.once; leads = leads-on exports d refl was.leads }
 
-    pub deep-on : (depth : ℕ → ℕ) → AllByRecursion (Leads old d) (entries_of d.content) → AllByRecursion (Deep old depth n) (entries_of d.content) → AllByRecursion (Deep new depth n) (entries_of d.content)
+    pub deep-on : (depth : ℕ → ℕ) → AllByRecursion (Leads old d) (entries_of d.content)
+        → AllByRecursion (Deep old depth n) (entries_of d.content)
+        → AllByRecursion (Deep new depth n) (entries_of d.content)
     deep-on depth leads deep =
-        all_map (λ (e : Entry). (is_subdirectory new e ≡ is_subdirectory old e) × Deep old depth n e) (Deep new depth n) (λ e both living. both.1 (sym both.0 ∙ living))
-        (entries_of d.content) (all_both (λ (e : Entry). is_subdirectory new e ≡ is_subdirectory old e) (Deep old depth n) (entries_of d.content) (kinds-on leads) deep)
+        all_map (λ (e : Entry). (is_subdirectory new e ≡ is_subdirectory old e) × Deep old depth n e) (Deep new depth n)
+            (λ e both living. both.1 (sym both.0 ∙ living))
+        (entries_of d.content) (all_both (λ (e : Entry). is_subdirectory new e ≡ is_subdirectory old e)
+            (Deep old depth n) (entries_of d.content) (kinds-on leads) deep)
 
-    pub counts-on : AllByRecursion (Leads old d) (entries_of d.content) → count_by (is_subdirectory new) (entries_of d.content) ≡ count_by (is_subdirectory old) (entries_of d.content)
+    pub counts-on : AllByRecursion (Leads old d) (entries_of d.content)
+        → count_by (is_subdirectory new) (entries_of d.content) ≡ count_by (is_subdirectory old) (entries_of d.content)
     counts-on leads = counts-same old new (entries_of d.content) (kinds-on leads)
 
 -- ---- a directory keeps its parent, where that one lives on with as many names of it or more
@@ -160,7 +183,8 @@ parent-on old new n parent p o lives exports more = record {
 }
 
 -- ---- objects that keep their names
--- one object in the place of another that names nothing else: it keeps its export and its generation, and a directory all that it contains
+-- one object in the place of another that names nothing else: it keeps its export and its generation, and a directory
+-- all that it contains
 pub record KeepsNames (old new : Living) : Type 0 where
   pub export : new.export ≡ old.export
   pub generation : new.generation ≡ old.generation
@@ -201,10 +225,12 @@ module _ (old new : State) (alike : (n : ℕ) → Alike (get old.objects n) (get
   is_there (Some a) None p k e = absurd k
   is_there (Some a) (Some b) p k e = (b, refl, subst (λ (x : Living). KeepsNames x b) (let same : a ≡ p = cc in same) k)
 
-  pub before : (n : ℕ) (o : Living) → get new.objects n ≡ Some o → (p : Living) × (get old.objects n ≡ Some p) × KeepsNames p o
+  pub before : (n : ℕ) (o : Living) → get new.objects n ≡ Some o → (p : Living) × (get old.objects n ≡ Some p)
+      × KeepsNames p o
   before n o at = was_there (get old.objects n) (get new.objects n) o (alike n) at
 
-  pub after : (n : ℕ) (p : Living) → get old.objects n ≡ Some p → (o : Living) × (get new.objects n ≡ Some o) × KeepsNames p o
+  pub after : (n : ℕ) (p : Living) → get old.objects n ≡ Some p → (o : Living) × (get new.objects n ≡ Some o)
+      × KeepsNames p o
   after n p at = is_there (get old.objects n) (get new.objects n) p (alike n) at
 
   kinds : (a b : Option Living) → Alike a b → is_living_directory b ≡ is_living_directory a
@@ -221,27 +247,35 @@ module _ (old new : State) (alike : (n : ℕ) → Alike (get old.objects n) (get
       IsParent new n parent
   parent-alike exports n parent p =
       let a = after parent p.directory p.lives in
-      let same : names_in n a.0 ≡ names_in n p.directory = ap (count_by (λ (e : Entry). e.number == n)) (keeps_entries p.directory a.0 a.2) in
+      let same : names_in n a.0 ≡ names_in n p.directory = ap (count_by (λ (e : Entry). e.number == n))
+          (keeps_entries p.directory a.0 a.2) in
       parent-on old new n parent p a.0 a.1 exports (omega (arith, same))
 
   pub lives-alike : (n : ℕ) (p : Living) → get old.objects n ≡ Some p → LivesOn new n p
-  lives-alike n p at = let a = after n p at in record { object = a.0; lives = a.1; export = a.2.export; kind = a.2.kind }
+  lives-alike n p at = let a = after n p at in record { object = a.0; lives = a.1; export = a.2.export;
+      kind = a.2.kind }
 
-  pub links-alike : ((n : ℕ) → names_of new n ≡ names_of old n) → (n : ℕ) (c : Content) → links_of new n c ≡ links_of old n c
-  links-alike names n c = links-same old new n c (names n) (ap (λ (test : ℕ → Bool). count_by (λ (e : Entry). test e.number) (entries_of c)) (λ i. λ k. directories-alike k i))
+  pub links-alike : ((n : ℕ) → names_of new n ≡ names_of old n) → (n : ℕ) (c : Content)
+      → links_of new n c ≡ links_of old n c
+  links-alike names n c = links-same old new n c (names n)
+      (ap (λ (test : ℕ → Bool). count_by (λ (e : Entry). test e.number) (entries_of c))
+      (λ i. λ k. directories-alike k i))
 
 -- ---- one object in the place of another
-module _ (m : State) (number : ℕ) (old new : Living) (lives : get m.objects number ≡ Some old) (keeps : KeepsNames old new) where
+module _ (m : State) (number : ℕ) (old new : Living) (lives : get m.objects number ≡ Some old)
+    (keeps : KeepsNames old new) where
   pub replaced-alike : (n : ℕ) → Alike (get m.objects n) (get (insert m.objects number new) n)
   replaced-alike n =
       subst (Alike (get m.objects n)) (sym (get-inserted m.objects number new n))
       (elim (n == number) as (λ b. (n == number) ≡ b → Alike (get m.objects n) (cond b (Some new) (get m.objects n))) [
-        | true ↦ λ e. subst (λ o. Alike o (Some new)) (sym (ap (get m.objects) ((unsigned_Decides n number).0 e) ∙ lives)) keeps
+        | true ↦ λ e. subst (λ o. Alike o (Some new)) (sym (ap (get m.objects) ((unsigned_Decides n number).0 e)
+            ∙ lives)) keeps
         | false ↦ λ e. alike_itself (get m.objects n)
       ] refl)
 
   pub replaced-names : (n : ℕ) → names_of (record m { objects = insert m.objects number new }) n ≡ names_of m n
   replaced-names n =
-      let same : names_in n new ≡ names_in n old = ap (count_by (λ (e : Entry). e.number == n)) (keeps_entries old new keeps) in
+      let same : names_in n new ≡ names_in n old = ap (count_by (λ (e : Entry). e.number == n))
+          (keeps_entries old new keeps) in
       let sums = sum-insert_old (names_in n) m.objects number old new lives in
       omega (arith, same, sums)
