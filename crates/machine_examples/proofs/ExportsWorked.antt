@@ -52,7 +52,7 @@ sub-parent = record { directory = upper_root; lives = root-at; named_in = inr (o
 abbrev entries_by : (parent : ℕ) → Resolved → Result (List Entry) NfsStatus
 entries_by parent r =
     object_of r >>= λ d. entries_in d.object.content >>= λ entries. permitted nobody d.object ToList
-        >>= λ _. holding true
+    >>= λ _. holding true
     status.BadCookie >>= λ _. Ok (behind 0 (all_entries d.number parent entries.list))
 
 abbrev one_entry : List Entry
@@ -66,7 +66,7 @@ parent-of number parent o is n d both =
 lists : (directory : List ℕ) (number parent : ℕ) (o : Living) (entries : List Entry) →
     resolve exporting nobody directory ≡ Names number o → IsParent exporting number parent
     → PagesOf (fits 65536) (entries_by parent (Names number o))
-        (Ok (record { entries = dots number parent entries; eof = true }))
+    (Ok (record { entries = dots number parent entries; eof = true }))
     → NfsStep exporting nobody (nfs.Readdir (listing directory))
     (page_of directory (dots number parent entries)) [] exporting
 unfolding NfsStep
@@ -135,8 +135,10 @@ worked-exporting = record {
         refl,
         7,
         codes "sub" ∷ [],
-        record { matches = record { export = upper; stands = refl; admitted = refl; begins = refl };
-            longest = longest },
+        record {
+          matches = record { export = upper; stands = refl; admitted = refl; begins = refl };
+          longest = longest;
+        },
         sym found,
       ),
       refl,

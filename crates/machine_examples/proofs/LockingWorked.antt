@@ -40,8 +40,16 @@ use Rattle.machine_examples.specs.WorkedLocking.{sharing, testing, waiting, with
 use Rattle.machine_examples.specs.WorkedLocking.{with_waiting, with_whole}
 use Rattle.machine_examples.specs.WorkedRun.{nobody, read_only, root_with_x, with_hi, x_bytes, x_written}
 use Rattle.nfs_machine.specs.NlmSteps.{NlmStep}
-use Rattle.nfs_machine.proofs.NlmChecksLemmas.{CancelOf, Cancels, LockOf, ShareOf, ShareAnswers, TestOf, UnlockOf,
-    UnshareOf}
+use Rattle.nfs_machine.proofs.NlmChecksLemmas.{
+  CancelOf,
+  Cancels,
+  LockOf,
+  ShareOf,
+  ShareAnswers,
+  TestOf,
+  UnlockOf,
+  UnshareOf,
+}
 use Rattle.nfs_machine.proofs.FileMapLemmas.{grants-none, no-list, of-there}
 use Rattle.machine_examples.proofs.OneFileLemmas.{first-list, next-list, with-again}
 use Rattle.nfs_machine.proofs.ModesLemmas.{listed_locks_tell, holds, mode_by}

@@ -61,7 +61,7 @@ module _ (old : State) (name : List ℕ) (wanted : Result Wanted NfsStatus)
       object_of r >>= λ directory. entries_in directory.object.content >>= λ entries. plain_name_checked status.Exists
       status.Exists name >>= λ _. wanted >>= λ what. changeable old.exports directory.object
       >>= λ _. permitted nobody directory.object ToChange >>= λ _. make_under what directory.number directory.object
-          entries.list entries.last_cookie (entry_of entries.list name)
+      entries.list entries.last_cookie (entry_of entries.list name)
 
   not-made : (o : Living) (reply_of : MadeReply → NfsReply) (e : NfsStatus) → resolve old nobody root_bytes ≡ Names 1 o
       → make_by (Names 1 o) ≡ Err e
@@ -128,7 +128,7 @@ module _ (old : State) (name : List ℕ) (judged_name : List ℕ → Result (Uni
   take_object directory entries found =
       ok_or found status.NoEntry >>= λ object. judged_content object.object.content >>= λ _.
       let left = with_object old directory.number (with_content directory.object (time 1000 0)
-          (Directory (without entries.list name) entries.last_cookie)) in
+      (Directory (without entries.list name) entries.last_cookie)) in
       Ok (tt, losing_name left (names_of old object.number) (time 1000 0) object.number object.object)
 
   abbrev take_by : Resolved → Result (Unit {0} × State) NfsStatus
@@ -161,18 +161,18 @@ worked-taking = record {
       nfs_replies.Rmdir status.NoEntry is-opened refl;
   file =
       not-taken with_hi (codes "x") (plain_name_checked status.Invalid status.Exists) removing.empty_directory
-          root_with_x nfs_replies.Rmdir status.NotDirectory is-written
+      root_with_x nfs_replies.Rmdir status.NotDirectory is-written
       (ap (λ (l : Option Living). take_object with_hi (codes "x") (plain_name_checked status.Invalid status.Exists)
-          removing.empty_directory (numbered 1 root_with_x) (entries_with (x_entry ∷ []) 3)
-          (option_map (λ (o : Living). numbered 5 o) l)) x-lives);
+      removing.empty_directory (numbered 1 root_with_x) (entries_with (x_entry ∷ []) 3)
+      (option_map (λ (o : Living). numbered 5 o) l)) x-lives);
   remove_self = not-taken opened (codes ".") (plain_name_checked status.Invalid status.Invalid) removing.not_directory
       root nfs_replies.Remove status.Invalid is-opened refl;
   remove_above = not-taken opened (codes "..") (plain_name_checked status.Invalid status.Invalid) removing.not_directory
       root nfs_replies.Remove status.Invalid is-opened refl;
   directory =
       not-taken (with_new bare_directory) (codes "d") (plain_name_checked status.Invalid status.Invalid)
-          removing.not_directory root_with_d nfs_replies.Remove status.IsDirectory (is-made bare_directory)
+      removing.not_directory root_with_d nfs_replies.Remove status.IsDirectory (is-made bare_directory)
       (ap (λ (l : Option Living). take_object (with_new bare_directory) (codes "d")
-          (plain_name_checked status.Invalid status.Invalid) removing.not_directory (numbered 1 root_with_d)
-          (entries_with (d_entry ∷ []) 3) (option_map (λ (o : Living). numbered 5 o) l)) (d-lives bare_directory));
+      (plain_name_checked status.Invalid status.Invalid) removing.not_directory (numbered 1 root_with_d)
+      (entries_with (d_entry ∷ []) 3) (option_map (λ (o : Living). numbered 5 o) l)) (d-lives bare_directory));
 }

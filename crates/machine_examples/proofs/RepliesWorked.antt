@@ -1,6 +1,25 @@
 -- Whole replies from states of which only what lives at one number is known.
-use Rattle.std.proofs.Common.{◌≡◌, ◌||◌, ◌==◌, ℕ, List, [], ◌∷◌, take, Option, Some, None, option_map, Result, Ok, Err,
-    refl, sym, ◌∙◌, ap}
+use Rattle.std.proofs.Common.{
+  ◌≡◌,
+  ◌||◌,
+  ◌==◌,
+  ℕ,
+  List,
+  [],
+  ◌∷◌,
+  take,
+  Option,
+  Some,
+  None,
+  option_map,
+  Result,
+  Ok,
+  Err,
+  refl,
+  sym,
+  ◌∙◌,
+  ap,
+}
 use Rattle.std.specs.FinMap.{values}
 use Rattle.nfs_wire.specs.declared.attributes.Attributes.{Attributes}
 use Rattle.nfs_wire.specs.declared.calls.SetattrArguments.{SetattrArguments}
@@ -49,8 +68,11 @@ access_by m ctx asked r = replies.Access
 
 abbrev commit_by : State → Ctx → Resolved → NfsReply
 commit_by m ctx r = replies.Commit
-    (record { wcc = wcc m r; result = object_of r >>= λ file. bytes_in file.object.content >>= λ bytes. Ok
-    (verifier_of ctx) })
+    (record {
+      wcc = wcc m r;
+      result = object_of r >>= λ file. bytes_in file.object.content >>= λ bytes. Ok
+          (verifier_of ctx);
+    })
 
 abbrev pathconf_by : State → Resolved → NfsReply
 pathconf_by m r = replies.Pathconf (record { attributes = shown m r; result = object_of r >>= λ o. Ok path_limits })
@@ -98,8 +120,8 @@ module _ (k : State) (has : HasFile k) where
     reply_is = sym (
         ap (setattr_by (with_writable k) (called_as 0) (setting_mode (time 1000 0))) (named 0)
         ∙ ap (λ (x : Option Attributes). replies.Setattr
-            (record { wcc = record { before = Some file_before; after = x }; result = Err status.NotSynchronized }))
-            at);
+        (record { wcc = record { before = Some file_before; after = x }; result = Err status.NotSynchronized }))
+        at);
     no_message = refl;
     state_is = sym (ap (λ r. state_after (with_writable k)
         (set_from (with_writable k) (called_as 0) (setting_mode (time 1000 0)) r)) (named 0));
@@ -114,7 +136,7 @@ module _ (k : State) (has : HasFile k) where
     reply_is = sym (
         ap (setattr_by (with_writable k) (called_as 0) (setting_mode (time 1000 1))) (named 0)
         ∙ ap (λ (x : Option Attributes). replies.Setattr
-            (record { wcc = record { before = Some file_before; after = x }; result = Ok tt })) set-at);
+        (record { wcc = record { before = Some file_before; after = x }; result = Ok tt })) set-at);
     no_message = refl;
     state_is = sym (ap (λ r. state_after (with_writable k)
         (set_from (with_writable k) (called_as 0) (setting_mode (time 1000 1)) r)) (named 0));
@@ -150,8 +172,8 @@ module _ (k : State) (has : HasFile k) where
     reply_is = sym (
         ap (commit_by (with_writable k) (called_as 5)) (named 5)
         ∙ ap (λ (x : Option Attributes). replies.Commit
-            (record { wcc = record { before = Some file_before; after = x }; result = Ok (verifier_of (called_as 5)) }))
-            at);
+        (record { wcc = record { before = Some file_before; after = x }; result = Ok (verifier_of (called_as 5)) }))
+        at);
     no_message = refl;
     state_is = refl;
   }
@@ -193,7 +215,7 @@ module _ (k : State) (has : HasRootAlone k) where
         (record { attributes = x; result = Ok (space_left 1099511627776 (values (with_writable k).objects) 1) }))
         root-at
         ∙ ap (λ (os : List Living). replies.Fsstat
-            (record { attributes = Some root_shown; result = Ok (space_left 1099511627776 os 1) })) has.alone);
+        (record { attributes = Some root_shown; result = Ok (space_left 1099511627776 os 1) })) has.alone);
     no_message = refl;
     state_is = refl;
   }
@@ -217,7 +239,7 @@ module _ (k : State) (has : HasRootAlone k) where
     reply_is = sym (
         ap (commit_by (with_writable k) (called_as 0)) (root-named 0)
         ∙ ap (λ (x : Option Attributes). replies.Commit
-            (record { wcc = record { before = Some (weak root); after = x }; result = Err status.Invalid })) root-at);
+        (record { wcc = record { before = Some (weak root); after = x }; result = Err status.Invalid })) root-at);
     no_message = refl;
     state_is = refl;
   }

@@ -119,8 +119,12 @@ asked call read form = record {
   is_call = (
     refl,
     refl,
-    (argument_bytes call, [], sym (append-nil (argument_bytes call)),
-        (writing_spells (arguments_type (procedure_of call)) (arguments_of call) form).spelled),
+    (
+      argument_bytes call,
+      [],
+      sym (append-nil (argument_bytes call)),
+      (writing_spells (arguments_type (procedure_of call)) (arguments_of call) form).spelled,
+    ),
   );
   made_under = refl;
 }
@@ -141,14 +145,23 @@ pub within : (m n : ℕ) → nat_le m n ≡ true → m ≤ n
 within = leb-true
 
 making-form : HasSpelling (arguments_type 8) (arguments_of (nfs.Create making))
-making-form = (((within 32 64 refl, within 33 (2 ^ 32) refl), (within 1 4294967295 refl, within 2 (2 ^ 32) refl)),
-    (within 1 (2 ^ 32) refl, refl,
-    (tt, (tt, (tt, (tt, ((within 1 (2 ^ 32) refl, refl, tt), (within 1 (2 ^ 32) refl, refl, tt))))))))
+making-form = (
+  ((within 32 64 refl, within 33 (2 ^ 32) refl), (within 1 4294967295 refl, within 2 (2 ^ 32) refl)),
+  (
+    within 1 (2 ^ 32) refl,
+    refl,
+    (tt, (tt, (tt, (tt, ((within 1 (2 ^ 32) refl, refl, tt), (within 1 (2 ^ 32) refl, refl, tt)))))),
+  ),
+)
 
 writing-form : HasSpelling (arguments_type 7) (arguments_of (nfs.Write writing))
-writing-form = ((within 32 64 refl, within 33 (2 ^ 32) refl),
-    (within 1 (2 ^ 64) refl,
-    (within 3 (2 ^ 32) refl, ((within 3 (2 ^ 32) refl, refl), (within 2 4294967295 refl, within 3 (2 ^ 32) refl)))))
+writing-form = (
+  (within 32 64 refl, within 33 (2 ^ 32) refl),
+  (
+    within 1 (2 ^ 64) refl,
+    (within 3 (2 ^ 32) refl, ((within 3 (2 ^ 32) refl, refl), (within 2 4294967295 refl, within 3 (2 ^ 32) refl))),
+  ),
+)
 
 -- ---- CREATE
 unfoldable pub fresh : Fresh opened
@@ -174,10 +187,10 @@ abbrev create_by : Resolved → Result (End opened) NfsStatus
 create_by r =
     object_of r >>= λ directory. entries_in directory.object.content >>= λ entries. plain_name_checked status.Exists
     status.Exists making.place.name >>= λ _. changeable writable directory.object >>= λ _. permitted nobody
-        directory.object
+    directory.object
     ToChange
     >>= λ _. create_under directory.number directory.object entries.list entries.last_cookie
-        (entry_of entries.list making.place.name)
+    (entry_of entries.list making.place.name)
 
 creates : NfsStep opened nobody (nfs.Create making) made_reply [] with_x
 unfolding NfsStep fresh
@@ -198,8 +211,10 @@ unfolding NfsStep
 writes =
     let named = x-named with_x refl x refl refl x-made in record {
       reply_is = sym (ap (λ r. nfs_replies.Write
-          (record { wcc = wcc (state_after with_x (write_by writing r)) (resolve with_x nobody x_bytes);
-          result = answer_of (write_by writing r) })) named);
+          (record {
+            wcc = wcc (state_after with_x (write_by writing r)) (resolve with_x nobody x_bytes);
+            result = answer_of (write_by writing r);
+          })) named);
       no_message = refl;
       state_is = sym (ap (λ r. state_after with_x (write_by writing r)) named);
     }
@@ -209,8 +224,10 @@ unfolding NfsStep
 refused =
     let named = x-named with_x refl x refl refl x-made in record {
       reply_is = sym (ap (λ r. nfs_replies.Write
-          (record { wcc = wcc (state_after with_x (write_by miscounted r)) (resolve with_x nobody x_bytes);
-          result = answer_of (write_by miscounted r) })) named);
+          (record {
+            wcc = wcc (state_after with_x (write_by miscounted r)) (resolve with_x nobody x_bytes);
+            result = answer_of (write_by miscounted r);
+          })) named);
       no_message = refl;
       state_is = sym (ap (λ r. state_after with_x (write_by miscounted r)) named);
     }
@@ -219,8 +236,8 @@ refused =
 abbrev entries_from : (cookie : ℕ) → Verifier → Resolved → Result (List Entry) NfsStatus
 entries_from cookie verifier r =
     object_of r >>= λ d. entries_in d.object.content >>= λ entries. permitted nobody d.object ToList >>= λ _. holding
-        ((cookie == 0) || same_bytes verifier.bytes (verifier_of nobody).bytes) status.BadCookie >>= λ _. Ok
-        (behind cookie (all_entries d.number 1 entries.list))
+    ((cookie == 0) || same_bytes verifier.bytes (verifier_of nobody).bytes) status.BadCookie >>= λ _. Ok
+    (behind cookie (all_entries d.number 1 entries.list))
 
 abbrev entries_by : Resolved → Result (List Entry) NfsStatus
 entries_by = entries_from 0 zeros
@@ -250,15 +267,22 @@ lists =
 
 -- ---- READDIRPLUS
 abbrev shown-entry : Entry → Option Living → FullEntry
-shown-entry e o = record { entry = page_entry e; attributes = option_map (attributes_of with_hi e.number) o;
-    object = option_map (handle_at nobody e.number) o }
+shown-entry e o = record {
+  entry = page_entry e;
+  attributes = option_map (attributes_of with_hi e.number) o;
+  object = option_map (handle_at nobody e.number) o;
+}
 
 abbrev shown-reply : Option Living → Option Living → NfsReply
 shown-reply r f = nfs_replies.Readdirplus (record {
   attributes = shown with_hi (resolve with_hi nobody root_bytes);
-  result = Ok (record { verifier = verifier_of nobody; entries = shown-entry
-      (record { name = codes "."; number = 1; cookie = 1 }) r ∷ shown-entry
-      (record { name = codes ".."; number = 1; cookie = 2 }) r ∷ shown-entry x_entry f ∷ []; eof = true });
+  result = Ok (record {
+    verifier = verifier_of nobody;
+    entries = shown-entry
+        (record { name = codes "."; number = 1; cookie = 1 }) r ∷ shown-entry
+        (record { name = codes ".."; number = 1; cookie = 2 }) r ∷ shown-entry x_entry f ∷ [];
+    eof = true;
+  });
 })
 
 lists-full : NfsStep with_hi nobody (nfs.Readdirplus listing_full) listed_full_reply [] with_hi
@@ -283,9 +307,9 @@ lists-full =
 names-x : names_of with_hi 5 ≡ 1
 names-x =
     let none : names_of opened 5 ≡ 0 = sum-none (names_in 5) opened.objects
-        (λ q v at. subst (λ (o : Living). names_in 5 o ≡ 0) (only_roots exported moment q v at).0 refl) in
+    (λ q v at. subst (λ (o : Living). names_in 5 o ≡ 0) (only_roots exported moment q v at).0 refl) in
     let free : get (insert opened.objects 1 root_with_x) 5 ≡ None = get-inserted opened.objects 1 root_with_x 5
-        ∙ none-opened in
+    ∙ none-opened in
     let one : names_in 5 root_with_x ≡ 1 = refl in
     let of_root : names_in 5 root ≡ 0 = refl in
     let of_x : names_in 5 x ≡ 0 = refl in
@@ -357,12 +381,22 @@ module _ (k : State) where
   }
 
 executes-create : Executes setting opened (executed (nfs.Create making) made_reply) with_x
-executes-create = record { ctx = nobody; call = calls.Nfs (nfs.Create making); asks = asked (nfs.Create making)
-    making-read making-form; step = creates }
+executes-create = record {
+  ctx = nobody;
+  call = calls.Nfs (nfs.Create making);
+  asks = asked (nfs.Create making)
+      making-read making-form;
+  step = creates;
+}
 
 executes-write : Executes setting with_x (executed (nfs.Write writing) wrote_reply) with_hi
-executes-write = record { ctx = nobody; call = calls.Nfs (nfs.Write writing); asks = asked (nfs.Write writing)
-    writing-read writing-form; step = writes }
+executes-write = record {
+  ctx = nobody;
+  call = calls.Nfs (nfs.Write writing);
+  asks = asked (nfs.Write writing)
+      writing-read writing-form;
+  step = writes;
+}
 
 pub worked-run : WorkedRun
 worked-run = record {
@@ -382,9 +416,9 @@ abbrev link_found : State → List ℕ → (file directory : Named) → (entries
     → Option Entry → Result (Unit {0} × State) NfsStatus
 link_found m name file directory entries links found =
     holding (is_none found) status.Exists >>= λ _. holding (nat_lt links link_limit) status.TooManyLinks
-        >>= λ _. holding (nat_lt (entries.last_cookie + 1) (2 ^ 64)) status.NoSpace >>= λ _.
+    >>= λ _. holding (nat_lt (entries.last_cookie + 1) (2 ^ 64)) status.NoSpace >>= λ _.
     let wider = with_content directory.object (time 1000 0) (with_entry entries.list entries.last_cookie name
-        file.number) in
+    file.number) in
     Ok (tt, with_object (with_object m directory.number wider) file.number (touched file.object (time 1000 0)))
 
 abbrev link_names : State → List ℕ → (file directory : Named) → (entries : DirectoryEntries) → (links : ℕ)
@@ -395,9 +429,9 @@ link_names m name file directory entries links = link_found m name file director
 abbrev link_by : State → List ℕ → (file directory : Resolved) → Result (Unit {0} × State) NfsStatus
 link_by m name f d =
     object_of f >>= λ file. object_of d >>= λ directory. holding (file.object.export == directory.object.export)
-        status.CrossDevice >>= λ _. holding (not (is_directory file.object.content)) status.Invalid
+    status.CrossDevice >>= λ _. holding (not (is_directory file.object.content)) status.Invalid
     >>= λ _. entries_in directory.object.content >>= λ entries. plain_name_checked status.Invalid status.Invalid
-        name >>=
+    name >>=
     λ _. changeable m.exports directory.object >>= λ _. permitted nobody directory.object ToChange
     >>= λ _. link_names m name file directory entries (links_of m file.number file.object.content)
 
@@ -424,17 +458,17 @@ module _ (k : State) (entries : List Entry) (of_root : get k.objects 1 ≡ Some 
   -- where the name is found so
   linked-where : (name : List ℕ) (found : Option Entry) → entry_of entries name ≡ found → (links : ℕ)
       → link_names (with_writable k) name (numbered 5 x_written) (numbered 1 (root_with entries))
-          (entries_with entries 40000) links ≡ link_found
+      (entries_with entries 40000) links ≡ link_found
       (with_writable k) name (numbered 5 x_written) (numbered 1 (root_with entries)) (entries_with entries 40000)
-          links found
+      links found
   linked-where name found is links = ap
       (link_found (with_writable k) name (numbered 5 x_written) (numbered 1 (root_with entries))
-          (entries_with entries 40000) links) is
+      (entries_with entries 40000) links) is
 
   free-name : entry_of entries (codes "y") ≡ None →
       link_end (with_writable k) nobody (linking (codes "y")) ≡ link_found (with_writable k) (codes "y")
       (numbered 5 x_written) (numbered 1 (root_with entries)) (entries_with entries 40000)
-          (names_of (with_writable k) 5) None
+      (names_of (with_writable k) 5) None
   free-name none = linked-by (codes "y") ∙ linked-where (codes "y") None none (names_of (with_writable k) 5)
 
   pub worked-linking : WorkedLinking (with_writable k) entries
@@ -473,14 +507,14 @@ module _ (m : State) (ctx : Ctx) (a : RenameArguments) (is_within : ℕ → ℕ 
   abbrev pub move_by : (from to : Resolved) → Result (Unit {0} × State) NfsStatus
   move_by f t =
       object_of f >>= λ from. object_of t >>= λ to. holding (from.object.export == to.object.export) status.CrossDevice
-          >>= λ _. entries_in from.object.content >>= λ from_entries. entries_in to.object.content >>= λ to_entries.
+      >>= λ _. entries_in from.object.content >>= λ from_entries. entries_in to.object.content >>= λ to_entries.
       plain_name_checked status.Invalid status.Invalid a.from.name >>= λ _. plain_name_checked status.Invalid
       status.Invalid a.to.name >>= λ _. changeable m.exports from.object >>= λ _. permitted ctx from.object
-          ToChange >>= λ
+      ToChange >>= λ
       _.
       permitted ctx to.object ToChange >>= λ _. move_found from to from_entries to_entries
-          (object_under m (entry_of from_entries.list a.from.name))
-          (object_under m (entry_of to_entries.list a.to.name))
+      (object_under m (entry_of from_entries.list a.from.name))
+      (object_under m (entry_of to_entries.list a.to.name))
 
 module _ (k : State) (entries : List Entry) (of_root : get k.objects 1 ≡ Some (root_with entries))
     (of_x : get k.objects 5 ≡ Some x_written) (is_within : ℕ → ℕ → Bool) where
@@ -561,9 +595,9 @@ module _ (k : State) (entries : List Entry) (of_root : get k.objects 1 ≡ Some 
         ∙ ap (λ b. holding (not b) status.Invalid >>= λ _. Ok (tt, renamed (with_writable k) entries)) outside;
     both = λ cookie other found too.
         where-found (Some (record { name = codes "x"; number = 5; cookie = cookie }))
-            (Some (record { name = codes "y"; number = 5; cookie = other })) found too
+        (Some (record { name = codes "y"; number = 5; cookie = other })) found too
         ∙ ap (λ (l : Option Living). found_so (option_map (λ (o : Living). numbered 5 o) l)
-            (option_map (λ (o : Living). numbered 5 o) l)) of_x;
+        (option_map (λ (o : Living). numbered 5 o) l)) of_x;
   }
 
 -- ---- REMOVE of one of two names
@@ -571,7 +605,7 @@ abbrev leave_object : State → Named → DirectoryEntries → Option Named → 
 leave_object m directory entries found =
     ok_or found status.NoEntry >>= λ o. not_directory o.object.content >>= λ _.
     let left = with_object m directory.number (with_content directory.object (time 1000 0)
-        (Directory (without entries.list (codes "x")) entries.last_cookie)) in
+    (Directory (without entries.list (codes "x")) entries.last_cookie)) in
     Ok (tt, losing_name left (names_of m o.number) (time 1000 0) o.number o.object)
 
 abbrev leave_by : State → Resolved → Result (Unit {0} × State) NfsStatus
@@ -611,10 +645,10 @@ worked-leaving k of_root of_x two = record {
 lists-page : (m : State) → m.exports ≡ writable → get m.objects 1 ≡ Some root_with_x →
     (cookie : ℕ) (verifier : Verifier) (count : ℕ) (page : List Entry) (eof : Bool)
     → PagesOf (fits count) (entries_from cookie verifier (Names 1 root_with_x))
-        (Ok (record { entries = page; eof = eof }))
+    (Ok (record { entries = page; eof = eof }))
     → NfsStep m nobody (nfs.Readdir
-        (record { directory = root_bytes; cookie = cookie; verifier = verifier; count = count }))
-        (page_reply m page eof) [] m
+    (record { directory = root_bytes; cookie = cookie; verifier = verifier; count = count }))
+    (page_reply m page eof) [] m
 unfolding NfsStep
 lists-page m exports lives cookie verifier count page eof is_page =
     let named = root-named m exports root_with_x refl refl lives in record {
@@ -632,7 +666,7 @@ has-x : (m : State) → m.exports ≡ writable → get m.objects 1 ≡ Some root
 has-x m exports lives number object entries last parent names content is_parent =
     let same : root_with_x ≡ object = (let named = root-named m exports root_with_x refl refl lives in cc) in
     let whole : x_entry ∷ [] ≡ entries = (let shows : Directory (x_entry ∷ []) 3 ≡ Directory entries last = ap
-        (λ (o : Living). o.content) same ∙ content in cc) in
+    (λ (o : Living). o.content) same ∙ content in cc) in
     subst (λ es. Contains (all_entries number parent es) x_entry) whole (2, within 3 3 refl, refl)
 
 -- and so is "."
@@ -641,13 +675,14 @@ has-self : (m : State) → m.exports ≡ writable → get m.objects 1 ≡ Some r
 has-self m exports lives number object entries last parent names content is_parent =
     let own : 1 ≡ number = (let named = root-named m exports root_with_x refl refl lives in cc) in
     subst (λ k. Contains (all_entries k parent entries) (record { name = codes "."; number = 1; cookie = 1 })) own
-        (0, omega arith, refl)
+    (0, omega arith, refl)
 
 leads-x : (m : State) → get m.objects 1 ≡ Some root_with_x → named_in m 1 (codes "x") ≡ Some 5
 leads-x m lives =
-    ap (λ (l : Option Living). elim l as (λ (_ : Option Living). Option ℕ)
-        [ None ↦ None | Some o ↦ option_map (λ (e : Entry). e.number) (entry_of (entries_of o.content) (codes "x"))
-        ]) lives
+    ap (λ (l : Option Living). elim l as (λ (_ : Option Living). Option ℕ) [
+      | None ↦ None
+      | Some o ↦ option_map (λ (e : Entry). e.number) (entry_of (entries_of o.content) (codes "x"))
+    ]) lives
 
 with-x-formed : WellFormed with_x
 with-x-formed =

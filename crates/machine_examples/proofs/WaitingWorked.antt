@@ -24,11 +24,24 @@ use Rattle.nfs_machine.proofs.NlmChecksLemmas.{LockOf}
 use Rattle.nfs_machine.proofs.FileMapLemmas.{each-with, grants-none, no-list, of-other, of-there, with-same}
 use Rattle.nfs_machine.proofs.OpeningStateLemmas.{none_of}
 use Rattle.machine_examples.proofs.LockingWorked.{goes, held, is-x, lock_by}
-use Rattle.machine_examples.proofs.OneFileLemmas.{get-one, relisted-gone, relisted-kept, relisted-none, with-again,
-    with-some}
+use Rattle.machine_examples.proofs.OneFileLemmas.{
+  get-one,
+  relisted-gone,
+  relisted-kept,
+  relisted-none,
+  with-again,
+  with-some,
+}
 use Rattle.machine_examples.proofs.RunWorked.{takes-of}
-use Rattle.machine_examples.proofs.SettlingWorked.{all-freed, c_caller, freed, grants-first, having, no-waits,
-    nothing_listed}
+use Rattle.machine_examples.proofs.SettlingWorked.{
+  all-freed,
+  c_caller,
+  freed,
+  grants-first,
+  having,
+  no-waits,
+  nothing_listed,
+}
 use Rattle.machine_examples.specs.Worked.{root_bytes}
 use Rattle.machine_examples.specs.WorkedLocking.{locking, waiting, with_waiting}
 use Rattle.machine_examples.specs.WorkedLocks.{a, b, lock, split}

@@ -220,10 +220,10 @@ module _ (read : HandlesAreRead) (m : State) (ctx : Ctx) (w : WellFormed m) (fit
       let content = is-directory directory.object.content entries is in
       let lives = resolved-lives m ctx place.directory directory at in
       let inside = entries-export m w directory.number parent directory.object entries.list entries.last_cookie lives
-          content
+      content
       (is_parent directory.number directory.object names (ap is_directory content)) in
       let known = led (all_entries directory.number parent entries.list) place.name directory.object.export inside
-          number leads in
+      number leads in
       let own = exists (get m.objects number) o there in
       let both : Some known.0 ≡ Some o = sym known.1 ∙ own in
       let same : known.0 ≡ o = cc in
@@ -254,7 +254,7 @@ module _ (read : HandlesAreRead) (m : State) (ctx : Ctx) (w : WellFormed m) (fit
   -- ---- READDIRPLUS
   listed-resolves : (directory : List ℕ) (cookie : ℕ) (fits : List Entry → Bool) (page : DirectoryPage) →
       ListsPage m ctx directory cookie fits page
-          → AllByRecursion (EntryIsTold m ctx) (map (full_entry m ctx) page.entries)
+      → AllByRecursion (EntryIsTold m ctx) (map (full_entry m ctx) page.entries)
   listed-resolves directory cookie fits page lists =
       let lives = resolved-lives m ctx directory (numbered lists.number lists.object) (ap object_of lists.is_named) in
       let all = entries-export m w lists.number lists.parent lists.object lists.entries lists.last lives
@@ -263,7 +263,7 @@ module _ (read : HandlesAreRead) (m : State) (ctx : Ctx) (w : WellFormed m) (fit
       (λ (e : Entry). nat_lt cookie e.cookie) (all_entries lists.number lists.parent lists.entries) all in
       let split = (lists.visit).1.0 in
       told page.entries (all-front (λ (e : Entry). InExport m w lists.object.export e.number) page.entries
-          (lists.visit).0
+      (lists.visit).0
       (subst (AllByRecursion (λ (e : Entry). InExport m w lists.object.export e.number)) split left))
     where
       one : (e : Entry) → InExport m w lists.object.export e.number → EntryIsTold m ctx (full_entry m ctx e)
@@ -297,7 +297,7 @@ module _ (m : State) (ctx : Ctx) where
         IfOk (make_new m ctx name wanted directory.number directory.object entries last) EndKnown
     new-known name wanted entries last =
         chained-is EndKnown (kind_checked ctx (links_of m directory.number directory.object.content) wanted.content) _
-            (λ x0 e0.
+        (λ x0 e0.
         chained-is EndKnown (given_attributes ctx wanted.attributes) _ (λ x1 e1.
         chained-is EndKnown (holding (nat_lt (last + 1) (2 ^ 64)) status.NoSpace) _ (λ x2 e2 fresh.
         let o = new_object ctx directory.object.export fresh.generation wanted in
@@ -384,10 +384,10 @@ module _ (m : State) (ctx : Ctx) where
       chained-is EndKnown (changeable m.exports directory.object) _ (λ x3 e3.
       chained-is EndKnown (permitted ctx directory.object ToChange) _ (λ x4 e4.
       under directory (named-admits (get m.objects) m.exports ctx (handle_of place.directory) directory.number
-          directory.object
+      directory.object
       (resolved (resolve m ctx place.directory) directory at)) what entries.list entries.last_cookie
       (subst (AllByRecursion (Leads m directory.object))
-          (ap entries_of (is-directory directory.object.content entries is))
+      (ap entries_of (is-directory directory.object.content entries is))
       (w.names directory.number directory.object (resolved-lives m ctx place.directory directory at)).leads)
       (entry_of entries.list place.name) refl))))))
     where
@@ -403,7 +403,7 @@ module _ (m : State) (ctx : Ctx) where
           last
       under directory admitted what entries last leads (Some e) is =
           let l = find-all (Leads m directory.object) (λ (x : Entry). same_bytes x.name place.name) entries e
-              leads is in
+          leads is in
           subst (λ x. IfOk (known (there e.number x)) EndKnown) (sym l.lives)
           (known-holds EndKnown (there e.number (Some l.object))
           (found directory admitted e.number l.object l.lives l.export))
@@ -517,7 +517,7 @@ mnt_handles_resolve read old ctx path handle messages new w fit start (result, t
           is_named = ap (λ h. resolve new ctx h) is
               ∙ ap (λ m. resolve m ctx (handle_at ctx found.number found.object)) after
               ∙ mounted-resolves read old ctx w fit start (record { hostname = ctx.host; directory = path })
-                  found.number
+              found.number
               found.object known.0;
           directory = known.1;
         }

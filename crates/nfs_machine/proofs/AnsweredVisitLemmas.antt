@@ -15,8 +15,19 @@ use Rattle.nfs_machine.specs.Paging.{Rises}
 use Rattle.nfs_machine.proofs.VisitLemmas.{ListsPage}
 use Rattle.nfs_machine.specs.Permission.{ToList, may}
 use Rattle.nfs_machine.specs.Resolve.{Resolved, BadHandle, Stale, Names, resolve}
-use Rattle.nfs_machine.specs.State.{Content, Regular, Directory, Link, BlockDevice, CharacterDevice, Socket, Fifo,
-    Entry, Living, State}
+use Rattle.nfs_machine.specs.State.{
+  Content,
+  Regular,
+  Directory,
+  Link,
+  BlockDevice,
+  CharacterDevice,
+  Socket,
+  Fifo,
+  Entry,
+  Living,
+  State,
+}
 use Rattle.nfs_machine.specs.WellFormed.{CookiesRise, WellFormed}
 use Rattle.nfs_machine.specs.declared.context.Ctx.{Ctx}
 
@@ -53,9 +64,14 @@ module _ (m : State) (ctx : Ctx) (w : WellFormed m) (directory : List ℕ) (cook
     is_parent = is_parent number o named (ap is_directory content);
     visit = passed fit p (may ctx.ids o ToList) ((cookie == 0) || same_bytes verifier.bytes (verifier_of ctx).bytes)
         status.Access status.BadCookie (behind cookie (all_entries number parent entries)) is;
-    in_order = (omega arith,
-        (omega arith, rising 2 last entries
-        (w.cookies number o entries last (resolved-lives m ctx directory number o named) content)));
+    in_order = (
+      omega arith,
+      (
+        omega arith,
+        rising 2 last entries
+            (w.cookies number o entries last (resolved-lives m ctx directory number o named) content),
+      ),
+    );
   }
   at-directory number o (Regular bytes) named content is = cc
   at-directory number o (Link text) named content is = cc

@@ -14,7 +14,7 @@ use Rattle.nfs_machine.specs.declared.context.Ctx.{Ctx}
 one_call : SpellsOneCall → program.SpellsOneCall mount_procedure_of SpellsMountArguments
     → program.SpellsOneCall nlm_procedure_of SpellsNlmArguments
     → (of : Program) (procedure : ℕ) (bytes : List ℕ) (call call' : Call) → IsCall of procedure bytes call
-        → IsCall of procedure bytes call' → call ≡ call'
+    → IsCall of procedure bytes call' → call ≡ call'
 one_call nfs mount nlm of procedure bytes (calls.Nfs k) (calls.Nfs k') (_, p, (front, rest, is, s))
     (_, p', (front', rest', is', s')) =
     ap calls.Nfs (nfs bytes front rest front' rest' k k' (p ∙ sym p') is s is' s')

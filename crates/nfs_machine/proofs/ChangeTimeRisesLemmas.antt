@@ -1,6 +1,27 @@
 -- The time of a change rises with each change.
-use Rattle.std.proofs.Common.{◌≡◌, ◌==◌, suc, ◌+◌, ◌<◌, ◌≤◌, true, false, cond, nat_lt, ◌&&◌, ◌||◌, ◌⊎◌, inl, inr, refl,
-    sym, ◌∙◌, ap, subst, arith}
+use Rattle.std.proofs.Common.{
+  ◌≡◌,
+  ◌==◌,
+  suc,
+  ◌+◌,
+  ◌<◌,
+  ◌≤◌,
+  true,
+  false,
+  cond,
+  nat_lt,
+  ◌&&◌,
+  ◌||◌,
+  ◌⊎◌,
+  inl,
+  inr,
+  refl,
+  sym,
+  ◌∙◌,
+  ap,
+  subst,
+  arith,
+}
 use Rattle.std.proofs.Math.Bool.{or-true}
 use Rattle.std.proofs.lemmas.Bool.{leb-true, le-leb, ltb-false}
 use Rattle.std.specs.Cmp.{unsigned_Decides}
@@ -14,14 +35,17 @@ Earlier a b = (a.seconds < b.seconds) ⊎ ((a.seconds ≡ b.seconds) × (a.nanos
 told : (a b : Time) → is_earlier a b ≡ true → Earlier a b
 told a b is =
     elim (nat_lt a.seconds b.seconds) as (λ t. nat_lt a.seconds b.seconds ≡ t
-        → (t || ((a.seconds == b.seconds) && nat_lt a.nanoseconds b.nanoseconds)) ≡ true → Earlier a b) [
+    → (t || ((a.seconds == b.seconds) && nat_lt a.nanoseconds b.nanoseconds)) ≡ true → Earlier a b) [
       | true ↦ λ less h. inl (leb-true (suc a.seconds) b.seconds less)
       | false ↦ λ less h. elim (a.seconds == b.seconds) as (λ t. (a.seconds == b.seconds) ≡ t
           → (t && nat_lt a.nanoseconds b.nanoseconds) ≡ true → Earlier a b) [
-        | true ↦ λ same k. inr ((unsigned_Decides a.seconds b.seconds).0 same, leb-true (suc a.nanoseconds)
-            b.nanoseconds k)
-        | false ↦ λ same k. absurd cc
-      ] refl h
+            | true ↦ λ same k. inr (
+              (unsigned_Decides a.seconds b.seconds).0 same,
+              leb-true (suc a.nanoseconds)
+                  b.nanoseconds k,
+            )
+            | false ↦ λ same k. absurd cc
+          ] refl h
     ] refl is
 
 tells : (a b : Time) → Earlier a b → is_earlier a b ≡ true
@@ -29,9 +53,9 @@ tells a b (inl less) = ap (λ t. t || ((a.seconds == b.seconds) && nat_lt a.nano
     (le-leb (suc a.seconds) b.seconds less)
 tells a b (inr same) =
     ap (λ t. nat_lt a.seconds b.seconds || (t && nat_lt a.nanoseconds b.nanoseconds))
-        ((unsigned_Decides a.seconds b.seconds).1 same.0)
+    ((unsigned_Decides a.seconds b.seconds).1 same.0)
     ∙ ap (λ t. nat_lt a.seconds b.seconds || t) (le-leb (suc a.nanoseconds) b.nanoseconds same.1)
-        ∙ or-true (nat_lt a.seconds b.seconds)
+    ∙ or-true (nat_lt a.seconds b.seconds)
 
 after : (a b c : Time) → Earlier a b → Earlier b c → Earlier a c
 after a b c (inl h) (inl k) = inl (omega (arith, h, k))
@@ -56,13 +80,13 @@ FollowsTime t u = Earlier t u ⊎ ((u ≡ t) × (4294967295 ≤ t.seconds) × (9
 next-later : (t : Time) → FollowsTime t (next t)
 next-later t =
     elim (nat_lt t.nanoseconds 999999999) as (λ b. nat_lt t.nanoseconds 999999999 ≡ b
-        → FollowsTime t (cond b later second)) [
+    → FollowsTime t (cond b later second)) [
       | true ↦ λ is. inl (inr (refl, omega arith))
       | false ↦ λ is. elim (nat_lt t.seconds 4294967295) as (λ b. nat_lt t.seconds 4294967295 ≡ b
           → FollowsTime t (cond b (record { seconds = t.seconds + 1; nanoseconds = 0 }) t)) [
-        | true ↦ λ below. inl (inl (omega arith))
-        | false ↦ λ below. inr (refl, ltb-false t.seconds 4294967295 below, ltb-false t.nanoseconds 999999999 is)
-      ] refl
+            | true ↦ λ below. inl (inl (omega arith))
+            | false ↦ λ below. inr (refl, ltb-false t.seconds 4294967295 below, ltb-false t.nanoseconds 999999999 is)
+          ] refl
     ] refl
   where
     later : Time
@@ -74,7 +98,7 @@ next-later t =
 touched : (changed now : Time) → FollowsTime changed (touch changed now)
 touched changed now =
     elim (is_earlier (next changed) now) as (λ b. is_earlier (next changed) now ≡ b
-        → FollowsTime changed (cond b now (next changed))) [
+    → FollowsTime changed (cond b now (next changed))) [
       | true ↦ λ is. elim (next-later changed) [
         | inl later ↦ inl (after changed (next changed) now later (told (next changed) now is))
         | inr greatest ↦ inl (subst (λ (t : Time). Earlier t now) greatest.0 (told (next changed) now is))

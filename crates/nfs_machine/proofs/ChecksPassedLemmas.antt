@@ -1,6 +1,31 @@
 -- What the checks of a call tell where they are passed.
-use Rattle.std.proofs.Common.{◌≡◌, ◌==◌, ℕ, Bool, true, false, not, ◌&&◌, cond, List, [], ◌∷◌, length, arith, Option,
-    Some, None, Result, Ok, Err, IfOk, find, refl, ap, subst}
+use Rattle.std.proofs.Common.{
+  ◌≡◌,
+  ◌==◌,
+  ℕ,
+  Bool,
+  true,
+  false,
+  not,
+  ◌&&◌,
+  cond,
+  List,
+  [],
+  ◌∷◌,
+  length,
+  arith,
+  Option,
+  Some,
+  None,
+  Result,
+  Ok,
+  Err,
+  IfOk,
+  find,
+  refl,
+  ap,
+  subst,
+}
 use Rattle.std.specs.Cmp.{unsigned_Decides}
 use Rattle.std.specs.Prelude.{is_none, ok_or}
 use Rattle.std.specs.FinMap.{get}
@@ -14,8 +39,19 @@ use Rattle.nfs_machine.specs.RemoveSteps.{empty_directory, not_directory}
 use Rattle.nfs_machine.specs.Exports.{LivingExport, export_admits, export_at}
 use Rattle.nfs_machine.specs.Handles.{handle_of}
 use Rattle.nfs_machine.specs.Resolve.{Named, Stale, Names, living_at, named, resolve}
-use Rattle.nfs_machine.specs.State.{Content, Regular, Directory, Link, BlockDevice, CharacterDevice, Socket, Fifo,
-    Entry, Living, State}
+use Rattle.nfs_machine.specs.State.{
+  Content,
+  Regular,
+  Directory,
+  Link,
+  BlockDevice,
+  CharacterDevice,
+  Socket,
+  Fifo,
+  Entry,
+  Living,
+  State,
+}
 use Rattle.nfs_machine.specs.declared.context.Ctx.{Ctx}
 use Rattle.nfs_machine.specs.declared.handle.Handle.{Handle}
 use Rattle.nfs_machine.proofs.WellFormedLemmas.{no_entries}
@@ -41,7 +77,7 @@ lives-at : (find : ℕ → Option Living) (h : Handle) (o : Option Living) (x : 
 lives-at find h None x at is = cc
 lives-at find h (Some o) x at is =
     elim ((o.generation == h.generation) && (o.export == h.export)) as
-        (λ b. object_of (cond b (Names h.fileid o) Stale) ≡ Ok x → find x.number ≡ Some x.object) [
+    (λ b. object_of (cond b (Names h.fileid o) Stale) ≡ Ok x → find x.number ≡ Some x.object) [
       | true ↦ λ e. (let same : numbered h.fileid o ≡ x = cc in subst (λ (y : Named). find y.number ≡ Some y.object)
           same at)
       | false ↦ λ e. cc

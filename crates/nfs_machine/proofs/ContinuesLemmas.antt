@@ -1,6 +1,28 @@
 -- What lives after a step lived before it under the same handle, and is as it was or was changed once; or it is new.
-use Rattle.std.proofs.Common.{◌≡◌, ◌==◌, ℕ, ◌+◌, ◌≤◌, true, false, cond, List, [], Some, None, ◌⊎◌, inl, inr, nat_le,
-    refl, sym, ◌∙◌, ap, subst, arith}
+use Rattle.std.proofs.Common.{
+  ◌≡◌,
+  ◌==◌,
+  ℕ,
+  ◌+◌,
+  ◌≤◌,
+  true,
+  false,
+  cond,
+  List,
+  [],
+  Some,
+  None,
+  ◌⊎◌,
+  inl,
+  inr,
+  nat_le,
+  refl,
+  sym,
+  ◌∙◌,
+  ap,
+  subst,
+  arith,
+}
 use Rattle.std.proofs.lemmas.Bool.{leb-true, leb-false}
 use Rattle.std.specs.Cmp.{unsigned_Decides}
 use Rattle.std.specs.FinMap.{get}
@@ -15,8 +37,16 @@ use Rattle.nfs_machine.specs.Times.{touch}
 use Rattle.nfs_machine.specs.WellFormed.{TextsFit, WellFormed, is_root}
 use Rattle.nfs_machine.proofs.MapChangeLemmas.{differs-insert, differs-other, differs-remove, differs-there}
 use Rattle.nfs_machine.proofs.CookieLemmas.{kept-same}
-use Rattle.nfs_machine.proofs.LooseLemmas.{Beside, Loose, also, fastened, loose-come, loose-touched, none_loose,
-    tightened}
+use Rattle.nfs_machine.proofs.LooseLemmas.{
+  Beside,
+  Loose,
+  also,
+  fastened,
+  loose-come,
+  loose-touched,
+  none_loose,
+  tightened,
+}
 
 -- an object in the place of another: under the same handle, changed at this time, with no new text, and with entries
 -- that keep their cookies
@@ -41,8 +71,15 @@ module _ (now : Time) where
   pub lived-as : (old new : State) → Continues now old new → (n g : ℕ) → LivesAs new n g → LivesAs old n g
   lived-as old new c n g l =
       let p = c.lived n l.object l.lives in
-      record { object = p.0; lives = p.1; generation_is = elim p.2 [ inl same ↦ ap (λ (x : Living). x.generation)
-          (sym same) | inr t ↦ sym t.generation ] ∙ l.generation_is }
+      record {
+        object = p.0;
+        lives = p.1;
+        generation_is = elim p.2 [
+          | inl same ↦ ap (λ (x : Living). x.generation)
+              (sym same)
+          | inr t ↦ sym t.generation
+        ] ∙ l.generation_is;
+      }
 
   pub gives-continued : (old new : State) → Continues now old new → GivesOnce old new
   gives-continued old new c = record { kept = c.kept; handles = λ n g l. inl (lived-as old new c n g l) }
@@ -82,8 +119,11 @@ module _ (now : Time) where
   pub texts-continued : (old new : State) → Continues now old new → TextsFit old → TextsFit new
   texts-continued old new c fit n o text at is =
       let p = c.lived n o at in
-      fit n p.0 text p.1 (elim p.2 [ inl same ↦ ap (λ (x : Living). x.content) (sym same)
-          ∙ is | inr t ↦ t.text text is ])
+      fit n p.0 text p.1 (elim p.2 [
+        | inl same ↦ ap (λ (x : Living). x.content) (sym same)
+            ∙ is
+        | inr t ↦ t.text text is
+      ])
 
 module _ (now : Time) (old mid : State) (c : Continues now old mid) (number : ℕ) (was : Living)
     (at : get old.objects number ≡ Some was) where
@@ -97,8 +137,8 @@ module _ (now : Time) (old mid : State) (c : Continues now old mid) (number : �
       | true ↦ λ e.
           let is : n ≡ number = (unsigned_Decides n number).0 e in
           let both : Some o ≡ Some p = sym (ap (get (with_object mid number o).objects) is
-              ∙ differs-there mid.objects (with_object mid number o).objects number (Some o)
-              (differs-insert mid.objects number o)) ∙ there in
+          ∙ differs-there mid.objects (with_object mid number o).objects number (Some o)
+          (differs-insert mid.objects number o)) ∙ there in
           let new : o ≡ p = cc in
           (was, ap (get old.objects) is ∙ at, inr (subst (Turns now was) new turns))
       | false ↦ λ e. c.lived n p (sym (differs-other mid.objects (with_object mid number o).objects number (Some o)
@@ -113,8 +153,8 @@ module _ (now : Time) (old mid : State) (c : Continues now old mid) (number : �
       | true ↦ λ e.
           let is : n ≡ number = (unsigned_Decides n number).0 e in
           let none : get (without_object mid number).objects n ≡ None = ap (get (without_object mid number).objects) is
-              ∙ differs-there mid.objects (without_object mid number).objects number None
-              (differs-remove mid.objects number) in cc
+          ∙ differs-there mid.objects (without_object mid number).objects number None
+          (differs-remove mid.objects number) in cc
       | false ↦ λ e. c.lived n p
           (sym (differs-other mid.objects (without_object mid number).objects number None
           (differs-remove mid.objects number) n e) ∙ there)
@@ -142,7 +182,7 @@ module _ (now : Time) (old mid : State) (c : Continues now old mid) (number : �
   pub continues-losing : (names : ℕ) → Continues now old (losing_name mid names now number was)
   continues-losing names =
       elim (nat_le names 1) as
-          (λ b. Continues now old (cond b (without_object mid number) (with_object mid number (touched was now)))) [
+      (λ b. Continues now old (cond b (without_object mid number) (with_object mid number (touched was now)))) [
         | true ↦ continues-gone
         | false ↦ continues-touched
       ]
@@ -167,7 +207,7 @@ module _ (mid : State) (number : ℕ) (object : Living) (at : get mid.objects nu
         keeps = record { exports = refl; last = refl };
       }) none_loose l)
       (λ o there. (let nothing : get (without_object mid number).objects number ≡ None = differs-there mid.objects
-          (without_object mid number).objects number None (differs-remove mid.objects number) in cc)))
+      (without_object mid number).objects number None (differs-remove mid.objects number) in cc)))
 
   stays : (now : Time) → 1 ≤ names_of mid number → Beside (with_object mid number (touched object now)) →
       WellFormed (with_object mid number (touched object now))

@@ -1,6 +1,25 @@
 -- Entries of a directory that gains and loses names: what stays keeps its cookie.
-use Rattle.std.proofs.Common.{◌≡◌, ℕ, true, false, cond, List, [], ◌∷◌, ◌++◌, Some, None, ◌⊎◌, inl, inr, refl, sym, ◌∙◌,
-    ap, subst}
+use Rattle.std.proofs.Common.{
+  ◌≡◌,
+  ℕ,
+  true,
+  false,
+  cond,
+  List,
+  [],
+  ◌∷◌,
+  ◌++◌,
+  Some,
+  None,
+  ◌⊎◌,
+  inl,
+  inr,
+  refl,
+  sym,
+  ◌∙◌,
+  ap,
+  subst,
+}
 use Rattle.std.specs.Cmp.Lexicographic.{bytes_decides}
 use Rattle.nfs_machine.specs.Attributes.{entries_of}
 use Rattle.nfs_machine.specs.Bytes.{same_bytes}
@@ -18,13 +37,13 @@ found-added : (left : List Entry) (x : Entry) (name : List ℕ) (f : Entry) → 
     → (entry_of left name ≡ Some f) ⊎ ((f ≡ x) × (x.name ≡ name))
 found-added [] x name f found =
     elim (same_bytes x.name name) as (λ b. same_bytes x.name name ≡ b → cond b (Some x) None ≡ Some f
-        → (None ≡ Some f) ⊎ ((f ≡ x) × (x.name ≡ name))) [
+    → (None ≡ Some f) ⊎ ((f ≡ x) × (x.name ≡ name))) [
       | true ↦ λ t is. (let same : f ≡ x = cc in inr (same, (bytes_decides x.name name).0 t))
       | false ↦ λ t is. inl is
     ] refl found
 found-added (y ∷ left) x name f found =
     elim (same_bytes y.name name) as (λ b. cond b (Some y) (entry_of (left ++ x ∷ []) name) ≡ Some f
-        → (cond b (Some y) (entry_of left name) ≡ Some f) ⊎ ((f ≡ x) × (x.name ≡ name))) [
+    → (cond b (Some y) (entry_of left name) ≡ Some f) ⊎ ((f ≡ x) × (x.name ≡ name))) [
       | true ↦ λ is. inl is
       | false ↦ λ is. found-added left x name f is
     ] found

@@ -1,7 +1,24 @@
 -- An export at which no check fails has no fault; among exports without fault the first fault is looked for behind
 -- them.
-use Rattle.std.proofs.Common.{◌≡◌, ℕ, ◌≤◌, Bool, true, false, cond, not, ◌&&◌, nat_le, List, length, Option, None, refl,
-    sym, ◌∙◌}
+use Rattle.std.proofs.Common.{
+  ◌≡◌,
+  ℕ,
+  ◌≤◌,
+  Bool,
+  true,
+  false,
+  cond,
+  not,
+  ◌&&◌,
+  nat_le,
+  List,
+  length,
+  Option,
+  None,
+  refl,
+  sym,
+  ◌∙◌,
+}
 use Rattle.std.proofs.lemmas.Bool.{le-leb}
 use Rattle.std.specs.List.{list_any, list_all}
 use Rattle.nfs_machine.specs.Bytes.{same_bytes}
@@ -16,7 +33,7 @@ none_of p m h d a b c e is_path is_mode are_hosts alone = rw (is_path, is_mode, 
 pub fault_of-none : (earlier : List ExportText) (text : ExportText) → is_export_path text.path ≡ true
     → is_export_mode text.mode ≡ true
     → are_export_hosts text.hosts.items ≡ true → list_any (λ (e : ExportText). same_bytes e.path text.path)
-        earlier ≡ false → fault_of earlier text ≡ None
+    earlier ≡ false → fault_of earlier text ≡ None
 fault_of-none earlier text p m h d = none_of _ _ _ _ _ _ _ _ p m h d
 
 both : (a b c : Bool) → a ≡ true → b ≡ true → (a && b && c) ≡ c

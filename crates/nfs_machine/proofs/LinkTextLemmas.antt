@@ -7,8 +7,18 @@ use Rattle.nfs_machine.proofs.MapSumLemmas.{get-inserted}
 use Rattle.nfs_machine.specs.Checks.{◌>>=◌, object_of, text_in}
 use Rattle.nfs_machine.specs.Resolve.{Resolved, BadHandle, Stale, Names, resolve}
 use Rattle.nfs_machine.specs.Shown.{with_object}
-use Rattle.nfs_machine.specs.State.{Content, Regular, Directory, Link, BlockDevice, CharacterDevice, Socket, Fifo,
-    Living, State}
+use Rattle.nfs_machine.specs.State.{
+  Content,
+  Regular,
+  Directory,
+  Link,
+  BlockDevice,
+  CharacterDevice,
+  Socket,
+  Fifo,
+  Living,
+  State,
+}
 use Rattle.nfs_machine.specs.WellFormed.{TextsFit}
 use Rattle.nfs_machine.specs.declared.context.Ctx.{Ctx}
 

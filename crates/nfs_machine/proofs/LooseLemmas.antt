@@ -1,7 +1,36 @@
 -- What is true of every state while some objects may have no name: a name is taken away and its object goes or gets
 -- another name, or an object comes and gets its name.
-use Rattle.std.proofs.Common.{◌≡◌, ◌==◌, ℕ, ◌+◌, ◌<◌, ◌≤◌, Bool, true, false, ◌||◌, cond, List, [], ◌∷◌, ◌++◌, Option,
-    Some, None, find, ◌⊎◌, inl, inr, IfSome, refl, sym, ◌∙◌, ap, subst, arith}
+use Rattle.std.proofs.Common.{
+  ◌≡◌,
+  ◌==◌,
+  ℕ,
+  ◌+◌,
+  ◌<◌,
+  ◌≤◌,
+  Bool,
+  true,
+  false,
+  ◌||◌,
+  cond,
+  List,
+  [],
+  ◌∷◌,
+  ◌++◌,
+  Option,
+  Some,
+  None,
+  find,
+  ◌⊎◌,
+  inl,
+  inr,
+  IfSome,
+  refl,
+  sym,
+  ◌∙◌,
+  ap,
+  subst,
+  arith,
+}
 use Rattle.std.proofs.lemmas.Bool.{or_parts}
 use Rattle.std.proofs.lemmas.List.Sums.{sum_by-append}
 use Rattle.std.specs.Cmp.{unsigned_Decides}
@@ -20,12 +49,38 @@ use Rattle.nfs_machine.specs.Laws.{KeepsExports}
 use Rattle.nfs_machine.specs.WellFormed.{CookiesRise, ExportsStand, IsDirectoryOf, Leads, MountsFormed, NamesOnce}
 use Rattle.nfs_machine.specs.WellFormed.{TextsFit, WellFormed, is_root}
 use Rattle.nfs_machine.proofs.ExportedLemmas.{exported-on, stand-on}
-use Rattle.nfs_machine.proofs.MapChangeLemmas.{Differs, all-filter, apart, cookies-filter, count-without, differs-other,
-    differs-there, flipped, itself, once-filter, sum-differs, weight}
-use Rattle.nfs_machine.proofs.WellFormedLemmas.{Alike, Deep, KeepsNames, LivesOn, all_last, before, deep-on,
-    keeps_entries}
-use Rattle.nfs_machine.proofs.WellFormedLemmas.{leads-on, lives-alike, names-on, replaced-alike, replaced-names,
-    root-same}
+use Rattle.nfs_machine.proofs.MapChangeLemmas.{
+  Differs,
+  all-filter,
+  apart,
+  cookies-filter,
+  count-without,
+  differs-other,
+  differs-there,
+  flipped,
+  itself,
+  once-filter,
+  sum-differs,
+  weight,
+}
+use Rattle.nfs_machine.proofs.WellFormedLemmas.{
+  Alike,
+  Deep,
+  KeepsNames,
+  LivesOn,
+  all_last,
+  before,
+  deep-on,
+  keeps_entries,
+}
+use Rattle.nfs_machine.proofs.WellFormedLemmas.{
+  leads-on,
+  lives-alike,
+  names-on,
+  replaced-alike,
+  replaced-names,
+  root-same,
+}
 
 -- a well-formed state, but that the objects of these numbers may have no name; texts of links are no part of it
 pub record Loose (loose : ℕ → Bool) (m : State) : Type 0 where
@@ -138,7 +193,7 @@ module _ (old new : State) (alike : (n : ℕ) → Alike (get old.objects n) (get
     deeper = λ n o at.
         let b = before old new alike n o at in
         subst (AllByRecursion (Deep new l.depth n)) (sym (keeps_entries b.0 o b.2))
-            (deep-on old new on-alike n b.0 b.1 l.depth (l.names n b.0 b.1).leads (l.deeper n b.0 b.1));
+        (deep-on old new on-alike n b.0 b.1 l.depth (l.names n b.0 b.1).leads (l.deeper n b.0 b.1));
     given = λ n o at.
         let b = before old new alike n o at in
         spent n o.generation (subst (λ g. old.spent n g ≡ true) (sym b.2.generation) (l.given n b.0 b.1));
@@ -187,7 +242,7 @@ module _ (old new : State) (place : ℕ) (was is : Living) (s : Swaps old new pl
   pub lives-on : (n : ℕ) (o : Living) → get old.objects n ≡ Some o → LivesOn new n o
   lives-on n o at =
       let p = swapped (λ (x y : Living). (y.export ≡ x.export) × (is_directory y.content ≡ is_directory x.content))
-          (λ x. (refl, refl)) (s.export, s.kind) n o at in
+      (λ x. (refl, refl)) (s.export, s.kind) n o at in
       record { object = p.0; lives = p.1; export = p.2.0; kind = p.2.1 }
 
   on : (n : ℕ) (o : Living) → get old.objects n ≡ Some o → 1 ≤ names_of old n → LivesOn new n o
@@ -200,8 +255,11 @@ module _ (old new : State) (place : ℕ) (was is : Living) (s : Swaps old new pl
       elim (n == place) as (λ b. (n == place) ≡ b → ((n ≡ place) × (is ≡ o)) ⊎ (get old.objects n ≡ Some o)) [
         | true ↦ λ e.
             let same-place : n ≡ place = (unsigned_Decides n place).0 e in
-            inl (same-place, (let both : Some is ≡ Some o = sym (ap (get new.objects) same-place ∙ is-lives)
-                ∙ at in cc))
+            inl (
+              same-place,
+              (let both : Some is ≡ Some o = sym (ap (get new.objects) same-place ∙ is-lives)
+                  ∙ at in cc),
+            )
         | false ↦ λ e. inr (sym (differs-other old.objects new.objects place (Some is) s.objects n e) ∙ at)
       ] refl
 
@@ -224,7 +282,7 @@ module _ (old new : State) (place : ℕ) (was is : Living) (s : Swaps old new pl
         → AllByRecursion (Deep old depth n) (entries_of o.content)) → AllByRecursion (Deep new depth place) entries
     deep-was depth deeper =
         subst (AllByRecursion (Deep new depth place)) (ap entries_of content)
-            (deep-on old new on place was s.lives depth (l.names place was s.lives).leads (deeper place was s.lives))
+        (deep-on old new on place was s.lives depth (l.names place was s.lives).leads (deeper place was s.lives))
 
   -- what to show of its entries, and of how many names lead to each object
   record Fits (loose : ℕ → Bool) : Type 0 where
@@ -254,14 +312,17 @@ module _ (old new : State) (place : ℕ) (was is : Living) (s : Swaps old new pl
     names = λ n o at. elim (now-lives n o at) [
       | inl here ↦
           subst (IsDirectoryOf new) here.1
-          (record { once = subst NamesOnce (sym (ap entries_of f.content)) f.once; leads = subst
-              (AllByRecursion (Leads new is)) (sym (ap entries_of f.content)) f.leads })
+          (record {
+            once = subst NamesOnce (sym (ap entries_of f.content)) f.once;
+            leads = subst
+                (AllByRecursion (Leads new is)) (sym (ap entries_of f.content)) f.leads;
+          })
       | inr there ↦ names-on old new on n o there s.keeps.exports (l.names n o there)
     ];
     cookies = λ n o entries last at c. elim (now-lives n o at) [
       | inl here ↦
           let both : Directory f.entries f.last ≡ Directory entries last = sym f.content
-              ∙ ap (λ (x : Living). x.content) here.1 ∙ c in
+          ∙ ap (λ (x : Living). x.content) here.1 ∙ c in
           let k : f.last ≡ last = cc in
           subst (λ es. CookiesRise 2 es last) (ap entries_of both) (subst (λ k. CookiesRise 2 f.entries k) k f.cookies)
       | inr there ↦ l.cookies n o entries last there c
@@ -282,7 +343,7 @@ module _ (old new : State) (place : ℕ) (was is : Living) (s : Swaps old new pl
       | inl here ↦
           subst (λ (x : Living). AllByRecursion (Deep new f.depth n) (entries_of x.content)) here.1
           (subst (AllByRecursion (Deep new f.depth n)) (sym (ap entries_of f.content))
-              (subst (λ k. AllByRecursion (Deep new f.depth k) f.entries) (sym here.0) f.own_deeper))
+          (subst (λ k. AllByRecursion (Deep new f.depth k) f.entries) (sym here.0) f.own_deeper))
       | inr there ↦ deep-on old new on n o there f.depth (l.names n o there).leads (f.deeper n o there)
     ];
     given = λ n o at. elim (now-lives n o at) [
@@ -290,7 +351,7 @@ module _ (old new : State) (place : ℕ) (was is : Living) (s : Swaps old new pl
           subst (λ (x : Living). new.spent n x.generation ≡ true) here.1
           (subst (λ k. new.spent k is.generation ≡ true) (sym here.0)
           (s.spent place is.generation (subst (λ g. old.spent place g ≡ true) (sym s.generation)
-              (l.given place was s.lives))))
+          (l.given place was s.lives))))
       | inr there ↦ s.spent n o.generation (l.given n o there)
     ];
   }
@@ -314,10 +375,10 @@ module _ (old new : State) (place : ℕ) (directory narrower : Living) (name : L
   names_in-narrower n =
       let test : Entry → Bool = λ (x : Entry). x.number == n in
       let is : names_in n narrower ≡ count_by test (without t.entries name) = ap (λ c. count_by test (entries_of c))
-          t.narrower_content in
+      t.narrower_content in
       let was : names_in n directory ≡ count_by test t.entries = ap (λ c. count_by test (entries_of c)) t.content in
       let one = count-without test name t.entries e (once-was old new place directory narrower s loose w t.entries
-          t.last t.content) t.found in
+      t.last t.content) t.found in
       omega (arith, is, was, one)
 
   -- the object that it led to has one name less
@@ -374,17 +435,22 @@ module _ (old new : State) (number : ℕ) (was is : Option Living) (c : Comes ol
   names_of-come n =
       let sums = sum-differs (names_in n) old.objects new.objects number is c.objects in
       let here : weight (names_in n) (get old.objects number) ≡ 0 = ap (weight (names_in n)) c.lives
-          ∙ names_in-empty n was c.was_empty in
+      ∙ names_in-empty n was c.was_empty in
       omega (arith, sums, here, names_in-empty n is c.is_empty)
 
   -- what has a name is another, and lives on
   on-come : (n : ℕ) (o : Living) → get old.objects n ≡ Some o → 1 ≤ names_of old n → LivesOn new n o
   on-come n o at some =
       let other : (n == number) ≡ false = apart n number
-          (λ same. (let none : names_of old n ≡ 0 = subst (λ k. names_of old k ≡ 0) (sym same) c.nameless in absurd
-          (omega (arith, some, none)))) in
-      record { object = o; lives = differs-other old.objects new.objects number is c.objects n other
-          ∙ at; export = refl; kind = refl }
+      (λ same. (let none : names_of old n ≡ 0 = subst (λ k. names_of old k ≡ 0) (sym same) c.nameless in absurd
+      (omega (arith, some, none)))) in
+      record {
+        object = o;
+        lives = differs-other old.objects new.objects number is c.objects n other
+            ∙ at;
+        export = refl;
+        kind = refl;
+      }
 
   -- so does a root
   on-root : (n : ℕ) (o : Living) → get old.objects n ≡ Some o → is_root old n ≡ true → LivesOn new n o
@@ -404,13 +470,17 @@ module _ (old new : State) (number : ℕ) (was is : Option Living) (c : Comes ol
       → ((n ≡ number) × Empty o × IsNew new number o) ⊎ (get old.objects n ≡ Some o)
   come n o at =
       elim (n == number) as (λ b. (n == number) ≡ b
-          → ((n ≡ number) × Empty o × IsNew new number o) ⊎ (get old.objects n ≡ Some o)) [
+      → ((n ≡ number) × Empty o × IsNew new number o) ⊎ (get old.objects n ≡ Some o)) [
         | true ↦ λ e.
             let same : n ≡ number = (unsigned_Decides n number).0 e in
             let own : is ≡ Some o = sym (ap (get new.objects) same
-                ∙ differs-there old.objects new.objects number is c.objects) ∙ at in
-            inl (same, subst (λ x. IfSome x Empty) own c.is_empty, subst (λ x. IfSome x (IsNew new number)) own
-                c.is_new)
+            ∙ differs-there old.objects new.objects number is c.objects) ∙ at in
+            inl (
+              same,
+              subst (λ x. IfSome x Empty) own c.is_empty,
+              subst (λ x. IfSome x (IsNew new number)) own
+                  c.is_new,
+            )
         | false ↦ λ e. inr (sym (differs-other old.objects new.objects number is c.objects n e) ∙ at)
       ] refl
 
@@ -422,8 +492,11 @@ module _ (old new : State) (number : ℕ) (was is : Option Living) (c : Comes ol
       | inr there ↦ exported-on old new c.keeps o o refl (l.exported n o there)
     ];
     names = λ n o at. elim (come n o at) [
-      | inl here ↦ record { once = subst NamesOnce (sym here.1) tt; leads = subst (AllByRecursion (Leads new o))
-          (sym here.1) tt }
+      | inl here ↦ record {
+        once = subst NamesOnce (sym here.1) tt;
+        leads = subst (AllByRecursion (Leads new o))
+            (sym here.1) tt;
+      }
       | inr there ↦ names-on old new on-come n o there c.keeps.exports (l.names n o there)
     ];
     cookies = λ n o entries last at e. elim (come n o at) [
@@ -507,7 +580,7 @@ module _ (old new : State) (place number : ℕ) (directory wider object : Living
       let test : Entry → ℕ = λ (e : Entry). cond (e.number == n) 1 0 in
       let was : names_in n directory ≡ sum_by test a.entries = ap (λ c. sum_by test (entries_of c)) a.content in
       let is : names_in n wider ≡ sum_by test (a.entries ++ entry ∷ []) = ap (λ c. sum_by test (entries_of c))
-          a.wider_content in
+      a.wider_content in
       let one : sum_by test (entry ∷ []) ≡ cond (number == n) 1 0 = omega arith in
       omega (arith, was, is, one, sum_by-append test a.entries (entry ∷ []))
 
@@ -539,9 +612,9 @@ module _ (old new : State) (place number : ℕ) (directory wider object : Living
           | true ↦ λ e.
               let same-number : number ≡ n = (unsigned_Decides number n).0 e in
               let same : object ≡ o = (let both : Some object ≡ Some o = sym a.lives ∙ ap (get old.objects) same-number
-                  ∙ at in cc) in
+              ∙ at in cc) in
               let none : names_of old n ≡ 0 = subst (λ k. names_of old k ≡ 0) same-number
-                  (a.nameless (ap (λ (x : Living). is_directory x.content) same ∙ kind)) in
+              (a.nameless (ap (λ (x : Living). is_directory x.content) same ∙ kind)) in
               let one : cond {A = ℕ} (number == n) 1 0 ≡ 1 = ap (λ b. cond b 1 0) e in
               omega (arith, names_of-added n, none, one)
           | false ↦ λ e. (let one : cond {A = ℕ} (number == n) 1 0 ≡ 0 = ap (λ b. cond b 1 0) e in omega

@@ -1,7 +1,31 @@
 -- A finite map that differs from another at one key: sums over both, and what names in lists of entries that lose one
 -- or have no other.
-use Rattle.std.proofs.Common.{◌≡◌, ◌==◌, ℕ, ◌+◌, ◌<◌, ◌≤◌, Bool, true, false, cond, not, List, [], ◌∷◌, Option, Some,
-    None, find, refl, sym, ◌∙◌, ap, subst, arith}
+use Rattle.std.proofs.Common.{
+  ◌≡◌,
+  ◌==◌,
+  ℕ,
+  ◌+◌,
+  ◌<◌,
+  ◌≤◌,
+  Bool,
+  true,
+  false,
+  cond,
+  not,
+  List,
+  [],
+  ◌∷◌,
+  Option,
+  Some,
+  None,
+  find,
+  refl,
+  sym,
+  ◌∙◌,
+  ap,
+  subst,
+  arith,
+}
 use Rattle.std.proofs.lemmas.List.Sums.{sum_by-cons}
 use Rattle.std.proofs.lemmas.Cmp.{nat_list_eq_equiv}
 use Rattle.std.specs.Cmp.{nat_cmp_total, nat_eq_equiv, unsigned_Decides, unsigned_ties}
@@ -57,7 +81,7 @@ module _ {X : Type 0} (f : X → ℕ) where
       → total new + weight f (get old k) ≡ total old + f w
   sum-some old new k w differs =
       let is : new ≡ insert old k w = same_map nat_cmp_total nat_cmp-IsAntisymmetric _ _ (λ q. differs q
-          ∙ sym (get-inserted old k w q)) in
+      ∙ sym (get-inserted old k w q)) in
       let same : total new ≡ total (insert old k w) = ap total is in
       elim (get old k) as (λ o. get old k ≡ o → total new + weight f o ≡ total old + f w) [
         | None ↦ λ e. (let s = sum-insert_new f old k w e in omega (arith, same, s))
@@ -136,7 +160,7 @@ others-stay : (name : List ℕ) (es : List Entry) → AllByRecursion (λ (f : En
 others-stay name [] other = refl
 others-stay name (e ∷ es) other =
     ap (λ b. cond (not b) (e ∷ without es name) (without es name)) away
-        ∙ ap (λ rest. e ∷ rest) (others-stay name es other.1)
+    ∙ ap (λ rest. e ∷ rest) (others-stay name es other.1)
   where
     away : same_bytes e.name name ≡ false
     away = nat_list_eq_equiv.symm e.name name ∙ other.0
@@ -147,7 +171,7 @@ pub without-absent : (name : List ℕ) (es : List Entry) → find (λ (e : Entry
 without-absent name [] absent = refl
 without-absent name (e ∷ es) absent =
     elim (same_bytes e.name name) as (λ b. cond b (Some e) (find (λ (x : Entry). same_bytes x.name name) es) ≡ None
-        → cond (not b) (e ∷ without es name) (without es name) ≡ e ∷ es) [
+    → cond (not b) (e ∷ without es name) (without es name) ≡ e ∷ es) [
       | true ↦ λ none. cc
       | false ↦ λ none. ap (λ rest. e ∷ rest) (without-absent name es none)
     ] absent
@@ -159,22 +183,27 @@ pub count-without : (test : Entry → Bool) (name : List ℕ) (es : List Entry) 
 count-without test name [] e once found = cc
 count-without test name (x ∷ es) e once found =
     elim (same_bytes x.name name) as (λ b. same_bytes x.name name ≡ b
-        → cond b (Some x) (find (λ (y : Entry). same_bytes y.name name) es) ≡ Some e
+    → cond b (Some x) (find (λ (y : Entry). same_bytes y.name name) es) ≡ Some e
     → count_by test (cond (not b) (x ∷ without es name) (without es name)) + cond (test e) 1 0 ≡ count_by test
-        (x ∷ es)) [
+    (x ∷ es)) [
       | true ↦ λ here is.
           let same : x ≡ e = cc in
           let rest : without es name ≡ es = others-stay name es
-              (subst (λ n. AllByRecursion (λ (f : Entry). same_bytes n f.name ≡ false) es)
-              ((bytes_decides x.name name).0 here) once.0) in
+          (subst (λ n. AllByRecursion (λ (f : Entry). same_bytes n f.name ≡ false) es)
+          ((bytes_decides x.name name).0 here) once.0) in
           let count : count_by test (without es name) ≡ count_by test es = ap (count_by test) rest in
           let own : cond {A = ℕ} (test x) 1 0 ≡ cond (test e) 1 0 = ap (λ (y : Entry). cond {A = ℕ} (test y) 1 0)
-              same in
+          same in
           omega (arith, count, own, sum_by-cons (λ (y : Entry). cond {A = ℕ} (test y) 1 0) x es)
       | false ↦ λ here is.
           let rest = count-without test name es e once.1 is in
-          omega (arith, rest, sum_by-cons (λ (y : Entry). cond {A = ℕ} (test y) 1 0) x es, sum_by-cons
-              (λ (y : Entry). cond {A = ℕ} (test y) 1 0) x (without es name))
+          omega (
+            arith,
+            rest,
+            sum_by-cons (λ (y : Entry). cond {A = ℕ} (test y) 1 0) x es,
+            sum_by-cons
+                (λ (y : Entry). cond {A = ℕ} (test y) 1 0) x (without es name),
+          )
     ] refl found
 
 -- where no entry passes a test, each fails it
@@ -185,8 +214,11 @@ none-passes test (e ∷ es) none =
     elim (test e) as (λ b. test e ≡ b → AllByRecursion (λ (x : Entry). test x ≡ false) (e ∷ es)) [
       | true ↦ λ t. (let one : cond {A = ℕ} (test e) 1 0 ≡ 1 = ap (λ b. cond b 1 0) t in absurd
           (omega (arith, one, none, sum_by-cons (λ (y : Entry). cond {A = ℕ} (test y) 1 0) e es)))
-      | false ↦ λ t. (t, none-passes test es
-          (omega (arith, none, sum_by-cons (λ (y : Entry). cond {A = ℕ} (test y) 1 0) e es)))
+      | false ↦ λ t. (
+        t,
+        none-passes test es
+            (omega (arith, none, sum_by-cons (λ (y : Entry). cond {A = ℕ} (test y) 1 0) e es)),
+      )
     ] refl
 
 pub count-filter : (test p : Entry → Bool) (es : List Entry) → count_by test (filter p es) ≤ count_by test es
@@ -194,8 +226,13 @@ count-filter test p [] = omega arith
 count-filter test p (e ∷ es) =
     let rest = count-filter test p es in
     elim (p e) as (λ b. count_by test (cond b (e ∷ filter p es) (filter p es)) ≤ count_by test (e ∷ es)) [
-      | true ↦ omega (arith, rest, sum_by-cons (λ (y : Entry). cond {A = ℕ} (test y) 1 0) e es, sum_by-cons
-          (λ (y : Entry). cond {A = ℕ} (test y) 1 0) e (filter p es))
+      | true ↦ omega (
+        arith,
+        rest,
+        sum_by-cons (λ (y : Entry). cond {A = ℕ} (test y) 1 0) e es,
+        sum_by-cons
+            (λ (y : Entry). cond {A = ℕ} (test y) 1 0) e (filter p es),
+      )
       | false ↦ omega (arith, rest, sum_by-cons (λ (y : Entry). cond {A = ℕ} (test y) 1 0) e es)
     ]
 
@@ -214,7 +251,7 @@ pub find-filter : (test p : Entry → Bool) (es : List Entry) → find test es �
 find-filter test p [] none = refl
 find-filter test p (x ∷ es) none =
     elim (test x) as (λ b. test x ≡ b → cond b (Some x) (find test es) ≡ None
-        → find test (cond (p x) (x ∷ filter p es) (filter p es)) ≡ None) [
+    → find test (cond (p x) (x ∷ filter p es) (filter p es)) ≡ None) [
       | true ↦ λ t is. cc
       | false ↦ λ t is. elim (p x) as (λ b. find test (cond b (x ∷ filter p es) (filter p es)) ≡ None) [
         | true ↦ ap (λ b. cond b (Some x) (find test (filter p es))) t ∙ find-filter test p es is
@@ -228,7 +265,7 @@ pub find-taken : (name : List ℕ) (es : List Entry)
 find-taken name [] = refl
 find-taken name (e ∷ es) =
     elim (same_bytes e.name name) as (λ b. same_bytes e.name name ≡ b
-        → find (λ (x : Entry). same_bytes x.name name) (cond (not b) (e ∷ without es name) (without es name)) ≡ None) [
+    → find (λ (x : Entry). same_bytes x.name name) (cond (not b) (e ∷ without es name) (without es name)) ≡ None) [
       | true ↦ λ t. find-taken name es
       | false ↦ λ t. ap (λ b. cond b (Some e) (find (λ (x : Entry). same_bytes x.name name) (without es name))) t
           ∙ find-taken name es
@@ -241,7 +278,7 @@ find-other other name [] apart = refl
 find-other other name (e ∷ es) apart =
     elim (same_bytes e.name name) as (λ b. same_bytes e.name name ≡ b
     → find (λ (x : Entry). same_bytes x.name other) (cond (not b) (e ∷ without es name) (without es name)) ≡ find
-        (λ (x : Entry). same_bytes x.name other) (e ∷ es)) [
+    (λ (x : Entry). same_bytes x.name other) (e ∷ es)) [
       | true ↦ λ t. find-other other name es apart
           ∙ sym (ap (λ b. cond b (Some e) (find (λ (x : Entry). same_bytes x.name other) es)) (not-other t))
       | false ↦ λ t. ap (cond (same_bytes e.name other) (Some e)) (find-other other name es apart)

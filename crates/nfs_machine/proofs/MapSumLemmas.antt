@@ -1,10 +1,49 @@
 -- Sums over the values of a finite map: a value at a new key is added, and one that replaces another takes its part.
-use Rattle.std.proofs.Common.{◌≡◌, ◌==◌, ℕ, zero, suc, ◌+◌, ◌≤◌, Bool, true, false, cond, ◌&&◌, T, List, [], ◌∷◌, map,
-    Option, Some, None, refl, sym, ◌∙◌, ap, subst, arith}
+use Rattle.std.proofs.Common.{
+  ◌≡◌,
+  ◌==◌,
+  ℕ,
+  zero,
+  suc,
+  ◌+◌,
+  ◌≤◌,
+  Bool,
+  true,
+  false,
+  cond,
+  ◌&&◌,
+  T,
+  List,
+  [],
+  ◌∷◌,
+  map,
+  Option,
+  Some,
+  None,
+  refl,
+  sym,
+  ◌∙◌,
+  ap,
+  subst,
+  arith,
+}
 use Rattle.std.proofs.lemmas.List.Sums.{sum_by-cons}
 use Rattle.std.specs.Cmp.{nat_cmp_total, tied_itself, unsigned_Decides, unsigned_ties}
-use Rattle.std.specs.FinMap.{FinMap, entries, entries-insert, entries_sorted, get, get-entries, get-insert, get-remove,
-    insert, nat_cmp-IsAntisymmetric, remove, same_map, values}
+use Rattle.std.specs.FinMap.{
+  FinMap,
+  entries,
+  entries-insert,
+  entries_sorted,
+  get,
+  get-entries,
+  get-insert,
+  get-remove,
+  insert,
+  nat_cmp-IsAntisymmetric,
+  remove,
+  same_map,
+  values,
+}
 use Rattle.std.specs.FinMap.Entries.{below_all, by_order, find, is_sorted, put}
 use Rattle.std.specs.List.{sum_by}
 use Rattle.std.specs.declared.cmp.Ordering.TheVariants.{Less, Equal, Greater}
@@ -27,12 +66,16 @@ module _ {X : Type 0} (f : X → ℕ) where
   sum-put k v [] none = sum_of-cons (k, v) [] ∙ (let e : f v + 0 ≡ 0 + f v = omega arith in e)
   sum-put k v (e ∷ es) none =
       elim (nat_cmp k e.0) as (λ r. cond (is_eq r) (Some e.1) (find nat_cmp k es) ≡ None
-          → sum_of (by_order r ((k, v) ∷ e ∷ es) ((e.0, v) ∷ es) (e ∷ put nat_cmp k v es)) ≡ sum_of (e ∷ es) + f v) [
+      → sum_of (by_order r ((k, v) ∷ e ∷ es) ((e.0, v) ∷ es) (e ∷ put nat_cmp k v es)) ≡ sum_of (e ∷ es) + f v) [
         | Less ↦ λ n. sum_of-cons (k, v) (e ∷ es)
             ∙ (let x : f v + sum_of (e ∷ es) ≡ sum_of (e ∷ es) + f v = omega arith in x)
         | Equal ↦ λ n. cc
-        | Greater ↦ λ n. (let rest = sum-put k v es n in omega (arith, rest, sum_of-cons e (put nat_cmp k v es),
-            sum_of-cons e es))
+        | Greater ↦ λ n. (let rest = sum-put k v es n in omega (
+          arith,
+          rest,
+          sum_of-cons e (put nat_cmp k v es),
+          sum_of-cons e es,
+        ))
       ] none
 
   -- at a new key
@@ -47,14 +90,14 @@ module _ {X : Type 0} (f : X → ℕ) where
   sum-insert_old m k v w at =
       let rest : FinMap nat_cmp X = remove m k in
       let gone : get rest k ≡ None = get-remove nat_cmp_total m k k
-          ∙ ap (λ r. cond (is_eq r) None (get m k)) (tied_itself nat_cmp_total k) in
+      ∙ ap (λ r. cond (is_eq r) None (get m k)) (tied_itself nat_cmp_total k) in
       let with : insert m k w ≡ insert rest k w = same_map nat_cmp_total nat_cmp-IsAntisymmetric _ _ (λ q.
       get-insert nat_cmp_total m k w q ∙ shadowed (eq_by_cmp nat_cmp q k) (Some w) (get m q)
       ∙ ap (cond (eq_by_cmp nat_cmp q k) (Some w)) (sym (get-remove nat_cmp_total m k q))
-          ∙ sym (get-insert nat_cmp_total rest k w q)) in
+      ∙ sym (get-insert nat_cmp_total rest k w q)) in
       let was : m ≡ insert rest k v = same_map nat_cmp_total nat_cmp-IsAntisymmetric _ _ (λ q.
       had q ∙ ap (cond (eq_by_cmp nat_cmp q k) (Some v)) (sym (get-remove nat_cmp_total m k q))
-          ∙ sym (get-insert nat_cmp_total rest k v q)) in
+      ∙ sym (get-insert nat_cmp_total rest k v q)) in
       let a = ap (λ (x : FinMap nat_cmp X). sum_by f (values x)) with ∙ sum-insert_new rest k w gone in
       let b = ap (λ (x : FinMap nat_cmp X). sum_by f (values x)) was ∙ sum-insert_new rest k v gone in
       omega (arith, a, b)
@@ -75,7 +118,7 @@ module _ {X : Type 0} (f : X → ℕ) where
   below q [] h = refl
   below q (e ∷ es) h =
       elim (nat_cmp q e.0) as (λ r. T (is_lt r && below_all nat_cmp q es)
-          → cond (is_eq r) (Some e.1) (find nat_cmp q es) ≡ None) [
+      → cond (is_eq r) (Some e.1) (find nat_cmp q es) ≡ None) [
         | Less ↦ λ t. below q es t
         | Equal ↦ λ t. absurd t
         | Greater ↦ λ t. absurd t
@@ -94,7 +137,7 @@ module _ {X : Type 0} (f : X → ℕ) where
       → T (below_all nat_cmp e.0 es) → find nat_cmp q (e ∷ es) ≡ Some v
   found-later e es q v at under =
       let found : cond (q == e.0) (Some e.1) (find nat_cmp q es) ≡ Some v = elim (q == e.0) as (λ b. (q == e.0) ≡ b
-          → cond b (Some e.1) (find nat_cmp q es) ≡ Some v) [
+      → cond b (Some e.1) (find nat_cmp q es) ≡ Some v) [
         | true ↦ λ same. (let none : find nat_cmp q es ≡ None = ap (λ k. find nat_cmp k es)
             ((unsigned_Decides q e.0).0 same) ∙ below e.0 es under in cc)
         | false ↦ λ other. at

@@ -27,15 +27,22 @@ pub record NamedEntry : Type 0 where
   pub object : Living
 
 abbrev pub named_as : Named → DirectoryEntries → List ℕ → Named → NamedEntry
-named_as directory entries name o = record { place = directory.number; directory = directory.object;
-    entries = entries.list; last_cookie = entries.last_cookie; name = name; number = o.number; object = o.object }
+named_as directory entries name o = record {
+  place = directory.number;
+  directory = directory.object;
+  entries = entries.list;
+  last_cookie = entries.last_cookie;
+  name = name;
+  number = o.number;
+  object = o.object;
+}
 
 -- the state with a name taken away
 abbrev pub with_name_taken : State → Time → NamedEntry → State
 with_name_taken m now n =
     losing_name (with_object m n.place
-        (with_content n.directory now (Directory (without n.entries n.name) n.last_cookie))) (names_of m n.number) now
-        n.number n.object
+    (with_content n.directory now (Directory (without n.entries n.name) n.last_cookie))) (names_of m n.number) now
+    n.number n.object
 
 -- a name that moves, the directory that it comes to with the name that it has there, and what has that name now
 pub record Move : Type 0 where
@@ -56,20 +63,23 @@ entries_kept move = cond (move.target == move.from.place) (without (without move
 abbrev pub with_names_moved : State → Time → Move → State
 with_names_moved m now move =
     with_object (with_object m move.from.place
-        (with_content move.from.directory now (Directory (without move.from.entries move.from.name)
-        move.from.last_cookie)))
+    (with_content move.from.directory now (Directory (without move.from.entries move.from.name)
+    move.from.last_cookie)))
     move.target (with_content move.directory now (with_entry (entries_kept move) move.last_cookie move.name
-        move.from.number))
+    move.from.number))
 
 -- what had the name loses it
 abbrev pub without_replaced : (old m : State) → Time → Option Named → State
-without_replaced old m now replaced = elim replaced [ None ↦ m | Some o ↦ losing_name m (names_of old o.number) now
-    o.number o.object ]
+without_replaced old m now replaced = elim replaced [
+  | None ↦ m
+  | Some o ↦ losing_name m (names_of old o.number) now
+      o.number o.object
+]
 
 abbrev pub with_moved : State → Time → Move → State
 with_moved old now move =
     without_replaced old (with_object (with_names_moved old now move) move.from.number (touched move.from.object now))
-        now move.replaced
+    now move.replaced
 
 -- what a RENAME comes to, behind the checks that find its names
 abbrev pub move_end : State → Time → RenameArguments → (ℕ → ℕ → Bool) → (from to : Named) →

@@ -1,7 +1,30 @@
 -- A name that leads to one object in each state of a chain keeps its entry; and of what pages show, its entry alone has
 -- it.
-use Rattle.std.proofs.Common.{◌≡◌, ◌==◌, ℕ, ◌<◌, ◌≤◌, Bool, true, false, cond, List, [], ◌∷◌, ◌++◌, Option, Some, None,
-    option_map, refl, sym, ◌∙◌, ap, subst, arith}
+use Rattle.std.proofs.Common.{
+  ◌≡◌,
+  ◌==◌,
+  ℕ,
+  ◌<◌,
+  ◌≤◌,
+  Bool,
+  true,
+  false,
+  cond,
+  List,
+  [],
+  ◌∷◌,
+  ◌++◌,
+  Option,
+  Some,
+  None,
+  option_map,
+  refl,
+  sym,
+  ◌∙◌,
+  ap,
+  subst,
+  arith,
+}
 use Rattle.std.proofs.lemmas.Bool.{ne_eqb}
 use Rattle.std.proofs.lemmas.List.Elements.{Contains-append_right}
 use Rattle.std.proofs.lemmas.List.Sums.{sum_by-cons}
@@ -49,8 +72,11 @@ entered m directory name target is = there (get m.objects directory) refl is
         { entry = e; leads = same; at = record { object = o; lives = lives; found = found } })
 
     there : (x : Option Living) → get m.objects directory ≡ x
-        → elim x as (λ (_ : Option Living). Option ℕ) [ None ↦ None | Some o ↦ option_map (λ (e : Entry). e.number)
-            (entry_of (entries_of o.content) name) ] ≡ Some target → Entered m directory name target
+        → elim x as (λ (_ : Option Living). Option ℕ) [
+          | None ↦ None
+          | Some o ↦ option_map (λ (e : Entry). e.number)
+              (entry_of (entries_of o.content) name)
+        ] ≡ Some target → Entered m directory name target
     there None lives is = cc
     there (Some o) lives is = under o lives (entry_of (entries_of o.content) name) refl is
 
@@ -101,7 +127,7 @@ pub found-name : (es : List Entry) (name : List ℕ) (e : Entry) → entry_of es
 found-name [] name e found = cc
 found-name (x ∷ es) name e found =
     elim (same_bytes x.name name) as (λ t. same_bytes x.name name ≡ t → cond t (Some x) (entry_of es name) ≡ Some e
-        → same_bytes e.name name ≡ true) [
+    → same_bytes e.name name ≡ true) [
       | true ↦ λ t is. (let same : x ≡ e = cc in subst (λ (y : Entry). same_bytes y.name name ≡ true) same t)
       | false ↦ λ t is. found-name es name e is
     ] refl found
@@ -121,16 +147,20 @@ pub only : (b : ℕ) (es : List Entry) (name : List ℕ) (e : Entry) → Rises b
 only b [] name e rises once found = tt
 only b (x ∷ es) name e rises once found =
     elim (same_bytes x.name name) as (λ t. same_bytes x.name name ≡ t → cond t (Some x) (entry_of es name) ≡ Some e
-        → AllByRecursion (IsOnly name e) (x ∷ es)) [
+    → AllByRecursion (IsOnly name e) (x ∷ es)) [
       | true ↦ λ t is.
           let same : x ≡ e = cc in
-          subst (λ (y : Entry). AllByRecursion (IsOnly name y) (x ∷ es)) same
-          (t ∙ sym (itself x.cookie), subst (λ n. AllByRecursion (IsOnly n x) es) ((bytes_decides x.name name).0 t)
-              (others x.cookie es x (omega arith) rises.1 once.0))
+          subst (λ (y : Entry). AllByRecursion (IsOnly name y) (x ∷ es)) same (
+            t ∙ sym (itself x.cookie),
+            subst (λ n. AllByRecursion (IsOnly n x) es) ((bytes_decides x.name name).0 t)
+                (others x.cookie es x (omega arith) rises.1 once.0),
+          )
       | false ↦ λ t is.
-          let above = found-above x.cookie es name e rises.1 is in
-          (t ∙ sym (ne_eqb x.cookie e.cookie (λ same. omega (arith, same, above))), only x.cookie es name e rises.1
-              once.1 is)
+          let above = found-above x.cookie es name e rises.1 is in (
+            t ∙ sym (ne_eqb x.cookie e.cookie (λ same. omega (arith, same, above))),
+            only x.cookie es name e rises.1
+                once.1 is,
+          )
     ] refl found
 
 pub found-in : (es : List Entry) (name : List ℕ) (e : Entry) → entry_of es name ≡ Some e → Contains es e
@@ -168,8 +198,14 @@ count-same p q [] all = refl
 count-same p q (x ∷ es) all =
     let rest = count-same p q es all.1 in
     let here : cond {A = ℕ} (p x) 1 0 ≡ cond {A = ℕ} (q x) 1 0 = ap (λ b. cond {A = ℕ} b 1 0) all.0 in
-    omega (arith, rest, here, sum_by-cons (λ (y : Entry). cond {A = ℕ} (p y) 1 0) x es, sum_by-cons
-        (λ (y : Entry). cond {A = ℕ} (q y) 1 0) x es)
+    omega (
+      arith,
+      rest,
+      here,
+      sum_by-cons (λ (y : Entry). cond {A = ℕ} (p y) 1 0) x es,
+      sum_by-cons
+          (λ (y : Entry). cond {A = ℕ} (q y) 1 0) x es,
+    )
 
 pub all-map : {A : Type 0} (P Q : A → Type 0) → ((x : A) → P x → Q x) → (xs : List A) → AllByRecursion P xs
     → AllByRecursion Q xs

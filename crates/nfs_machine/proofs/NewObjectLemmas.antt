@@ -1,7 +1,29 @@
 -- A new object under a new name: it comes without a name and gets one, so names lead to it once, other names and links
 -- stay, and what is true of every state stays true.
-use Rattle.std.proofs.Common.{◌≡◌, ◌==◌, ℕ, ◌+◌, ◌≤◌, true, false, cond, List, [], ◌∷◌, ◌++◌, Some, None, find, inr,
-    refl, sym, ◌∙◌, ap, subst, arith}
+use Rattle.std.proofs.Common.{
+  ◌≡◌,
+  ◌==◌,
+  ℕ,
+  ◌+◌,
+  ◌≤◌,
+  true,
+  false,
+  cond,
+  List,
+  [],
+  ◌∷◌,
+  ◌++◌,
+  Some,
+  None,
+  find,
+  inr,
+  refl,
+  sym,
+  ◌∙◌,
+  ap,
+  subst,
+  arith,
+}
 use Rattle.std.proofs.lemmas.List.Sums.{sum_by-append, sum_by-cons}
 use Rattle.std.specs.Cmp.{unsigned_Decides}
 use Rattle.std.specs.FinMap.{FinMap, get, insert}
@@ -13,13 +35,35 @@ use Rattle.nfs_machine.specs.Laws.{KeepsExports}
 use Rattle.nfs_machine.specs.RenameSteps.{IsWithin}
 use Rattle.nfs_machine.specs.State.{Directory, Entry, Living, State}
 use Rattle.nfs_machine.specs.WellFormed.{IsParent, Leads, WellFormed}
-use Rattle.nfs_machine.proofs.MapChangeLemmas.{Differs, apart, differs-insert, differs-other, differs-there, flipped,
-    itself}
+use Rattle.nfs_machine.proofs.MapChangeLemmas.{
+  Differs,
+  apart,
+  differs-insert,
+  differs-other,
+  differs-there,
+  flipped,
+  itself,
+}
 use Rattle.nfs_machine.proofs.ExportedLemmas.{exported-on, free-no_root}
-use Rattle.nfs_machine.proofs.LooseLemmas.{AddsName, Beside, Comes, Loose, Swaps, also, loose-added, loose-come,
-    loosened}
-use Rattle.nfs_machine.proofs.LooseLemmas.{names_in-added, names_of-added, names_of-come, none_loose, swapped,
-    tightened}
+use Rattle.nfs_machine.proofs.LooseLemmas.{
+  AddsName,
+  Beside,
+  Comes,
+  Loose,
+  Swaps,
+  also,
+  loose-added,
+  loose-come,
+  loosened,
+}
+use Rattle.nfs_machine.proofs.LooseLemmas.{
+  names_in-added,
+  names_of-added,
+  names_of-come,
+  none_loose,
+  swapped,
+  tightened,
+}
 use Rattle.nfs_machine.proofs.LooseLemmas as swaps
 use Rattle.nfs_machine.proofs.MapSumLemmas.{get-inserted, sum-none}
 use Rattle.nfs_machine.proofs.WellFormedLemmas.{LivesOn, counts-on, is_subdirectory, links-by, links-same, parent-on}
@@ -72,11 +116,11 @@ module _ (old new : State) (place number : ℕ) (directory wider made : Living) 
   name-alone : Differs mid.objects new.objects place (Some wider)
   name-alone q =
       ap (λ (f : FinMap nat_cmp Living). get f q) makes.objects
-          ∙ get-inserted (insert old.objects place wider) number made q
+      ∙ get-inserted (insert old.objects place wider) number made q
       ∙ ap (cond (q == number) (Some made)) (get-inserted old.objects place wider q)
       ∙ elim (q == place) as (λ b. (q == place) ≡ b
-          → cond (q == number) (Some made) (cond b (Some wider) (get old.objects q)) ≡ cond b (Some wider)
-          (cond (q == number) (Some made) (get old.objects q))) [
+      → cond (q == number) (Some made) (cond b (Some wider) (get old.objects q)) ≡ cond b (Some wider)
+      (cond (q == number) (Some made) (get old.objects q))) [
         | true ↦ λ e. ap (λ b. cond b (Some made) (Some wider))
             (subst (λ k. (k == number) ≡ false) (sym ((unsigned_Decides q place).0 e))
             (lives-apart place directory makes.lives))
@@ -109,7 +153,7 @@ module _ (old new : State) (place number : ℕ) (directory wider made : Living) 
         none v [] all = refl
         none v (e ∷ es) all =
             let here : cond {A = ℕ} (e.number == number) 1 0 ≡ 0 = ap (λ b. cond b 1 0)
-                (lives-apart e.number (all.0).object (all.0).lives) in
+            (lives-apart e.number (all.0).object (all.0).lives) in
             let there : sum_by (λ (e : Entry). cond {A = ℕ} (e.number == number) 1 0) es ≡ 0 = none v es all.1 in
             omega (arith, here, there, sum_by-cons (λ (e : Entry). cond {A = ℕ} (e.number == number) 1 0) e es)
 
@@ -152,25 +196,29 @@ module _ (old new : State) (place number : ℕ) (directory wider made : Living) 
     out : IsWithin mid number place → ⊥
     out within =
         let same : place ≡ number = within-empty mid number made made-there makes.made_entries number place within
-            refl in
+        refl in
         let no : true ≡ false = sym ((unsigned_Decides place number).1 same)
-            ∙ lives-apart place directory makes.lives in cc
+        ∙ lives-apart place directory makes.lives in cc
 
     pub well_formed-made : Beside new → WellFormed new
     well_formed-made beside =
         tightened new beside (loose-added mid new place number directory wider made name adds none_loose comes-loose
         (depth mid (also number none_loose) comes-loose number made made-there place directory
-            (stays place directory makes.lives) (ap is_directory makes.content) out)
+        (stays place directory makes.lives) (ap is_directory makes.content) out)
         (deepened mid (also number none_loose) comes-loose number made made-there place directory
-            (stays place directory makes.lives) (ap is_directory makes.content) out))
+        (stays place directory makes.lives) (ap is_directory makes.content) out))
 
     -- ---- names: one leads to the new object
     names_in-wider : (n : ℕ) → names_in n wider ≡ names_in n directory + cond (number == n) 1 0
     names_in-wider n = names_in-added mid new place number directory wider made name adds n
 
     names_of-new : (n : ℕ) → names_of new n ≡ names_of old n + cond (number == n) 1 0
-    names_of-new n = omega (arith, names_of-added mid new place number directory wider made name adds n, names_of-come
-        old mid number None (Some made) comes n)
+    names_of-new n = omega (
+      arith,
+      names_of-added mid new place number directory wider made name adds n,
+      names_of-come
+          old mid number None (Some made) comes n,
+    )
 
     pub names_of-kept : (n : ℕ) (o : Living) → get old.objects n ≡ Some o → names_of new n ≡ names_of old n
     names_of-kept n o at =
@@ -216,23 +264,23 @@ module _ (old new : State) (place number : ℕ) (directory wider made : Living) 
         let test : Entry → ℕ = λ (e : Entry). cond (is_subdirectory new e) 1 0 in
         let entry : Entry = record { name = name; number = number; cookie = makes.last + 1 } in
         let is : links_of new place wider.content ≡ 2 + sum_by test (makes.entries ++ entry ∷ []) = ap
-            (links_of new place) makes.wider_content in
+        (links_of new place) makes.wider_content in
         let was : links_of old place directory.content ≡ 2 + count_by (is_subdirectory old) makes.entries = ap
-            (links_of old place) makes.content in
+        (links_of old place) makes.content in
         let kept : sum_by test makes.entries ≡ count_by (is_subdirectory old) makes.entries = subst
-            (λ es. count_by (is_subdirectory new) es ≡ count_by (is_subdirectory old) es) (ap entries_of makes.content)
-            (counts-kept place directory makes.lives) in
+        (λ es. count_by (is_subdirectory new) es ≡ count_by (is_subdirectory old) es) (ap entries_of makes.content)
+        (counts-kept place directory makes.lives) in
         let alone : sum_by test (entry ∷ []) ≡ cond (is_living_directory (get new.objects number)) 1 0 = omega arith in
         let lives : get new.objects number ≡ Some made = differs-other mid.objects new.objects place (Some wider)
-            name-alone number (flipped place number (lives-apart place directory makes.lives)) ∙ made-there in
+        name-alone number (flipped place number (lives-apart place directory makes.lives)) ∙ made-there in
         let one : cond {A = ℕ} (is_living_directory (get new.objects number)) 1 0 ≡ cond (is_directory made.content) 1
-            0 = ap (λ o. cond (is_living_directory o) 1 0) lives in
+        0 = ap (λ o. cond (is_living_directory o) 1 0) lives in
         omega (arith, is, was, kept, alone, one, sum_by-append test makes.entries (entry ∷ []))
 
     -- and of the new object
     pub links-made : links_of new number made.content ≡ cond (is_directory made.content) 2 1
     links-made =
         links-by new number made.content
-            ∙ ap (λ es. cond (is_directory made.content) (2 + count_by (is_subdirectory new) es) (names_of new number))
-            makes.made_entries
+        ∙ ap (λ es. cond (is_directory made.content) (2 + count_by (is_subdirectory new) es) (names_of new number))
+        makes.made_entries
         ∙ ap (cond (is_directory made.content) 2) names_of-made

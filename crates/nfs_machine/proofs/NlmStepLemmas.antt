@@ -42,8 +42,16 @@ use Rattle.nfs_machine.specs.NlmSteps.{NlmStep}
 use Rattle.nfs_machine.specs.Resolve.{BadHandle, Names, Resolved, Stale, resolve}
 use Rattle.nfs_machine.specs.State.{Living, Lock, PendingGrant, Range, Request, Share, State}
 use Rattle.nfs_machine.specs.declared.context.Ctx.{Ctx}
-use Rattle.nfs_machine.proofs.NlmChecksLemmas.{CancelOf, Cancels, LockOf, ShareOf, ShareAnswers, TestOf, UnlockOf,
-    UnshareOf}
+use Rattle.nfs_machine.proofs.NlmChecksLemmas.{
+  CancelOf,
+  Cancels,
+  LockOf,
+  ShareOf,
+  ShareAnswers,
+  TestOf,
+  UnlockOf,
+  UnshareOf,
+}
 use Rattle.nfs_machine.proofs.NlmChecksLemmas.{found-pending}
 use Rattle.nfs_machine.proofs.DistinctLemmas.{distinct-last, distinct-left, passes-left}
 use Rattle.nfs_machine.proofs.FileMapLemmas.{each-relisted, each-with, get-relisted, kept-is, remade}

@@ -32,8 +32,10 @@ use Rattle.nfs_machine.proofs.ExportOrderLemmas.{all-numbered, length-numbered, 
 use Rattle.nfs_machine.proofs.MapSumLemmas.{sum-none}
 
 pub le_or : (a b : ℕ) → (a ≤ b) ⊎ (b < a)
-le_or a b = elim (nat_le a b) as (λ t. nat_le a b ≡ t → (a ≤ b) ⊎ (b < a)) [ true ↦ λ e. inl (grind (arith, nat_tests))
-    | false ↦ λ e. inr (grind (arith, nat_tests)) ] refl
+le_or a b = elim (nat_le a b) as (λ t. nat_le a b ≡ t → (a ≤ b) ⊎ (b < a)) [
+  | true ↦ λ e. inl (grind (arith, nat_tests))
+  | false ↦ λ e. inr (grind (arith, nat_tests))
+] refl
 
 module _ (time : Time) where
   insert_here : (m : FinMap nat_cmp Living) (k n : ℕ) (o : Living) → n ≡ k → get (insert m k o) n ≡ Some o
@@ -61,10 +63,10 @@ module _ (time : Time) where
   root_none [] k n out = get-empty nat_cmp n
   root_none (e ∷ es) k n (inl below) =
       insert_there (opening_roots (k + 1) es time) k n (opening_root k time) (λ same. omega (arith, below, same))
-          ∙ root_none es (k + 1) n (inl (omega (arith, below)))
+      ∙ root_none es (k + 1) n (inl (omega (arith, below)))
   root_none (e ∷ es) k n (inr above) =
       insert_there (opening_roots (k + 1) es time) k n (opening_root k time) (λ same. omega (arith, above, same))
-          ∙ root_none es (k + 1) n (inr (omega (arith, above)))
+      ∙ root_none es (k + 1) n (inr (omega (arith, above)))
 
 -- nothing is held or waited for
 pub none_of : {A : Type 0} (file : ℕ) → of_file {A = A} empty file ≡ []
@@ -96,9 +98,10 @@ module _ (es : List ExportValue) (moment : Moment) where
   only_roots n o at = elim (le_or 1 n) [
     | inl low ↦ elim (le_or n (length es)) [
       | inl h ↦
-          let some : Some (opening_root n time) ≡ Some o = sym (root_found time es 1 n low (omega (arith, h))) ∙ at in
-          ((let same : opening_root n time ≡ o = cc in same),
-              (let e : last_given n ≡ 1 = grind (arith, nat_tests) in e))
+          let some : Some (opening_root n time) ≡ Some o = sym (root_found time es 1 n low (omega (arith, h))) ∙ at in (
+            (let same : opening_root n time ≡ o = cc in same),
+            (let e : last_given n ≡ 1 = grind (arith, nat_tests) in e),
+          )
       | inr h ↦ (let none : None ≡ Some o = sym (root_none time es 1 n (inr (omega (arith, h)))) ∙ at in absurd cc)
     ]
     | inr below ↦ (let none : None ≡ Some o = sym (root_none time es 1 n (inl below)) ∙ at in absurd cc)
@@ -206,13 +209,13 @@ module _ (es : List ExportValue) (moment : Moment) where
         (let r = root_range n o at in let no : true ≡ false = sym (is_root-opened n r.0 r.1) ∙ other in cc);
     one_name = λ n o at kind.
         let none : names_of (opening es moment) n ≡ 0 = sum-none (names_in n) (opening_roots 1 es time)
-            (λ q v there. subst (λ (x : Living). names_in n x ≡ 0) (only_roots q v there).0 refl) in
+        (λ q v there. subst (λ (x : Living). names_in n x ≡ 0) (only_roots q v there).0 refl) in
         omega arith;
     depth = λ n. 0;
     deeper = λ n o at.
         subst (λ (x : Living). AllByRecursion
-            (λ (e : Entry). is_living_directory (get (opening_roots 1 es time) e.number) ≡ true
-            → 0 < 0) (entries_of x.content)) (only_roots n o at).0 tt;
+        (λ (e : Entry). is_living_directory (get (opening_roots 1 es time) e.number) ≡ true
+        → 0 < 0) (entries_of x.content)) (only_roots n o at).0 tt;
     given = λ n o at. (let r = only_roots n o at in subst (λ (x : Living). nat_le x.generation (last_given n) ≡ true)
         r.0 (ap (nat_le 1) r.1));
     texts = λ n o text at is. (let no : Directory [] 2 ≡ Link text = ap (λ (x : Living). x.content)

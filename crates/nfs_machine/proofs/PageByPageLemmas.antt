@@ -1,9 +1,37 @@
 -- A directory that is read page by page shows each entry that stayed, once.
-use Rattle.std.proofs.Common.{◌≡◌, ◌==◌, ℕ, suc, ◌+◌, ◌<◌, ◌≤◌, true, false, cond, List, [], ◌∷◌, ◌++◌, nat_lt, ◌⊎◌,
-    inl, inr, refl, sym, ◌∙◌, ap, subst, arith}
+use Rattle.std.proofs.Common.{
+  ◌≡◌,
+  ◌==◌,
+  ℕ,
+  suc,
+  ◌+◌,
+  ◌<◌,
+  ◌≤◌,
+  true,
+  false,
+  cond,
+  List,
+  [],
+  ◌∷◌,
+  ◌++◌,
+  nat_lt,
+  ◌⊎◌,
+  inl,
+  inr,
+  refl,
+  sym,
+  ◌∙◌,
+  ap,
+  subst,
+  arith,
+}
 use Rattle.std.proofs.lemmas.Bool.{both_ways, leb-true, le-leb, ne_eqb}
-use Rattle.std.proofs.lemmas.List.Elements.{Contains-append_cases, Contains-append_left, Contains-append_right,
-    Contains-push_cases}
+use Rattle.std.proofs.lemmas.List.Elements.{
+  Contains-append_cases,
+  Contains-append_left,
+  Contains-append_right,
+  Contains-push_cases,
+}
 use Rattle.std.proofs.lemmas.List.Sums.{sum_by-cons}
 use Rattle.std.specs.Cmp.{unsigned_Decides}
 use Rattle.std.specs.List.{Contains, count_by}
@@ -96,7 +124,7 @@ pages-rise c (v ∷ []) order on =
 pages-rise c (v ∷ w ∷ visits) order on =
     let whole = subst (Rises c) on.0.1.0 (behind-rises 0 c v.entries order.0) in
     rises-both c v.page (shown_by (w ∷ visits)) (rises-front c v.page on.0.0 whole)
-        (pages-rise (next_cookie c v.page) (w ∷ visits) order.1 on.2)
+    (pages-rise (next_cookie c v.page) (w ∷ visits) order.1 on.2)
 
 none-left : (es : List Entry) (e : Entry) → are_none es ≡ true → Contains es e → ⊥
 none-left es e is at = nowhere e (subst (λ l. Contains l e) (no-entry es is) at)
@@ -117,7 +145,7 @@ shows c (v ∷ w ∷ visits) e order on stays lt =
       | inl in_page ↦ Contains-append_left v.page (shown_by (w ∷ visits)) e in_page
       | inr in_rest ↦ Contains-append_right v.page (shown_by (w ∷ visits)) e
           (shows (next_cookie c v.page) (w ∷ visits) e order.1 on.2 stays.1 (above-all (next_cookie c v.page) on.0.0 e
-              (rises-rest c v.page on.0.0 whole) in_rest))
+          (rises-rest c v.page on.0.0 whole) in_rest))
     ]
 
 -- ---- once
@@ -141,7 +169,7 @@ one b (x ∷ es) e h at =
       | inl same ↦ (
           let cookie = ap (λ (y : Entry). y.cookie) same in
           let here : cond {A = ℕ} (x.cookie == e.cookie) 1 0 ≡ 1 = ap (λ t. cond t 1 0)
-              ((unsigned_Decides x.cookie e.cookie).1 cookie) in
+          ((unsigned_Decides x.cookie e.cookie).1 cookie) in
           omega (arith, counted e.cookie x es, here, none-below e.cookie x.cookie es (omega (arith, cookie)) h.1)
           )
       | inr more ↦ (

@@ -1,6 +1,35 @@
 -- How many bytes pages have: what fits by its sums fits by its bytes.
-use Rattle.std.proofs.Common.{◌/◌, ◌*◌, ◌≡◌, ℕ, ◌+◌, ◌≤◌, Bool, true, List, [], ◌∷◌, length, length-append, map, min,
-    Option, Some, None, Result, Ok, Err, IfOk, IfSome, nat_le, arith, ap, option_map, sym, subst}
+use Rattle.std.proofs.Common.{
+  ◌/◌,
+  ◌*◌,
+  ◌≡◌,
+  ℕ,
+  ◌+◌,
+  ◌≤◌,
+  Bool,
+  true,
+  List,
+  [],
+  ◌∷◌,
+  length,
+  length-append,
+  map,
+  min,
+  Option,
+  Some,
+  None,
+  Result,
+  Ok,
+  Err,
+  IfOk,
+  IfSome,
+  nat_le,
+  arith,
+  ap,
+  option_map,
+  sym,
+  subst,
+}
 use Rattle.std.proofs.lemmas.Bool.{leb-true}
 use Rattle.std.proofs.lemmas.List.{length-replicate}
 use Rattle.std.proofs.lemmas.List.Elements.{All-cons, All-nil}
@@ -10,12 +39,28 @@ use Rattle.std.specs.FinMap.{get}
 use Rattle.std.specs.List.{All, fold, sum_by}
 use Rattle.nfs_xdr.specs.Types.{Xdr, Word, Flag, Entries, Pair, Value, padding}
 use Rattle.nfs_xdr.specs.Writing.{appended, with_word, with_padded}
-use Rattle.nfs_wire.proofs.ResultSizes.{Adds, adds-after, adds-done, adds-flag, adds-hyper, adds-none, adds-pair,
-    adds-refused, adds-some, adds-word}
+use Rattle.nfs_wire.proofs.ResultSizes.{
+  Adds,
+  adds-after,
+  adds-done,
+  adds-flag,
+  adds-hyper,
+  adds-none,
+  adds-pair,
+  adds-refused,
+  adds-some,
+  adds-word,
+}
 use Rattle.nfs_wire.specs.Arguments.{cookie3, filename3, nfs_fh3, verf3}
 use Rattle.nfs_wire.specs.Attributes.{fileid3, post_op_attr}
-use Rattle.nfs_wire.specs.Replies.{HasEntryForm, HasFullEntryForm, HasReaddirForm, HasReaddirplusForm, IsHandle,
-    result_bytes}
+use Rattle.nfs_wire.specs.Replies.{
+  HasEntryForm,
+  HasFullEntryForm,
+  HasReaddirForm,
+  HasReaddirplusForm,
+  IsHandle,
+  result_bytes,
+}
 use Rattle.nfs_wire.specs.Results.{entry3, entry_value, entryplus3, full_entry_value, post_op_fh3}
 use Rattle.nfs_wire.specs.declared.attributes.Attributes.{Attributes}
 use Rattle.nfs_wire.specs.declared.calls.ReaddirArguments.{ReaddirArguments}
@@ -42,7 +87,7 @@ adds-name : (name : List ℕ) → Adds filename3 name (4 + name_size name)
 unfolding appended with_padded with_word
 adds-name name old =
     simp (length-append, length-replicate) (let p : length name + padding (length name) ≤ name_size name = omega arith
-        in omega (arith, p))
+    in omega (arith, p))
 
 adds-handle_bytes : (bytes : List ℕ) → length bytes ≡ 32 → Adds nfs_fh3 bytes 36
 unfolding appended with_padded with_word
@@ -53,7 +98,7 @@ adds-verifier : (ctx : Ctx) → Adds verf3 (verifier_of ctx).bytes 8
 unfolding appended with_padded
 adds-verifier ctx old =
     simp length-append (let is : length (verifier_of ctx).bytes ≡ 8 = omega arith in let p : padding
-        (length (verifier_of ctx).bytes) ≡ 0 = ap padding is in omega (arith, p, is))
+    (length (verifier_of ctx).bytes) ≡ 0 = ap padding is in omega (arith, p, is))
 
 -- a list: each entry behind a TRUE, and a FALSE at the end
 adds-entries : {X Y : Type 0} (t : Xdr) (view : Y → Value t) (from : X → Y) (size : X → ℕ)
@@ -62,14 +107,19 @@ adds-entries : {X Y : Type 0} (t : Xdr) (view : Y → Value t) (from : X → Y) 
 unfolding appended
 adds-entries {X} t view from size each xs old =
     let all = below xs old in omega
-        (arith, all, adds-word 0 (fold (λ out v. appended t v (with_word 1 out)) old (map view (map from xs))))
+    (arith, all, adds-word 0 (fold (λ out v. appended t v (with_word 1 out)) old (map view (map from xs))))
   where
     below : (xs : List X) (old : List ℕ)
         → length (fold (λ out v. appended t v (with_word 1 out)) old (map view (map from xs))) ≤ length old + sum_by
         size xs
     below [] old = omega arith
-    below (x ∷ xs) old = omega (arith, sum_by-cons size x xs, each x old, below xs
-        (appended t (view (from x)) (with_word 1 old)))
+    below (x ∷ xs) old = omega (
+      arith,
+      sum_by-cons size x xs,
+      each x old,
+      below xs
+          (appended t (view (from x)) (with_word 1 old)),
+    )
 
 -- what is said of entries of that size, where they fit
 small : {X Y : Type 0} (from : X → Y) (size : X → ℕ) (P : Y → Type 0) → ((x : X) → size x ≤ 65536 → P (from x))
@@ -78,7 +128,7 @@ small from size P each [] h = All-nil P
 small from size P each (x ∷ xs) h =
     let sum = sum_by-cons size x xs in
     All-cons P (from x) (map from xs) (each x (omega (arith, sum, h)))
-        (small from size P each xs (omega (arith, sum, h)))
+    (small from size P each xs (omega (arith, sum, h)))
 
 -- an entry of each list
 adds-entry : (e : Entry) (old : List ℕ) → length (appended entry3 (entry_value (page_entry e)) (appended Word 1 old)) ≤
@@ -89,7 +139,7 @@ adds-entry e old =
       adds-word 1 old,
       adds-pair fileid3 (Pair filename3 cookie3) e.number _ 8 (4 + name_size e.name + 8) (adds-hyper e.number)
           (adds-pair filename3 cookie3 e.name e.cookie (4 + name_size e.name) 8 (adds-name e.name)
-              (adds-hyper e.cookie)) (appended Word 1 old),
+          (adds-hyper e.cookie)) (appended Word 1 old),
     )
 
 module _ (m : State) (ctx : Ctx) where
@@ -109,42 +159,42 @@ module _ (m : State) (ctx : Ctx) where
         adds-pair fileid3 (Pair filename3 (Pair cookie3 (Pair post_op_attr post_op_fh3))) e.number _ 8
             (4 + name_size e.name + 136) (adds-hyper e.number)
             (adds-pair filename3 (Pair cookie3 (Pair post_op_attr post_op_fh3)) e.name _ (4 + name_size e.name) 136
-                (adds-name e.name)
+            (adds-name e.name)
             (adds-pair cookie3 (Pair post_op_attr post_op_fh3) e.cookie _ 8 128 (adds-hyper e.cookie)
             (adds-pair post_op_attr post_op_fh3 _ _ 88 40 (adds-after (attributes_at m e.number))
-                (adds-handle e.number (get m.objects e.number))))) (appended Word 1 old),
+            (adds-handle e.number (get m.objects e.number))))) (appended Word 1 old),
       )
 
 -- a page is as long as it is reckoned, with its status
 pub readdir-page : (ctx : Ctx) (attributes : Option Attributes) (p : DirectoryPage)
     → length (result_bytes (nfs.Readdir (record { attributes = attributes; result = readdir_page ctx (Ok p) }))) ≤ 108 +
-        sum_by entry_size p.entries
+    sum_by entry_size p.entries
 readdir-page ctx attributes p =
     omega (
       arith,
       adds-done _ post_op_attr _ _
           (adds-pair post_op_attr (Pair verf3 (Pair (Entries entry3) Flag)) _ _ 88
-              (8 + (4 + sum_by entry_size p.entries + 4)) (adds-after attributes)
+          (8 + (4 + sum_by entry_size p.entries + 4)) (adds-after attributes)
           (adds-pair verf3 (Pair (Entries entry3) Flag) _ _ 8 (4 + sum_by entry_size p.entries + 4) (adds-verifier ctx)
           (adds-pair (Entries entry3) Flag _ p.eof (4 + sum_by entry_size p.entries) 4
-              (adds-entries entry3 entry_value page_entry entry_size adds-entry p.entries) (adds-flag p.eof)))) [],
+          (adds-entries entry3 entry_value page_entry entry_size adds-entry p.entries) (adds-flag p.eof)))) [],
     )
 
 pub readdirplus-page : (m : State) (ctx : Ctx) (attributes : Option Attributes) (p : DirectoryPage)
     → length (result_bytes
-        (nfs.Readdirplus (record { attributes = attributes; result = readdirplus_page m ctx (Ok p) }))) ≤ 108 + sum_by
-        full_entry_size p.entries
+    (nfs.Readdirplus (record { attributes = attributes; result = readdirplus_page m ctx (Ok p) }))) ≤ 108 + sum_by
+    full_entry_size p.entries
 readdirplus-page m ctx attributes p =
     omega (
       arith,
       adds-done _ post_op_attr _ _
           (adds-pair post_op_attr (Pair verf3 (Pair (Entries entryplus3) Flag)) _ _ 88
-              (8 + (4 + sum_by full_entry_size p.entries + 4)) (adds-after attributes)
+          (8 + (4 + sum_by full_entry_size p.entries + 4)) (adds-after attributes)
           (adds-pair verf3 (Pair (Entries entryplus3) Flag) _ _ 8 (4 + sum_by full_entry_size p.entries + 4)
-              (adds-verifier ctx)
+          (adds-verifier ctx)
           (adds-pair (Entries entryplus3) Flag _ p.eof (4 + sum_by full_entry_size p.entries) 4
-              (adds-entries entryplus3 full_entry_value (full_entry m ctx) full_entry_size (adds-full m ctx) p.entries)
-              (adds-flag p.eof)))) [],
+          (adds-entries entryplus3 full_entry_value (full_entry m ctx) full_entry_size (adds-full m ctx) p.entries)
+          (adds-flag p.eof)))) [],
     )
 
 -- a page that fits is short, and has the form of a result
@@ -155,18 +205,23 @@ pub readdir-size : (ctx : Ctx) (attributes : Option Attributes) (count : ℕ) (p
     → Within entry_size count page
     → length (result_bytes (nfs.Readdir (record { attributes = attributes; result = readdir_page ctx page }))) ≤ 65600
 readdir-size ctx attributes count (Ok p) within = omega (arith, within, readdir-page ctx attributes p)
-readdir-size ctx attributes count (Err e) within = omega
-    (arith, adds-refused (Pair post_op_attr (Pair verf3 (Pair (Entries entry3) Flag))) post_op_attr e _ 88
-    (adds-after attributes) [])
+readdir-size ctx attributes count (Err e) within = omega (
+  arith,
+  adds-refused (Pair post_op_attr (Pair verf3 (Pair (Entries entry3) Flag))) post_op_attr e _ 88
+      (adds-after attributes) [],
+)
 
 pub readdirplus-size : (m : State) (ctx : Ctx) (attributes : Option Attributes) (count : ℕ)
     (page : Result DirectoryPage NfsStatus) → Within full_entry_size count page
     → length (result_bytes (nfs.Readdirplus (record { attributes = attributes; result = readdirplus_page m ctx page })))
-        ≤ 65600
+    ≤ 65600
 readdirplus-size m ctx attributes count (Ok p) within = omega (arith, within, readdirplus-page m ctx attributes p)
 readdirplus-size m ctx attributes count (Err e) within =
-    omega (arith, adds-refused (Pair post_op_attr (Pair verf3 (Pair (Entries entryplus3) Flag))) post_op_attr e _ 88
-        (adds-after attributes) [])
+    omega (
+      arith,
+      adds-refused (Pair post_op_attr (Pair verf3 (Pair (Entries entryplus3) Flag))) post_op_attr e _ 88
+          (adds-after attributes) [],
+    )
 
 pub readdir-form : (ctx : Ctx) (attributes : Option Attributes) (count : ℕ) (page : Result DirectoryPage NfsStatus)
     → Within entry_size count page
@@ -184,8 +239,8 @@ pub readdirplus-form : (m : State) (ctx : Ctx) (attributes : Option Attributes) 
     → HasReaddirplusForm (record { attributes = attributes; result = readdirplus_page m ctx page })
 readdirplus-form m ctx attributes count (Ok p) within =
     small (full_entry m ctx) full_entry_size HasFullEntryForm
-        (λ e fits. (omega (arith, fits), handle-form ctx e.number (get m.objects e.number))) p.entries
-        (omega (arith, within))
+    (λ e fits. (omega (arith, fits), handle-form ctx e.number (get m.objects e.number))) p.entries
+    (omega (arith, within))
 readdirplus-form m ctx attributes count (Err e) within = tt
 
 -- what a step answers fits

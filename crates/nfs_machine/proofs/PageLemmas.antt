@@ -1,6 +1,37 @@
 -- The page of a list of entries: there is one, and it ends where the next entry no longer fits.
-use Rattle.std.proofs.Common.{Result, subst, take, drop, zero, suc, ◌==◌, ◌∙◌, ◌≡◌, ℕ, ◌+◌, ◌≤◌, Bool, true, false,
-    ◌&&◌, List, [], ◌∷◌, ◌++◌, length, length-append, map, min, Ok, Err, nat_le, refl, sym, ap, arith}
+use Rattle.std.proofs.Common.{
+  Result,
+  subst,
+  take,
+  drop,
+  zero,
+  suc,
+  ◌==◌,
+  ◌∙◌,
+  ◌≡◌,
+  ℕ,
+  ◌+◌,
+  ◌≤◌,
+  Bool,
+  true,
+  false,
+  ◌&&◌,
+  List,
+  [],
+  ◌∷◌,
+  ◌++◌,
+  length,
+  length-append,
+  map,
+  min,
+  Ok,
+  Err,
+  nat_le,
+  refl,
+  sym,
+  ap,
+  arith,
+}
 use Rattle.std.proofs.lemmas.Bool.{leb-true, le-leb}
 use Rattle.std.proofs.Math.Seq.{take-append_seam}
 use Rattle.std.proofs.lemmas.List.{length-take, nil_from_length, take-append-drop}
@@ -66,20 +97,20 @@ pub fits-shrinks : (count : ℕ) → Shrinks (fits count)
 fits-shrinks count front more h =
     let more_bytes = grows entry_size front more in
     less (104 + sum_by entry_size front) (104 + sum_by entry_size (front ++ more)) (min count 65536)
-        (omega (arith, more_bytes)) h
+    (omega (arith, more_bytes)) h
 
 pub full-shrinks : (directory_count most : ℕ) → Shrinks (fits_full directory_count most)
 full-shrinks directory_count most front more h =
     let more_bytes = grows full_entry_size front more in
     both _ _ _ _ (less (104 + sum_by full_entry_size front) (104 + sum_by full_entry_size (front ++ more))
-        (min most 65536) (omega (arith, more_bytes)))
+    (min most 65536) (omega (arith, more_bytes)))
     (less (sum_by entry_size front) (sum_by entry_size (front ++ more)) directory_count (grows entry_size front more)) h
 
 -- a front that cannot go on is the longest
 pub longest : (fit : List Entry → Bool) → Shrinks fit → (front rest other more : List Entry)
     → front ++ rest ≡ other ++ more
     → ((x : Entry) (xs : List Entry) → rest ≡ x ∷ xs → fit (front ++ x ∷ []) ≡ false) → fit other ≡ true
-        → length other ≤ length front
+    → length other ≤ length front
 longest fit shrinks front rest [] more same stops h = omega arith
 longest fit shrinks [] rest (o ∷ other) more same stops h =
     let no = stops o (other ++ more) same in
@@ -89,7 +120,7 @@ longest fit shrinks (x ∷ front) rest (o ∷ other) more same stops h =
     let heads : x ≡ o = cc in
     let tails : front ++ rest ≡ other ++ more = cc in
     let inner = longest (λ l. fit (x ∷ l)) (λ a b. shrinks (x ∷ a) b) front rest other more tails stops
-        (ap (λ y. fit (y ∷ other)) heads ∙ h) in
+    (ap (λ y. fit (y ∷ other)) heads ∙ h) in
     omega (arith, inner)
 
 -- a page that goes on behind it, and the last
@@ -97,16 +128,24 @@ pub page-stops : (fit : List Entry → Bool) → Shrinks fit
     → (f : Entry) (front : List Entry) (x : Entry) (rest : List Entry) → fit (f ∷ front) ≡ true
     → fit (f ∷ front ++ x ∷ []) ≡ false
     → Pages fit (f ∷ front ++ x ∷ rest) (Ok (record { entries = f ∷ front; eof = false }))
-page-stops fit shrinks f front x rest here next =
-    (x ∷ rest, (refl, here, λ none. cc), λ other more is. longest fit shrinks (f ∷ front) (x ∷ rest) other more is.0
-        (λ y ys same. (let head : x ≡ y = cc in ap (λ z. fit (f ∷ front ++ z ∷ [])) (sym head) ∙ next)) is.1, sym
-        (some-entry x rest))
+page-stops fit shrinks f front x rest here next = (
+  x ∷ rest,
+  (refl, here, λ none. cc),
+  λ other more is. longest fit shrinks (f ∷ front) (x ∷ rest) other more is.0
+      (λ y ys same. (let head : x ≡ y = cc in ap (λ z. fit (f ∷ front ++ z ∷ [])) (sym head) ∙ next)) is.1,
+  sym
+      (some-entry x rest),
+)
 
 pub page-ends : (fit : List Entry → Bool) (front : List Entry) → fit front ≡ true
     → Pages fit front (Ok (record { entries = front; eof = true }))
-page-ends fit front here =
-    ([], (sym (append-nil front), here, λ none. refl), λ other more
-        is. (let whole = ap length is.0 in let sum = length-append other more in omega (arith, whole, sum)), refl)
+page-ends fit front here = (
+  [],
+  (sym (append-nil front), here, λ none. refl),
+  λ other more
+      is. (let whole = ap length is.0 in let sum = length-append other more in omega (arith, whole, sum)),
+  refl,
+)
   where
     append-nil : (xs : List Entry) → xs ++ [] ≡ xs
     append-nil [] = refl
@@ -174,8 +213,10 @@ module _ (fit : List Entry → Bool) (entries : List Entry) where
   find-page : (n : ℕ) → n ≤ length entries → Bounded n → Paged
   find-page zero le bounded =
       elim (fit [] && are_none entries) as (λ t. (fit [] && are_none entries) ≡ t → Paged) [
-        | true ↦ λ is. (Ok (record { entries = []; eof = true }),
-            ([], (none (fit []) entries is, first_so (fit []) (are_none entries) is, λ e. refl), bounded, refl))
+        | true ↦ λ is. (
+          Ok (record { entries = []; eof = true }),
+          ([], (none (fit []) entries is, first_so (fit []) (are_none entries) is, λ e. refl), bounded, refl),
+        )
         | false ↦ λ is. (
           Err status.TooSmall,
           (
@@ -206,8 +247,12 @@ module _ (fit : List Entry → Bool) (entries : List Entry) where
           Ok (record { entries = take (suc n) entries; eof = are_none (drop (suc n) entries) }),
           (
             drop (suc n) entries,
-            (sym (whole (suc n)), is, λ e. absurd (let l = long (suc n) le in let z = ap length e in omega
-                (arith, l, z))),
+            (
+              sym (whole (suc n)),
+              is,
+              λ e. absurd (let l = long (suc n) le in let z = ap length e in omega
+                  (arith, l, z)),
+            ),
             λ other more page. (let l = long (suc n) le in let below = bounded other more page in omega
                 (arith, l, below)),
             refl,
@@ -233,7 +278,7 @@ module _ (fit : List Entry → Bool) (entries : List Entry) where
       shorter other more page false same is =
           let below = bounded other more page in
           let differ : length other ≡ suc n
-              → ⊥ = λ e. (let holds = (unsigned_Decides (length other) (suc n)).1 e in apart (sym holds ∙ same)) in
+          → ⊥ = λ e. (let holds = (unsigned_Decides (length other) (suc n)).1 e in apart (sym holds ∙ same)) in
           lower (length other) n below differ
 
 pub some-page : PagesExist

@@ -1,6 +1,33 @@
 -- The first piece of a text ends at the first slash, and the other pieces are those of what follows it.
-use Rattle.std.proofs.Common.{◌≡◌, ℕ, zero, suc, ◌<◌, ◌≤◌, ◌+◌, ◌-◌, Bool, true, false, cond, nat_eq, nat_lt, List, [],
-    ◌∷◌, length, get_or, take, drop, Some, None, refl, arith, add-one, ltb-false}
+use Rattle.std.proofs.Common.{
+  ◌≡◌,
+  ℕ,
+  zero,
+  suc,
+  ◌<◌,
+  ◌≤◌,
+  ◌+◌,
+  ◌-◌,
+  Bool,
+  true,
+  false,
+  cond,
+  nat_eq,
+  nat_lt,
+  List,
+  [],
+  ◌∷◌,
+  length,
+  get_or,
+  take,
+  drop,
+  Some,
+  None,
+  refl,
+  arith,
+  add-one,
+  ltb-false,
+}
 use Rattle.std.proofs.lemmas.List.{take_rest}
 use Rattle.std.proofs.lemmas.List.Quantifiers.{position-Some}
 use Rattle.std.proofs.lemmas.List.Sums.{fails_before_first}
@@ -9,13 +36,13 @@ use Rattle.nfs_machine.specs.Paths.{pieces}
 
 pub pieces-at : (text : List ℕ) (at : ℕ) → at < length text → nat_eq (get_or text at 0) 47 ≡ true
     → ((k : ℕ) → k < at → nat_eq (get_or text k 0) 47 ≡ false)
-        → pieces text ≡ take at text ∷ pieces (drop (suc at) text)
+    → pieces text ≡ take at text ∷ pieces (drop (suc at) text)
 pieces-at [] at h e none = absurd (omega arith)
 pieces-at (b ∷ text) zero h e none = rw e refl
 pieces-at (b ∷ text) (suc at) h e none =
     let other : nat_eq b 47 ≡ false = none zero (omega arith) in
     let rest : pieces text ≡ take at text ∷ pieces (drop (suc at) text) = pieces-at text at (omega arith) e
-        (λ k l. none (suc k) (omega arith)) in
+    (λ k l. none (suc k) (omega arith)) in
     rw (other, rest) refl
 
 pub pieces-whole : (text : List ℕ) → ((k : ℕ) → k < length text → nat_eq (get_or text k 0) 47 ≡ false)

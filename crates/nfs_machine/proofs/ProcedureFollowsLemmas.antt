@@ -23,8 +23,17 @@ use Rattle.nfs_machine.specs.LocksFormed.{NoConflict, NoLocksConflict, NoSharesC
 use Rattle.nfs_machine.specs.Answers.{state_after}
 use Rattle.nfs_machine.specs.Attributes.{entries_of, is_directory, links_of}
 use Rattle.nfs_machine.specs.Bytes.{same_bytes}
-use Rattle.nfs_machine.specs.Checks.{◌>>=◌, holding, object_of, entries_in, bytes_in, plain_name_checked, changeable,
-    permitted, entry_of}
+use Rattle.nfs_machine.specs.Checks.{
+  ◌>>=◌,
+  holding,
+  object_of,
+  entries_in,
+  bytes_in,
+  plain_name_checked,
+  changeable,
+  permitted,
+  entry_of,
+}
 use Rattle.nfs_machine.specs.Data.{size_limit, resized, written}
 use Rattle.nfs_machine.specs.DataSteps.{WriteEnd, write_count, write_object}
 use Rattle.nfs_machine.specs.Grants.{AllHeldUp, FileWaits}
@@ -53,8 +62,16 @@ use Rattle.nfs_machine.proofs.NewObjectLemmas.{MakesEntry, names_of-kept, well_f
 use Rattle.nfs_machine.specs.DataSteps.{write_end}
 use Rattle.nfs_machine.proofs.ChecksPassedLemmas.{chained-is, is-directory, is-regular, resolved-lives}
 use Rattle.nfs_machine.proofs.FileMapLemmas.{each-with, of-other, of-with}
-use Rattle.nfs_machine.proofs.FirmLemmas.{FilesOn, Firm, firm-losing, firm-of, firm-on, formed-of, put-directory,
-    put-new}
+use Rattle.nfs_machine.proofs.FirmLemmas.{
+  FilesOn,
+  Firm,
+  firm-losing,
+  firm-of,
+  firm-on,
+  formed-of,
+  put-directory,
+  put-new,
+}
 use Rattle.nfs_machine.proofs.FirmLemmas.{put-over}
 use Rattle.nfs_machine.proofs.LooseLemmas.{Beside, well_formed-alike}
 use Rattle.nfs_machine.proofs.LinkTextLemmas.{texts-put}
@@ -159,7 +176,7 @@ pub mounts-losing : (m : State) (names : ℕ) (now : Time) (number : ℕ) (o : L
     → (losing_name m names now number o).mounts ≡ m.mounts
 mounts-losing m names now number o =
     elim (nat_le names 1) as (λ b. (cond b (without_object m number) (with_object m number (touched o now))).mounts ≡
-        m.mounts) [ true ↦ refl | false ↦ refl ]
+    m.mounts) [ true ↦ refl | false ↦ refl ]
 
 pub exports-losing : (m : State) (names : ℕ) (now : Time) (number : ℕ) (o : Living) →
     KeepsExports m (losing_name m names now number o)
@@ -229,8 +246,13 @@ follows-replaced now m number was (Some o) lives alters = follows-altered now m 
 alters-regular : (o : Living) (now : Time) (bytes : List ℕ) → is_directory o.content ≡ false
     → Alters now o (with_content o now (Regular bytes))
 alters-regular o now bytes plain = record {
-  keeps = record { export = refl; generation = refl; kind = sym plain; content = λ e. (let no : true ≡ false = sym e
-      ∙ plain in cc) };
+  keeps = record {
+    export = refl;
+    generation = refl;
+    kind = sym plain;
+    content = λ e. (let no : true ≡ false = sym e
+        ∙ plain in cc);
+  };
   turns = record {
     generation = refl;
     kind = sym plain;
@@ -252,9 +274,9 @@ module _ (m : State) (ctx : Ctx) where
       (λ x1 e1. chained-is P (changeable m.exports file) _
       (λ x2 e2. chained-is P (permitted ctx file ToWrite) _ (λ x3 e3.
       chained-is P (holding ((write_count a == 0) || nat_le (a.offset + write_count a) size_limit) status.FileTooBig) _
-          (λ x4 e4.
+      (λ x4 e4.
       of (is-regular file.content bytes is) (write_count a == 0)
-          (written bytes a.offset (take (write_count a) a.«data»)))))))
+      (written bytes a.offset (take (write_count a) a.«data»)))))))
     where
       of : is_directory file.content ≡ false → (b : Bool) (bytes : List ℕ)
           → IfSome (cond b None (Some (with_content file (time_of ctx.moment) (Regular bytes))))
@@ -265,9 +287,9 @@ module _ (m : State) (ctx : Ctx) where
   pub write-follows : (a : WriteArguments) → IfOk (write_end m ctx a) (λ e. Follows (time_of ctx.moment) m e.1)
   write-follows a =
       chained-is (λ (e : Written × State). Follows (time_of ctx.moment) m e.1) (object_of (resolve m ctx a.file)) _
-          (λ file at.
+      (λ file at.
       chained-is (λ (e : Written × State). Follows (time_of ctx.moment) m e.1)
-          (write_object m.exports ctx file.object a) _
+      (write_object m.exports ctx file.object a) _
       (λ end is.
       follows-replaced (time_of ctx.moment) m file.number file.object end.after (resolved-lives m ctx a.file file at)
       (of-ok (λ (e : WriteEnd). IfSome e.after (Alters (time_of ctx.moment) file.object))
@@ -294,9 +316,9 @@ module _ (m : State) (ctx : Ctx) where
   text-within links (Link text) x is t e =
       let same : text ≡ t = cc in
       subst (λ (s : List ℕ). length s ≤ 4096) same
-          (of-ok (λ _. length text ≤ 4096) (kind_checked ctx links (Link text)) x is
+      (of-ok (λ _. length text ≤ 4096) (kind_checked ctx links (Link text)) x is
       (chained-is (λ _. length text ≤ 4096) (holding (nat_le 1 (length text) && not (list_any (λ b. b == 0) text))
-          status.Invalid) _ (λ x1 e1. short text (nat_le (length text) 4096) refl)))
+      status.Invalid) _ (λ x1 e1. short text (nat_le (length text) 4096) refl)))
     where
       short : (text : List ℕ) (b : Bool) → nat_le (length text) 4096 ≡ b
           → IfOk (holding b status.NameTooLong) (λ _. length text ≤ 4096)
@@ -311,7 +333,7 @@ module _ (m : State) (ctx : Ctx) where
 
   module _ (name : List ℕ) (wanted : Wanted) (number : ℕ) (directory : Living) (entries : List Entry) (last : ℕ)
       (lives : get m.objects number ≡ Some directory) (content : directory.content ≡ Directory entries last)
-          (none : find (λ (x : Entry). same_bytes x.name name) entries ≡ None) (plain : Plain wanted)
+      (none : find (λ (x : Entry). same_bytes x.name name) entries ≡ None) (plain : Plain wanted)
       (text : (t : List ℕ) → wanted.content ≡ Link t → length t ≤ 4096) where
     module _ (fresh : Fresh m) where
       abbrev wider : Living
@@ -344,8 +366,8 @@ module _ (m : State) (ctx : Ctx) where
             | true ↦ λ e.
                 let is : n ≡ fresh.number = (unsigned_Decides n fresh.number).0 e in
                 let there : get new.objects fresh.number ≡ Some o = differs-there (with_object m number wider).objects
-                    new.objects fresh.number (Some o) (differs-insert (with_object m number wider).objects
-                    fresh.number o) in
+                new.objects fresh.number (Some o) (differs-insert (with_object m number wider).objects
+                fresh.number o) in
                 let both : Some o ≡ Some l.object = sym (ap (get new.objects) is ∙ there) ∙ l.lives in
                 let same : o ≡ l.object = cc in
                 let generation : fresh.generation ≡ g = ap (λ (x : Living). x.generation) same ∙ l.generation_is in
@@ -359,14 +381,14 @@ module _ (m : State) (ctx : Ctx) where
                 )
             | false ↦ λ e.
                 inl (lived-as (time_of ctx.moment) m (with_object m number wider) wide n g
-                    (record { object = l.object; lives = sym (other n e) ∙ l.lives; generation_is = l.generation_is }))
+                (record { object = l.object; lives = sym (other n e) ∙ l.lives; generation_is = l.generation_is }))
           ] refl
 
       -- the new number had no object
       touches : TouchesOnce (time_of ctx.moment) m new
       touches n was is at there =
           elim (n == fresh.number) as (λ b. (n == fresh.number) ≡ b
-              → (is ≡ was) ⊎ (is.changed ≡ touch was.changed (time_of ctx.moment))) [
+          → (is ≡ was) ⊎ (is.changed ≡ touch was.changed (time_of ctx.moment))) [
             | true ↦ λ e. (let none : get m.objects n ≡ None = ap (get m.objects)
                 ((unsigned_Decides n fresh.number).0 e) ∙ fresh.free in cc)
             | false ↦ λ e. touches-continued (time_of ctx.moment) m (with_object m number wider) wide n was is at
@@ -376,7 +398,7 @@ module _ (m : State) (ctx : Ctx) where
       cookies : KeepsCookies m new
       cookies n was is at there =
           elim (n == fresh.number) as (λ b. (n == fresh.number) ≡ b
-              → KeepsEntries (entries_of was.content) (entries_of is.content)) [
+          → KeepsEntries (entries_of was.content) (entries_of is.content)) [
             | true ↦ λ e. (let none : get m.objects n ≡ None = ap (get m.objects)
                 ((unsigned_Decides n fresh.number).0 e) ∙ fresh.free in cc)
             | false ↦ λ e. cookies-continued (time_of ctx.moment) m (with_object m number wider) wide n was is at
@@ -417,7 +439,7 @@ module _ (m : State) (ctx : Ctx) where
           well_formed-made m new number fresh.number directory wider o name (makes w) w
           (beside-follows m new
           (texts-put (with_object m number wider) fresh.number o
-              (texts-continued (time_of ctx.moment) m (with_object m number wider) wide w.texts) text)
+          (texts-continued (time_of ctx.moment) m (with_object m number wider) wide w.texts) text)
           locks refl w)
 
       counts : WellFormed m → Counts (time_of ctx.moment) m new
@@ -449,13 +471,13 @@ module _ (m : State) (ctx : Ctx) where
   new-follows : (name : List ℕ) (wanted : Wanted) (number : ℕ) (directory : Living) (entries : List Entry) (last : ℕ)
       → get m.objects number ≡ Some directory → directory.content ≡ Directory entries last
       → find (λ (x : Entry). same_bytes x.name name) entries ≡ None → Plain wanted
-          → IfOk (make_new m ctx name wanted number directory entries last) EndFollows
+      → IfOk (make_new m ctx name wanted number directory entries last) EndFollows
   new-follows name wanted number directory entries last lives content none plain =
       chained-is EndFollows (kind_checked ctx (links_of m number directory.content) wanted.content) _ (λ x0 e0.
       chained-is EndFollows (given_attributes ctx wanted.attributes) _ (λ x1 e1.
       chained-is EndFollows (holding (nat_lt (last + 1) (2 ^ 64)) status.NoSpace) _ (λ x2 e2.
       made-follows name wanted number directory entries last lives content none plain
-          (text-within (links_of m number directory.content) wanted.content x0 e0))))
+      (text-within (links_of m number directory.content) wanted.content x0 e0))))
 
   pub make-follows : (place : Place) (wanted : Result Wanted NfsStatus)
       (there : ℕ → Option Living → Result (Made × State) NfsStatus) → IfOk wanted Plain
@@ -470,7 +492,7 @@ module _ (m : State) (ctx : Ctx) where
       chained-is EndFollows (permitted ctx directory.object ToChange) _ (λ x4 e4.
       under what (of-ok Plain wanted what e2 plain) directory.number directory.object entries.list entries.last_cookie
       (resolved-lives m ctx place.directory directory at) (is-directory directory.object.content entries is)
-          (entry_of entries.list place.name) refl))))))
+      (entry_of entries.list place.name) refl))))))
     where
       under : (what : Wanted) → Plain what → (number : ℕ) (directory : Living) (entries : List Entry) (last : ℕ)
           → get m.objects number ≡ Some directory → directory.content ≡ Directory entries last
@@ -491,23 +513,27 @@ module _ (m : State) (ctx : Ctx) where
   over-alters how file (Err e) is = tt
   over-alters (Guarded a) file (Ok bytes) is = tt
   over-alters (Exclusive verifier) file (Ok bytes) is =
-      elim (elim file.verifier as (λ (_ : Option (List ℕ)). Bool) [ None ↦ false | Some kept ↦ same_bytes kept
-          verifier.bytes ]) as (λ b. IfOk (cond b (Ok None) (Err status.Exists))
-          (λ after. IfSome after (Alters (time_of ctx.moment) file))) [ true ↦ tt | false ↦ tt ]
+      elim (elim file.verifier as (λ (_ : Option (List ℕ)). Bool) [
+        | None ↦ false
+        | Some kept ↦ same_bytes kept
+            verifier.bytes
+      ]) as (λ b. IfOk (cond b (Ok None) (Err status.Exists))
+      (λ after. IfSome after (Alters (time_of ctx.moment) file))) [ true ↦ tt | false ↦ tt ]
   over-alters (Unchecked a) file (Ok bytes) is = sized a.size
     where
       sized : (size : Option ℕ)
-          → IfOk (elim size as (λ (_ : Option ℕ). Result (Option Living) NfsStatus)
-          [ None ↦ Ok None | Some size ↦ permitted ctx file ToWrite >>= λ _. holding (nat_le size size_limit)
-          status.FileTooBig >>= λ _. Ok (Some (with_content file (time_of ctx.moment) (Regular (resized bytes size))))
+          → IfOk (elim size as (λ (_ : Option ℕ). Result (Option Living) NfsStatus) [
+            | None ↦ Ok None
+            | Some size ↦ permitted ctx file ToWrite >>= λ _. holding (nat_le size size_limit)
+                status.FileTooBig >>= λ _. Ok (Some (with_content file (time_of ctx.moment) (Regular (resized bytes size))))
           ]) (λ after. IfSome after (Alters (time_of ctx.moment) file))
       sized None = tt
       sized (Some size) =
           let P : Option Living → Type 0 = λ (after : Option Living). IfSome after (Alters (time_of ctx.moment) file) in
           chained-is P (permitted ctx file ToWrite) _
-              (λ x1 e1. chained-is P (holding (nat_le size size_limit) status.FileTooBig) _
-              (λ x2 e2. alters-regular file (time_of ctx.moment) (resized bytes size)
-              (is-regular file.content bytes is)))
+          (λ x1 e1. chained-is P (holding (nat_le size size_limit) status.FileTooBig) _
+          (λ x2 e2. alters-regular file (time_of ctx.moment) (resized bytes size)
+          (is-regular file.content bytes is)))
 
   pub existing-follows : (how : CreateHow) (number : ℕ) (o : Option Living) → get m.objects number ≡ o → IfOk
       (create_existing m ctx how number o) (λ e. Follows (time_of ctx.moment) m e.1)
@@ -516,10 +542,12 @@ module _ (m : State) (ctx : Ctx) where
       chained-is (λ (e : Made × State). Follows (time_of ctx.moment) m e.1)
       (create_over ctx how o (bytes_in o.content)) _ (λ after is.
       follows-replaced (time_of ctx.moment) m number o after at
-          (of-ok (λ (after : Option Living). IfSome after (Alters (time_of ctx.moment) o))
-          (create_over ctx how o (bytes_in o.content)) after is (over-alters how o (bytes_in o.content) refl)))
+      (of-ok (λ (after : Option Living). IfSome after (Alters (time_of ctx.moment) o))
+      (create_over ctx how o (bytes_in o.content)) after is (over-alters how o (bytes_in o.content) refl)))
 
   pub file-plain : (how : CreateHow) → Plain (wanted_file how)
-  file-plain how = record
-      { entries = refl; cookies = λ k c. (let no : is_directory (wanted_file how).content ≡ true = ap is_directory c
-      in cc) }
+  file-plain how = record {
+    entries = refl;
+    cookies = λ k c. (let no : is_directory (wanted_file how).content ≡ true = ap is_directory c
+        in cc);
+  }

@@ -70,25 +70,31 @@ module _ (m : State) (ctx : Ctx) (w : WellFormed m) (shown : DirectoryPage) wher
       → names_shown (readdir_page ctx page) ≡ Some shown → Listed m ctx a.directory a.cookie shown
   of-names a parent is_parent (Ok p) is shows =
       let back : Some p ≡ Some shown = ap (λ es. Some (record p { entries = es })) (sym (names-back p.entries))
-          ∙ shows in
+      ∙ shows in
       let same : p ≡ shown = cc in
       subst (Listed m ctx a.directory a.cookie) same
-          (record { fit = fits a.count; is = lists m ctx w a.directory a.cookie a.verifier parent is_parent
-          (fits a.count) p is })
+      (record {
+        fit = fits a.count;
+        is = lists m ctx w a.directory a.cookie a.verifier parent is_parent
+            (fits a.count) p is;
+      })
   of-names a parent is_parent (Err e) is shows = cc
 
   of-full : (a : ReaddirplusArguments) (parent : ℕ) → IsParentOf m ctx a.directory parent
       → (page : Result DirectoryPage NfsStatus)
       → PagesOf (fits_full a.directory_count a.most) (entries_left m ctx a.directory a.cookie a.verifier parent) page
-          → full_shown (readdirplus_page m ctx page) ≡ Some shown
+      → full_shown (readdirplus_page m ctx page) ≡ Some shown
       → Listed m ctx a.directory a.cookie shown
   of-full a parent is_parent (Ok p) is shows =
       let back : Some p ≡ Some shown = ap (λ es. Some (record p { entries = es })) (sym (full-back m ctx p.entries))
-          ∙ shows in
+      ∙ shows in
       let same : p ≡ shown = cc in
       subst (Listed m ctx a.directory a.cookie) same
-      (record { fit = fits_full a.directory_count a.most; is = lists m ctx w a.directory a.cookie a.verifier parent
-          is_parent (fits_full a.directory_count a.most) p is })
+      (record {
+        fit = fits_full a.directory_count a.most;
+        is = lists m ctx w a.directory a.cookie a.verifier parent
+            is_parent (fits_full a.directory_count a.most) p is;
+      })
   of-full a parent is_parent (Err e) is shows = cc
 
   of-step : (call : NfsCall) (reply : NfsReply) (messages : List Message) (new : State) (directory : List ℕ)
@@ -100,12 +106,12 @@ module _ (m : State) (ctx : Ctx) (w : WellFormed m) (shown : DirectoryPage) wher
       let shows' = ap nfs_page_shown (sym step.answers.reply_is) ∙ shows in
       let same = parts a.directory directory a.cookie cookie from in
       subst (λ x. Listed m ctx x cookie shown) same.0 (subst (λ x. Listed m ctx a.directory x shown) same.1
-          (of-names a step.parent step.is_parent step.page step.is_page shows'))
+      (of-names a step.parent step.is_parent step.page step.is_page shows'))
   of-step (nfs.Readdirplus a) reply messages new directory cookie step from shows =
       let shows' = ap nfs_page_shown (sym step.answers.reply_is) ∙ shows in
       let same = parts a.directory directory a.cookie cookie from in
       subst (λ x. Listed m ctx x cookie shown) same.0 (subst (λ x. Listed m ctx a.directory x shown) same.1
-          (of-full a step.parent step.is_parent step.page step.is_page shows'))
+      (of-full a step.parent step.is_parent step.page step.is_page shows'))
   of-step call reply messages new directory cookie step from shows = cc
 
 -- what a step shows
@@ -120,7 +126,7 @@ step-lists old t mid directory cookie page eof step answers w = by t.call t.repl
         Listed old t.ctx directory cookie (record { entries = page; eof = eof })
     by (calls.Nfs call) (replies.Nfs reply) step from shows =
         of-step old t.ctx w (record { entries = page; eof = eof }) call reply t.messages mid directory cookie step
-            from shows
+        from shows
     by (calls.Nfs call) (replies.Mount reply) step from shows = absurd step
     by (calls.Nfs call) (replies.Nlm reply) step from shows = absurd step
     by (calls.Mount call) reply step from shows = cc
@@ -154,8 +160,12 @@ pub record Visits (directory : List ℕ) (cookie : ℕ) (old : State) (turns : L
 
 abbrev visit-of : (m : State) (ctx : Ctx) (directory : List ℕ) (cookie : ℕ) (page : DirectoryPage)
     → Listed m ctx directory cookie page → Visit
-visit-of m ctx directory cookie page l = record { entries = all_entries l.is.number l.is.parent l.is.entries;
-    fit = l.fit; page = page.entries; eof = page.eof }
+visit-of m ctx directory cookie page l = record {
+  entries = all_entries l.is.number l.is.parent l.is.entries;
+  fit = l.fit;
+  page = page.entries;
+  eof = page.eof;
+}
 
 has-it : (m : State) (ctx : Ctx) (directory : List ℕ) (cookie : ℕ) (page : DirectoryPage)
     (l : Listed m ctx directory cookie page) (e : Entry) → Has m ctx directory e
@@ -166,19 +176,19 @@ has-it m ctx directory cookie page l e has = has l.is.number l.is.object l.is.en
 alone : (m : State) (ctx : Ctx) (directory : List ℕ) (cookie : ℕ) (page : DirectoryPage)
     (l : Listed m ctx directory cookie page) (h : Handle) (name : List ℕ) (target : ℕ) (e : Entry) → WellFormed m
     → IsName directory h name target e → EntryAt m h.fileid name e
-        → HasAlone name e (visit-of m ctx directory cookie page l)
+    → HasAlone name e (visit-of m ctx directory cookie page l)
 alone m ctx directory cookie page l h name target e formed is at =
     let lives : get m.objects l.is.number ≡ Some l.is.object = resolved-lives m ctx directory l.is.number l.is.object
-        l.is.is_named in
+    l.is.is_named in
     let number : l.is.number ≡ h.fileid = resolved-number m ctx directory h l.is.number l.is.object is.handle
-        l.is.is_named in
+    l.is.is_named in
     let there : Some at.object ≡ Some l.is.object = sym at.lives ∙ ap (get m.objects) (sym number) ∙ lives in
     let same : at.object ≡ l.is.object = cc in
     let content : entries_of at.object.content ≡ l.is.entries = ap (λ (o : Living). entries_of o.content) same
-        ∙ ap entries_of l.is.is_directory in
+    ∙ ap entries_of l.is.is_directory in
     let found : entry_of l.is.entries name ≡ Some e = ap (λ es. entry_of es name) (sym content) ∙ at.found in
     let once : NamesOnce l.is.entries = subst NamesOnce (ap entries_of l.is.is_directory)
-        (formed.names l.is.number l.is.object lives).once in
+    (formed.names l.is.number l.is.object lives).once in
     let rises : Rises 2 l.is.entries = l.is.in_order.1.1 in
     let above = found-above 2 l.is.entries name e rises found in (
       Contains-append_right (record { name = codes "."; number = l.is.number; cookie = 1 } ∷ record
@@ -186,8 +196,11 @@ alone m ctx directory cookie page l h name target e formed is at =
           (found-in l.is.entries name e found),
       (
         is.no_self ∙ sym (ne_eqb 1 e.cookie (λ one. omega (arith, above, one))),
-        (is.not_above ∙ sym (ne_eqb 2 e.cookie (λ two. omega (arith, above, two))), only 2 l.is.entries name e rises
-            once found),
+        (
+          is.not_above ∙ sym (ne_eqb 2 e.cookie (λ two. omega (arith, above, two))),
+          only 2 l.is.entries name e rises
+              once found,
+        ),
       ),
     )
 
@@ -239,8 +252,11 @@ visits-of directory cookie old (ReadsPage t page ∷ turn ∷ turns) new formed 
       order = (l.is.in_order, order);
       on = (l.is.visit, refl, on);
       shown = ap (λ es. page ++ es) shown;
-      stays = λ e has. (has-it old t.ctx directory cookie (record { entries = page; eof = false }) l e has.0, stays e
-          has.1);
+      stays = λ e has. (
+        has-it old t.ctx directory cookie (record { entries = page; eof = false }) l e has.0,
+        stays e
+            has.1,
+      );
       named = λ h name target e is at through. (
         alone old t.ctx directory cookie (record { entries = page; eof = false }) l h name target e formed is at,
         named h name target e is

@@ -12,8 +12,13 @@ use Rattle.nfs_machine.specs.RenameSteps.{is_compatible}
 use Rattle.nfs_machine.specs.Shown.{touched, with_object}
 use Rattle.nfs_machine.specs.State.{Directory, Entry, Living, State}
 use Rattle.nfs_machine.specs.Resolve.{Named}
-use Rattle.nfs_machine.proofs.ContinuesLemmas.{Continues, continues-itself, continues-losing, continues-touched,
-    continues-with}
+use Rattle.nfs_machine.proofs.ContinuesLemmas.{
+  Continues,
+  continues-itself,
+  continues-losing,
+  continues-touched,
+  continues-with,
+}
 use Rattle.nfs_machine.proofs.CookieLemmas.{kept-added, kept-of, kept-same, kept-without}
 use Rattle.nfs_machine.proofs.MovedNameLemmas.{Move, entries_kept, with_moved, with_names_moved, without_replaced}
 use Rattle.nfs_machine.proofs.TakenNameLemmas.{IsNamedEntry, kept-taken, under-entry}
@@ -71,17 +76,17 @@ module _ (m : State) (now : Time) (move : Move) (is : IsMove m move) where
   elsewhere e found same =
       let lives : get m.objects e.number ≡ Some move.from.object = ap (get m.objects) (sym same) ∙ is.from.object in
       let over : move.replaced ≡ Some (numbered e.number move.from.object) = is.over ∙ ap (object_under m) found
-          ∙ ap (option_map (λ (o : Living). numbered e.number o)) lives in
+      ∙ ap (option_map (λ (o : Living). numbered e.number o)) lives in
       let no : true ≡ false = sym ((unsigned_Decides e.number move.from.number).1 (sym same))
-          ∙ is.other (numbered e.number move.from.object) over in
+      ∙ is.other (numbered e.number move.from.object) over in
       cc
 
   left : KeepsEntries move.entries (entries_kept move)
   left =
       let others = kept-without move.entries move.entries move.name (kept-same move.entries) in
       elim (move.target == move.from.place) as
-          (λ b. KeepsEntries move.entries (cond b (without (without move.entries move.name) move.from.name)
-          (without move.entries move.name))) [
+      (λ b. KeepsEntries move.entries (cond b (without (without move.entries move.name) move.from.name)
+      (without move.entries move.name))) [
         | true ↦ kept-without move.entries (without move.entries move.name) move.from.name others
         | false ↦ others
       ]
@@ -113,5 +118,5 @@ module _ (m : State) (now : Time) (move : Move) (is : IsMove m move) where
       over None e = object-moved
       over (Some o) e =
           continues-losing now m (with_object (with_names_moved m now move) move.from.number
-              (touched move.from.object now)) object-moved o.number o.object
+          (touched move.from.object now)) object-moved o.number o.object
           (under-entry m (entry_of move.entries move.name) o (sym is.over ∙ e)).3 (names_of m o.number)

@@ -1,7 +1,35 @@
 -- What a RENAME leaves is well formed: the new name is taken from what had it, the old one is taken away, and the
 -- object gets the new one.
-use Rattle.std.proofs.Common.{◌≡◌, ◌==◌, ℕ, ◌≤◌, ◌<◌, Bool, true, false, not, ◌||◌, ◌&&◌, cond, List, [], Option, Some,
-    None, find, option_map, ◌⊎◌, inl, inr, refl, sym, ◌∙◌, ap, subst, arith}
+use Rattle.std.proofs.Common.{
+  ◌≡◌,
+  ◌==◌,
+  ℕ,
+  ◌≤◌,
+  ◌<◌,
+  Bool,
+  true,
+  false,
+  not,
+  ◌||◌,
+  ◌&&◌,
+  cond,
+  List,
+  [],
+  Option,
+  Some,
+  None,
+  find,
+  option_map,
+  ◌⊎◌,
+  inl,
+  inr,
+  refl,
+  sym,
+  ◌∙◌,
+  ap,
+  subst,
+  arith,
+}
 use Rattle.std.specs.Cmp.{nat_cmp_total, unsigned_Decides}
 use Rattle.std.specs.Cmp.Lexicographic.{bytes_decides}
 use Rattle.std.specs.FinMap.{FinMap, get, nat_cmp-IsAntisymmetric, same_map}
@@ -17,18 +45,42 @@ use Rattle.nfs_machine.specs.RenameSteps.{IsWithin, itself, below, is_compatible
 use Rattle.nfs_machine.specs.Shown.{touched, with_content, with_object}
 use Rattle.nfs_machine.specs.State.{Content, Directory, Entry, Living, State}
 use Rattle.nfs_machine.specs.WellFormed.{Leads, WellFormed, is_root}
-use Rattle.nfs_machine.proofs.MapChangeLemmas.{apart, count-filter, differs-insert, differs-other, differs-there,
-    find-all, find-filter, find-other, find-taken, flipped, without-absent}
+use Rattle.nfs_machine.proofs.MapChangeLemmas.{
+  apart,
+  count-filter,
+  differs-insert,
+  differs-other,
+  differs-there,
+  find-all,
+  find-filter,
+  find-other,
+  find-taken,
+  flipped,
+  without-absent,
+}
 use Rattle.nfs_machine.proofs.ContinuesLemmas.{kinds-continued, well_formed-losing}
 use Rattle.nfs_machine.specs.Times.{touch}
 use Rattle.nfs_machine.specs.Resolve.{Named}
 use Rattle.nfs_machine.proofs.LinksCountedLemmas.{Counts, changed-losing, names-losing}
 use Rattle.nfs_machine.proofs.ChecksPassedLemmas.{are_none, no-entry, numbered}
 use Rattle.nfs_machine.proofs.LooseLemmas.{AddsName, Beside, Deepens, Loose, also, loose-added, loose-replaced}
-use Rattle.nfs_machine.proofs.LooseLemmas.{loose-touched, loosened, names_of-added, names_of-taken, none_loose,
-    tightened}
-use Rattle.nfs_machine.proofs.MovedNameLemmas.{GoesIntoItself, Move, NamedEntry, entries_kept, with_moved,
-    with_names_moved, without_replaced}
+use Rattle.nfs_machine.proofs.LooseLemmas.{
+  loose-touched,
+  loosened,
+  names_of-added,
+  names_of-taken,
+  none_loose,
+  tightened,
+}
+use Rattle.nfs_machine.proofs.MovedNameLemmas.{
+  GoesIntoItself,
+  Move,
+  NamedEntry,
+  entries_kept,
+  with_moved,
+  with_names_moved,
+  without_replaced,
+}
 use Rattle.nfs_machine.proofs.RenameChecksLemmas.{IsMove, continues-moved}
 use Rattle.nfs_machine.proofs.MapSumLemmas.{get-inserted}
 use Rattle.nfs_machine.proofs.TakenNameLemmas.{IsNamedEntry, loose-mid, one-less, takes, under-entry}
@@ -46,8 +98,8 @@ within-less m place was is at less _ _ (below upper middle lower directory withi
       | true ↦ λ e.
           let same : middle ≡ place = (unsigned_Decides middle place).0 e in
           let both : Some is ≡ Some directory = sym (ap (get (with_object m place is).objects) same
-              ∙ differs-there m.objects (with_object m place is).objects place (Some is)
-              (differs-insert m.objects place is)) ∙ lives in
+          ∙ differs-there m.objects (with_object m place is).objects place (Some is)
+          (differs-insert m.objects place is)) ∙ lives in
           let own : is ≡ directory = cc in
           let some : 1 ≤ names_in lower is = subst (λ (d : Living). 1 ≤ names_in lower d) (sym own) named in
           below upper middle lower was up (ap (get m.objects) same ∙ at) (omega (arith, some, less lower))
@@ -67,9 +119,9 @@ either-way false false e t = inr refl
 replaced-empty : (moved replaced : Content) → is_compatible moved replaced ≡ true → entries_of replaced ≡ []
 replaced-empty moved replaced t = elim (either-way (is_directory moved) (is_directory replaced)
     (are_none (entries_of replaced)) t) [
-  | inl none ↦ no-entry (entries_of replaced) none
-  | inr plain ↦ no_entries replaced plain
-]
+      | inl none ↦ no-entry (entries_of replaced) none
+      | inr plain ↦ no_entries replaced plain
+    ]
 
 -- ---- entries of a directory
 module _ (m : State) (w : WellFormed m) (place : ℕ) (directory : Living) (entries : List Entry) (last : ℕ)
@@ -87,9 +139,9 @@ module _ (m : State) (w : WellFormed m) (place : ℕ) (directory : Living) (entr
   pub entry-apart : (e.number == place) ≡ false
   entry-apart = apart e.number place (λ same.
       let deep = find-all (Deep m w.depth place) (λ (x : Entry). same_bytes x.name name) entries e
-          (subst (AllByRecursion (Deep m w.depth place)) of_content (w.deeper place directory lives)) found in
+      (subst (AllByRecursion (Deep m w.depth place)) of_content (w.deeper place directory lives)) found in
       let living : is_living_directory (get m.objects e.number) ≡ true = ap is_living_directory (ap (get m.objects) same
-          ∙ lives) ∙ ap is_directory content in
+      ∙ lives) ∙ ap is_directory content in
       let less : w.depth place < w.depth e.number = deep living in
       let equal : w.depth e.number ≡ w.depth place = ap w.depth same in
       absurd (omega (arith, less, equal)))
@@ -100,7 +152,7 @@ none-under m directory None leads none = refl
 none-under m directory (Some e) leads none =
     let l = leads e refl in
     let some : object_under m (Some e) ≡ Some (numbered e.number l.object) = ap
-        (option_map (λ (o : Living). numbered e.number o)) l.lives in
+    (option_map (λ (o : Living). numbered e.number o)) l.lives in
     cc
 
 module _ (m : State) (now : Time) (move : Move) (is : IsMove m move) (w : WellFormed m) (out : GoesIntoItself m move
@@ -124,7 +176,7 @@ module _ (m : State) (now : Time) (move : Move) (is : IsMove m move) (w : WellFo
   not-named : move.replaced ≡ None → entry_of move.entries move.name ≡ None
   not-named none =
       none-under m move.directory (entry_of move.entries move.name) (λ e found. entry-leads m w target move.directory
-          move.entries move.last_cookie is.lives is.content move.name e found) (sym is.over ∙ none)
+      move.entries move.last_cookie is.lives is.content move.name e found) (sym is.over ∙ none)
 
   freed-keeps : move.replaced ≡ None → KeepsNames move.directory freed
   freed-keeps none = record {
@@ -141,8 +193,15 @@ module _ (m : State) (now : Time) (move : Move) (is : IsMove m move) (w : WellFo
 
   -- what has it
   abbrev over_named : Named → NamedEntry
-  over_named o = record { place = target; directory = move.directory; entries = move.entries;
-      last_cookie = move.last_cookie; name = move.name; number = o.number; object = o.object }
+  over_named o = record {
+    place = target;
+    directory = move.directory;
+    entries = move.entries;
+    last_cookie = move.last_cookie;
+    name = move.name;
+    number = o.number;
+    object = o.object;
+  }
 
   is-over : (o : Named) → move.replaced ≡ Some o → IsNamedEntry m (over_named o)
   is-over o some =
@@ -161,15 +220,18 @@ module _ (m : State) (now : Time) (move : Move) (is : IsMove m move) (w : WellFo
   number-place =
       subst (λ k. (k == place) ≡ false) is.from.number
       (entry-apart m w place move.from.directory move.from.entries move.from.last_cookie is.from.lives is.from.content
-          move.from.name is.from.entry is.from.found)
+      move.from.name is.from.entry is.from.found)
 
   number-target : (number == target) ≡ false
   number-target = apart number target (λ same.
       let both : Some move.from.object ≡ Some move.directory = sym is.from.object ∙ ap (get m.objects) same
-          ∙ is.lives in
+      ∙ is.lives in
       let own : move.from.object ≡ move.directory = cc in
-      out (ap (λ (o : Living). is_directory o.content) own
-          ∙ ap is_directory is.content, subst (λ k. IsWithin m number k) same (itself number)))
+      out (
+        ap (λ (o : Living). is_directory o.content) own
+            ∙ ap is_directory is.content,
+        subst (λ k. IsWithin m number k) same (itself number),
+      ))
 
   -- ---- the old name is taken away
   abbrev fd : Bool → Living
@@ -182,8 +244,16 @@ module _ (m : State) (now : Time) (move : Move) (is : IsMove m move) (w : WellFo
   fl b = cond b move.last_cookie move.from.last_cookie
 
   abbrev leaving : NamedEntry
-  leaving = record { place = place; directory = fd (target == place); entries = fe (target == place); last_cookie = fl
-      (target == place); name = move.from.name; number = number; object = move.from.object }
+  leaving = record {
+    place = place;
+    directory = fd (target == place);
+    entries = fe (target == place);
+    last_cookie = fl
+        (target == place);
+    name = move.from.name;
+    number = number;
+    object = move.from.object;
+  }
 
   one-directory : target ≡ place → move.directory ≡ move.from.directory
   one-directory same = (let both : Some move.directory ≡ Some move.from.directory = sym is.lives
@@ -200,12 +270,12 @@ module _ (m : State) (now : Time) (move : Move) (is : IsMove m move) (w : WellFo
         | true ↦ λ t.
             let name : move.from.name ≡ move.name = (bytes_decides move.from.name move.name).0 t in
             let found : entry_of move.entries move.name ≡ Some is.from.entry = ap (λ n. entry_of move.entries n)
-                (sym name) ∙ ap (λ es. entry_of es move.from.name) (one-list same) ∙ is.from.found in
+            (sym name) ∙ ap (λ es. entry_of es move.from.name) (one-list same) ∙ is.from.found in
             let some : move.replaced ≡ Some (numbered is.from.entry.number object-leads.object) =
             is.over ∙ ap (object_under m) found ∙ ap (option_map (λ (o : Living). numbered is.from.entry.number o))
-                object-leads.lives in
+            object-leads.lives in
             let no : true ≡ false = sym ((unsigned_Decides is.from.entry.number number).1 is.from.number)
-                ∙ is.other (numbered is.from.entry.number object-leads.object) some in
+            ∙ is.other (numbered is.from.entry.number object-leads.object) some in
             cc
         | false ↦ λ t. refl
       ] refl
@@ -225,12 +295,12 @@ module _ (m : State) (now : Time) (move : Move) (is : IsMove m move) (w : WellFo
     entry = is.from.entry;
     found = elim (target == place) as (λ b. (target == place) ≡ b
         → find (λ (x : Entry). same_bytes x.name move.from.name) (fe b) ≡ Some is.from.entry) [
-      | true ↦ λ e.
-          let same : target ≡ place = (unsigned_Decides target place).0 e in
-          find-other move.from.name move.name move.entries (names-differ same)
+          | true ↦ λ e.
+              let same : target ≡ place = (unsigned_Decides target place).0 e in
+              find-other move.from.name move.name move.entries (names-differ same)
               ∙ ap (find (λ (x : Entry). same_bytes x.name move.from.name)) (one-list same) ∙ is.from.found
-      | false ↦ λ e. is.from.found
-    ] refl;
+          | false ↦ λ e. is.from.found
+        ] refl;
     number = is.from.number;
     object = differs-other m.objects free.objects target (Some freed) (differs-insert m.objects target freed) number
         number-target ∙ is.from.object;
@@ -256,16 +326,16 @@ module _ (m : State) (now : Time) (move : Move) (is : IsMove m move) (w : WellFo
   waiting-lives : get left.objects target ≡ Some waiting
   waiting-lives = elim (target == place) as (λ b. (target == place) ≡ b
       → get left.objects target ≡ Some (waiting_of b)) [
-    | true ↦ λ e.
-        ap (get left.objects) ((unsigned_Decides target place).0 e)
+        | true ↦ λ e.
+            ap (get left.objects) ((unsigned_Decides target place).0 e)
             ∙ differs-there free.objects left.objects place (Some (left_of (target == place)))
             (differs-insert free.objects place (left_of (target == place)))
-        ∙ ap (λ b. Some (left_of b)) e
-    | false ↦ λ e.
-        differs-other free.objects left.objects place (Some (left_of (target == place)))
+            ∙ ap (λ b. Some (left_of b)) e
+        | false ↦ λ e.
+            differs-other free.objects left.objects place (Some (left_of (target == place)))
             (differs-insert free.objects place (left_of (target == place))) target e
-        ∙ differs-there m.objects free.objects target (Some freed) (differs-insert m.objects target freed)
-  ] refl
+            ∙ differs-there m.objects free.objects target (Some freed) (differs-insert m.objects target freed)
+      ] refl
 
   abbrev wider : Living
   wider = with_content move.directory now (with_entry (entries_kept move) move.last_cookie move.name number)
@@ -277,9 +347,9 @@ module _ (m : State) (now : Time) (move : Move) (is : IsMove m move) (w : WellFo
   waiting-content = elim (target == place) as (λ b. (waiting_of b).content ≡ Directory
       (cond b (without (without move.entries move.name) move.from.name) (without move.entries move.name))
       move.last_cookie) [
-    | true ↦ refl
-    | false ↦ refl
-  ]
+        | true ↦ refl
+        | false ↦ refl
+      ]
 
   waiting-export : waiting.export ≡ move.directory.export
   waiting-export = elim (target == place) as (λ b. (waiting_of b).export ≡ move.directory.export)
@@ -292,7 +362,7 @@ module _ (m : State) (now : Time) (move : Move) (is : IsMove m move) (w : WellFo
   absent-left : find (λ (x : Entry). same_bytes x.name move.name) (entries_kept move) ≡ None
   absent-left =
       elim (target == place) as (λ b. find (λ (x : Entry). same_bytes x.name move.name)
-          (cond b (without (without move.entries move.name) move.from.name) (without move.entries move.name)) ≡ None) [
+      (cond b (without (without move.entries move.name) move.from.name) (without move.entries move.name)) ≡ None) [
         | true ↦ find-filter (λ (x : Entry). same_bytes x.name move.name) _ (without move.entries move.name)
             (find-taken move.name move.entries)
         | false ↦ find-taken move.name move.entries
@@ -341,35 +411,45 @@ module _ (m : State) (now : Time) (move : Move) (is : IsMove m move) (w : WellFo
     less-freed k =
         let test : Entry → Bool = λ (x : Entry). x.number == k in
         let was : names_in k move.directory ≡ count_by test move.entries = ap (λ c. count_by test (entries_of c))
-            is.content in
+        is.content in
         omega (arith, was, count-filter test (λ (x : Entry). not (same_bytes x.name move.name)) move.entries)
 
     less-left : (k : ℕ) → names_in k (left_of (target == place)) ≤ names_in k (fd (target == place))
     less-left k =
         let test : Entry → Bool = λ (x : Entry). x.number == k in
         let was : names_in k (fd (target == place)) ≡ count_by test (fe (target == place)) = ap
-            (λ c. count_by test (entries_of c)) is-leaving.content in
-        omega (arith, was, count-filter test (λ (x : Entry). not (same_bytes x.name move.from.name))
-            (fe (target == place)))
+        (λ c. count_by test (entries_of c)) is-leaving.content in
+        omega (
+          arith,
+          was,
+          count-filter test (λ (x : Entry). not (same_bytes x.name move.from.name))
+              (fe (target == place)),
+        )
 
     stays-out : is_directory move.from.object.content ≡ true → IsWithin left number target → ⊥
     stays-out kind within =
-        out (kind, within-less m target move.directory freed is.lives less-freed number target
-            (within-less free place (fd (target == place)) (left_of (target == place)) is-leaving.lives less-left number
-            target within))
+        out (
+          kind,
+          within-less m target move.directory freed is.lives less-freed number target
+              (within-less free place (fd (target == place)) (left_of (target == place)) is-leaving.lives less-left number
+              target within),
+        )
 
     deepens : (depth : ℕ → ℕ) × Deepens left depth target number move.from.object
     deepens =
         elim (is_directory move.from.object.content) as (λ b. is_directory move.from.object.content ≡ b
-            → (depth : ℕ → ℕ) × Deepens left depth target number move.from.object) [
+        → (depth : ℕ → ℕ) × Deepens left depth target number move.from.object) [
           | true ↦ λ e. (
             depth left (also number loose) left-loose number move.from.object object-left target waiting waiting-lives
                 (ap is_directory waiting-content) (stays-out e),
             deepened left (also number loose) left-loose number move.from.object object-left target waiting
                 waiting-lives (ap is_directory waiting-content) (stays-out e),
           )
-          | false ↦ λ e. (left-loose.depth, record
-              { deeper = left-loose.deeper; added = λ t. (let no : true ≡ false = sym t ∙ e in cc) })
+          | false ↦ λ e. (
+            left-loose.depth,
+            record
+                { deeper = left-loose.deeper; added = λ t. (let no : true ≡ false = sym t ∙ e in cc) },
+          )
         ] refl
 
     named-loose : Loose loose named
@@ -390,7 +470,7 @@ module _ (m : State) (now : Time) (move : Move) (is : IsMove m move) (w : WellFo
     unfolding is-leaving
     names_of-moved n =
         let one : cond {A = ℕ} (is.from.entry.number == n) 1 0 ≡ cond (number == n) 1 0 = ap
-            (λ k. cond {A = ℕ} (k == n) 1 0) is.from.number in
+        (λ k. cond {A = ℕ} (k == n) 1 0) is.from.number in
         omega (
           arith,
           one,
@@ -413,16 +493,16 @@ module _ (m : State) (now : Time) (move : Move) (is : IsMove m move) (w : WellFo
   same-objects = same_map nat_cmp_total nat_cmp-IsAntisymmetric _ _ (λ q.
       get-inserted left.objects target wider q
       ∙ elim (q == target) as (λ b. (q == target) ≡ b → cond b (Some wider) (get left.objects q) ≡ cond b (Some wider)
-          (get (with_object m place narrower).objects q)) [
+      (get (with_object m place narrower).objects q)) [
         | true ↦ λ e. refl
         | false ↦ λ e.
             get-inserted free.objects place (left_of (target == place)) q
             ∙ elim (q == place) as (λ b. (q == place) ≡ b
-                → cond b (Some (left_of (target == place))) (get free.objects q) ≡ cond b (Some narrower)
-                (get m.objects q)) [
+            → cond b (Some (left_of (target == place))) (get free.objects q) ≡ cond b (Some narrower)
+            (get m.objects q)) [
               | true ↦ λ f.
                   let other : (target == place) ≡ false = flipped place target
-                      (subst (λ k. (k == target) ≡ false) ((unsigned_Decides q place).0 f) e) in
+                  (subst (λ k. (k == target) ≡ false) ((unsigned_Decides q place).0 f) e) in
                   ap (λ b. Some (left_of b)) other
               | false ↦ λ f. differs-other m.objects free.objects target (Some freed)
                   (differs-insert m.objects target freed) q e
@@ -452,17 +532,17 @@ module _ (m : State) (now : Time) (move : Move) (is : IsMove m move) (w : WellFo
     over-target : (o.number == target) ≡ false
     over-target =
         subst (λ k. (k == target) ≡ false) over.number (entry-apart m w target move.directory move.entries
-            move.last_cookie is.lives is.content move.name over.entry over.found)
+        move.last_cookie is.lives is.content move.name over.entry over.found)
 
     over-place : (o.number == place) ≡ false
     over-place = apart o.number place (λ same.
         let both : Some o.object ≡ Some move.from.directory = sym over.object ∙ ap (get m.objects) same
-            ∙ is.from.lives in
+        ∙ is.from.lives in
         let own : o.object ≡ move.from.directory = cc in
         let none : move.from.entries ≡ [] = sym (ap entries_of is.from.content)
-            ∙ sym (ap (λ (x : Living). entries_of x.content) own) ∙ empty in
+        ∙ sym (ap (λ (x : Living). entries_of x.content) own) ∙ empty in
         let found : find (λ (x : Entry). same_bytes x.name move.from.name) [] ≡ Some is.from.entry = subst
-            (λ es. find (λ (x : Entry). same_bytes x.name move.from.name) es ≡ Some is.from.entry) none is.from.found in
+        (λ es. find (λ (x : Entry). same_bytes x.name move.from.name) es ≡ Some is.from.entry) none is.from.found in
         cc)
 
     over-no_root : is_root m o.number ≡ false
@@ -474,12 +554,12 @@ module _ (m : State) (now : Time) (move : Move) (is : IsMove m move) (w : WellFo
     over-lives : get step.objects o.number ≡ Some o.object
     over-lives =
         differs-other (with_names_moved m now move).objects step.objects number (Some (touched move.from.object now))
-            (differs-insert (with_names_moved m now move).objects number (touched move.from.object now)) o.number
-            (is.other o some)
+        (differs-insert (with_names_moved m now move).objects number (touched move.from.object now)) o.number
+        (is.other o some)
         ∙ differs-other (with_object m place narrower).objects (with_names_moved m now move).objects target (Some wider)
-            (differs-insert (with_object m place narrower).objects target wider) o.number over-target
+        (differs-insert (with_object m place narrower).objects target wider) o.number over-target
         ∙ differs-other m.objects (with_object m place narrower).objects place (Some narrower)
-            (differs-insert m.objects place narrower) o.number over-place
+        (differs-insert m.objects place narrower) o.number over-place
         ∙ over.object
 
     over-formed : Beside (without_replaced m step now (Some o)) → WellFormed (without_replaced m step now (Some o))
@@ -519,7 +599,7 @@ module _ (m : State) (now : Time) (move : Move) (is : IsMove m move) (w : WellFo
             | true ↦ λ t.
                 let same : k ≡ o.number = (unsigned_Decides k o.number).0 t in
                 let own : o.object ≡ was = (let both : Some o.object ≡ Some was = sym (over o e).object
-                    ∙ ap (get m.objects)
+                ∙ ap (get m.objects)
                 (sym same) ∙ at in cc) in
                 inr (changed-losing step now o.number o.object (over-lives o e) (names_of m o.number) is'
                 (ap (get (without_replaced m step now (Some o)).objects) (sym same) ∙ there)

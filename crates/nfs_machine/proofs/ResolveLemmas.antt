@@ -13,7 +13,7 @@ module _ (find : ℕ → Option Living) (number : ℕ) (o : Living) where
   living None h at is = cc
   living (Some object) h at is =
       elim ((object.generation == h.generation) && (object.export == h.export)) as
-          (λ t. cond t (Names h.fileid object) Stale ≡ Names number o → find number ≡ Some o) [
+      (λ t. cond t (Names h.fileid object) Stale ≡ Names number o → find number ≡ Some o) [
         | true ↦ λ same. (let n : h.fileid ≡ number = cc in let e : object ≡ o = cc in cc)
         | false ↦ λ same. cc
       ] is
@@ -38,8 +38,8 @@ resolved-number m ctx bytes h number o handle is = admitted
     same None at = cc
     same (Some object) at =
         elim ((object.generation == h.generation) && (object.export == h.export)) as
-            (λ t. cond t (Names h.fileid object) Stale ≡ Names number o → number ≡ h.fileid)
-            [ true ↦ λ e. cc | false ↦ λ e. cc ] at
+        (λ t. cond t (Names h.fileid object) Stale ≡ Names number o → number ≡ h.fileid)
+        [ true ↦ λ e. cc | false ↦ λ e. cc ] at
 
     admitted : named (get m.objects) m.exports ctx (Some h) ≡ Names number o → number ≡ h.fileid
     admitted at =

@@ -17,8 +17,18 @@ use Rattle.nfs_machine.specs.Checks.{◌>>=◌, bytes_in, changeable, holding, o
 use Rattle.nfs_machine.specs.Exports.{LivingExport}
 use Rattle.nfs_machine.specs.Laws.{KeepsEntries}
 use Rattle.nfs_machine.specs.Resolve.{resolve}
-use Rattle.nfs_machine.specs.State.{Content, Regular, Directory, Link, BlockDevice, CharacterDevice, Socket, Fifo,
-    Living, State}
+use Rattle.nfs_machine.specs.State.{
+  Content,
+  Regular,
+  Directory,
+  Link,
+  BlockDevice,
+  CharacterDevice,
+  Socket,
+  Fifo,
+  Living,
+  State,
+}
 use Rattle.nfs_machine.specs.Times.{is_time, time_of, touch}
 use Rattle.nfs_machine.specs.declared.context.Ctx.{Ctx}
 
@@ -49,8 +59,16 @@ sized-keeps Fifo (Some size) = tt
 -- an object in such a content, and with any other attributes
 set-alter : (o : Living) (now : Time) (content : Content) (mode uid gid : ℕ) (accessed modified : Time)
     → Sized o.content content
-    → Alters now o (record o { content = content; mode = mode; uid = uid; gid = gid; accessed = accessed;
-        modified = modified; changed = touch o.changed now; verifier = None })
+    → Alters now o (record o {
+      content = content;
+      mode = mode;
+      uid = uid;
+      gid = gid;
+      accessed = accessed;
+      modified = modified;
+      changed = touch o.changed now;
+      verifier = None;
+    })
 set-alter o now content mode uid gid accessed modified is = record {
   keeps = record { export = refl; generation = refl; kind = is.kind; content = is.content };
   turns = record { generation = refl; kind = is.kind; text = is.text; changed = refl; entries = is.entries };
@@ -67,16 +85,16 @@ set-alters exports ctx o a =
     (λ x2. chained P (holding (is_time set.accessed && is_time set.modified) status.Invalid) _ (λ x3.
     chained-is P (content_sized o.content set.size) _ (λ content is.
     let keeps : Sized o.content content = of-ok (Sized o.content) (content_sized o.content set.size) content is
-        (sized-keeps o.content set.size) in
+    (sized-keeps o.content set.size) in
     search (chained, set-alter, keeps) depth 10))))
 
 pub setattr-follows : (old : State) (ctx : Ctx) (a : SetattrArguments)
     → IfOk (setattr_end old ctx a) (λ e. Follows (time_of ctx.moment) old e.1)
 setattr-follows old ctx a =
     chained-is (λ (e : Unit {0} × State). Follows (time_of ctx.moment) old e.1) (object_of (resolve old ctx a.object)) _
-        (λ o at.
+    (λ o at.
     chained-is (λ (e : Unit {0} × State). Follows (time_of ctx.moment) old e.1)
-        (set_object old.exports ctx o.object a) _
+    (set_object old.exports ctx o.object a) _
     (λ x is.
     follows-altered (time_of ctx.moment) old o.number o.object x (resolved-lives old ctx a.object o at)
     (of-ok (Alters (time_of ctx.moment) o.object) (set_object old.exports ctx o.object a) x is

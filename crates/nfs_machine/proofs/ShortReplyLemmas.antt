@@ -1,7 +1,28 @@
 -- Replies are short: handles have 32 bytes, and a READ gives at most 65,536.
 use Rattle.nfs_machine.specs.Permission.{ToChange}
-use Rattle.std.proofs.Common.{ℕ, ◌≤◌, ◌+◌, ◌^◌, nat_lt, List, [], length, drop, min, Option, Some, None, Result, Ok,
-    Err, IfOk, IfSome, sym, subst, arith}
+use Rattle.std.proofs.Common.{
+  ℕ,
+  ◌≤◌,
+  ◌+◌,
+  ◌^◌,
+  nat_lt,
+  List,
+  [],
+  length,
+  drop,
+  min,
+  Option,
+  Some,
+  None,
+  Result,
+  Ok,
+  Err,
+  IfOk,
+  IfSome,
+  sym,
+  subst,
+  arith,
+}
 use Rattle.std.proofs.lemmas.List.{length-take}
 use Rattle.std.specs.FinMap.{get, values}
 use Rattle.nfs_xdr.specs.Writing.{appended, with_word, with_arm}
@@ -22,13 +43,36 @@ use Rattle.nfs_machine.specs.AttributeSteps.{setattr_end}
 use Rattle.nfs_wire.specs.declared.status.NfsStatus.TheVariants as status
 use Rattle.nfs_machine.specs.Answers.{answer_of, state_after}
 use Rattle.nfs_machine.specs.Attributes.{attributes_of, links_of}
-use Rattle.nfs_machine.specs.Checks.{◌>>=◌, holding, bytes_in, object_of, text_in, entries_in, plain_name_checked,
-    changeable, permitted, entry_of}
+use Rattle.nfs_machine.specs.Checks.{
+  ◌>>=◌,
+  holding,
+  bytes_in,
+  object_of,
+  text_in,
+  entries_in,
+  plain_name_checked,
+  changeable,
+  permitted,
+  entry_of,
+}
 use Rattle.nfs_machine.specs.Data.{read_at}
-use Rattle.nfs_machine.proofs.PageBytesLemmas.{readdir-size, readdir-form, readdirplus-size, readdirplus-form,
-    names-within, full-within}
-use Rattle.nfs_machine.proofs.ResultSizes.{setattr-size, access-size, readlink-size, fsstat-size, fsinfo-size,
-    pathconf-size, commit-size}
+use Rattle.nfs_machine.proofs.PageBytesLemmas.{
+  readdir-size,
+  readdir-form,
+  readdirplus-size,
+  readdirplus-form,
+  names-within,
+  full-within,
+}
+use Rattle.nfs_machine.proofs.ResultSizes.{
+  setattr-size,
+  access-size,
+  readlink-size,
+  fsstat-size,
+  fsinfo-size,
+  pathconf-size,
+  commit-size,
+}
 use Rattle.nfs_machine.specs.AttributeSteps.{granted}
 use Rattle.nfs_machine.specs.DataSteps.{read_object}
 use Rattle.nfs_machine.specs.FileSystemSteps.{space_left, file_system, path_limits}
@@ -129,7 +173,7 @@ module _ (m : State) (ctx : Ctx) where
         chained EndShort (changeable m.exports directory.object) _ (λ x2.
         chained EndShort (permitted ctx directory.object ToChange) _ (λ x3.
         by-name what directory.number directory.object entries.list entries.last_cookie
-            (entry_of entries.list place.name)))))))
+        (entry_of entries.list place.name)))))))
 
   ends-short : (r : Result (End m) NfsStatus) (end : Result (Made × State) NfsStatus) → EndsAs m r end → IfOk r EndShort
       → IfOk (answer_of end) (λ made. IfSome made.object IsHandle)
@@ -148,23 +192,38 @@ replies_short old ctx calls.Null reply messages new w step = subst IsShort (sym 
     (record { form = tt; short = omega arith })
 replies_short old ctx (calls.Getattr object) reply messages new w step =
     subst IsShort (sym step.reply_is)
-        (record { form = tt; short = omega
-        (arith, getattr-size (object_of (resolve old ctx object) >>= λ o. Ok (attributes_of old o.number o.object))) })
+    (record {
+      form = tt;
+      short = omega
+          (arith, getattr-size (object_of (resolve old ctx object) >>= λ o. Ok (attributes_of old o.number o.object)));
+    })
 replies_short old ctx (calls.Lookup place) reply messages new w step =
     let form = lookup-short old ctx place step.0 in
     subst IsShort (sym step.2.reply_is)
-        (record { form = form; short = omega (arith, lookup-size (shown old (resolve old ctx place.directory))
-        (lookup_found old ctx place step.0) form) })
+    (record {
+      form = form;
+      short = omega (
+        arith,
+        lookup-size (shown old (resolve old ctx place.directory))
+            (lookup_found old ctx place step.0) form,
+      );
+    })
 replies_short old ctx (calls.Read a) reply messages new w step = subst IsShort (sym step.reply_is) (record {
   form = weaker (read_result old ctx a) (read-short old ctx a);
-  short = omega (arith, read-size (shown old (resolve old ctx a.file)) (read_result old ctx a) 65536
-      (read-short old ctx a));
+  short = omega (
+    arith,
+    read-size (shown old (resolve old ctx a.file)) (read_result old ctx a) 65536
+        (read-short old ctx a),
+  );
 })
 replies_short old ctx (calls.Write a) reply messages new w step = subst IsShort (sym step.reply_is) (record {
   form = tt;
-  short = omega (arith, write-size (wcc (state_after old (write_end old ctx a)) (resolve old ctx a.file))
-      (answer_of (write_end old ctx a)) (answered (λ w. length w.verifier.bytes ≤ 8) (write_end old ctx a)
-      (write-short old ctx a)));
+  short = omega (
+    arith,
+    write-size (wcc (state_after old (write_end old ctx a)) (resolve old ctx a.file))
+        (answer_of (write_end old ctx a)) (answered (λ w. length w.verifier.bytes ≤ 8) (write_end old ctx a)
+        (write-short old ctx a)),
+  );
 })
 replies_short old ctx (calls.Create a) reply messages new w step =
     let s = makes-as step in
@@ -181,9 +240,14 @@ replies_short old ctx (calls.Create a) reply messages new w step =
     })
 replies_short old ctx (calls.Setattr a) reply messages new w step =
     subst IsShort (sym step.reply_is)
-        (record { form = tt; short = omega
-        (arith, setattr-size (wcc (state_after old (setattr_end old ctx a)) (resolve old ctx a.object))
-        (answer_of (setattr_end old ctx a))) })
+    (record {
+      form = tt;
+      short = omega (
+        arith,
+        setattr-size (wcc (state_after old (setattr_end old ctx a)) (resolve old ctx a.object))
+            (answer_of (setattr_end old ctx a)),
+      );
+    })
 replies_short old ctx (calls.Access a) reply messages new w step =
     subst IsShort (sym step.reply_is)
     (record {
@@ -197,40 +261,67 @@ replies_short old ctx (calls.Access a) reply messages new w step =
 replies_short old ctx (calls.Readlink object) reply messages new w step = subst IsShort (sym step.reply_is) (record {
   form = text-fits (object_of (resolve old ctx object) >>= λ o. text_in o.object.content)
       (texts-read old ctx object w.texts);
-  short = omega (arith, readlink-size (shown old (resolve old ctx object))
-      (object_of (resolve old ctx object) >>= λ o. text_in o.object.content) 4096 (texts-read old ctx object w.texts));
+  short = omega (
+    arith,
+    readlink-size (shown old (resolve old ctx object))
+        (object_of (resolve old ctx object) >>= λ o. text_in o.object.content) 4096 (texts-read old ctx object w.texts),
+  );
 })
 replies_short old ctx (calls.Readdir a) reply messages new w step =
     let within = names-within a.count (entries_left old ctx a.directory a.cookie a.verifier step.parent) step.page
-        step.is_page in
+    step.is_page in
     subst IsShort (sym step.answers.reply_is) (record {
       form = readdir-form ctx (shown old (resolve old ctx a.directory)) a.count step.page within;
       short = omega (arith, readdir-size ctx (shown old (resolve old ctx a.directory)) a.count step.page within);
     })
 replies_short old ctx (calls.Readdirplus a) reply messages new w step =
     let within = full-within a.directory_count a.most (entries_left old ctx a.directory a.cookie a.verifier step.parent)
-        step.page step.is_page in
+    step.page step.is_page in
     subst IsShort (sym step.answers.reply_is) (record {
       form = readdirplus-form old ctx (shown old (resolve old ctx a.directory)) a.most step.page within;
       short = omega (arith, readdirplus-size old ctx (shown old (resolve old ctx a.directory)) a.most step.page within);
     })
 replies_short old ctx (calls.Fsstat object) reply messages new w step =
     subst IsShort (sym step.reply_is)
-        (record { form = tt; short = omega (arith, fsstat-size (shown old (resolve old ctx object))
-        (object_of (resolve old ctx object) >>= λ o. Ok (space_left ctx.limits.total_bytes (values old.objects)
-        o.object.export))) })
+    (record {
+      form = tt;
+      short = omega (
+        arith,
+        fsstat-size (shown old (resolve old ctx object))
+            (object_of (resolve old ctx object) >>= λ o. Ok (space_left ctx.limits.total_bytes (values old.objects)
+            o.object.export)),
+      );
+    })
 replies_short old ctx (calls.Fsinfo object) reply messages new w step =
     subst IsShort (sym step.reply_is)
-        (record { form = tt; short = omega (arith, fsinfo-size (shown old (resolve old ctx object))
-        (object_of (resolve old ctx object) >>= λ o. Ok file_system)) })
+    (record {
+      form = tt;
+      short = omega (
+        arith,
+        fsinfo-size (shown old (resolve old ctx object))
+            (object_of (resolve old ctx object) >>= λ o. Ok file_system),
+      );
+    })
 replies_short old ctx (calls.Pathconf object) reply messages new w step =
     subst IsShort (sym step.reply_is)
-        (record { form = tt; short = omega (arith, pathconf-size (shown old (resolve old ctx object))
-        (object_of (resolve old ctx object) >>= λ o. Ok path_limits)) })
+    (record {
+      form = tt;
+      short = omega (
+        arith,
+        pathconf-size (shown old (resolve old ctx object))
+            (object_of (resolve old ctx object) >>= λ o. Ok path_limits),
+      );
+    })
 replies_short old ctx (calls.Commit a) reply messages new w step =
     subst IsShort (sym step.reply_is)
-        (record { form = tt; short = omega (arith, commit-size (wcc old (resolve old ctx a.file))
-        (commit_result old ctx a) (commit-short old ctx a)) })
+    (record {
+      form = tt;
+      short = omega (
+        arith,
+        commit-size (wcc old (resolve old ctx a.file))
+            (commit_result old ctx a) (commit-short old ctx a),
+      );
+    })
 replies_short old ctx (calls.Mkdir a) reply messages new w step =
     let s = makes-as step in
     let form = ends-short old ctx (make_plan old ctx a.place (Ok (wanted_of 493 (Directory [] 2) a.attributes))
@@ -275,14 +366,24 @@ replies_short old ctx (calls.Mknod a) reply messages new w step =
     })
 replies_short old ctx (calls.Remove place) reply messages new w step =
     subst IsShort (sym step.reply_is)
-        (record { form = tt; short = omega
-        (arith, removed-size (wcc (state_after old (remove_end old ctx place)) (resolve old ctx place.directory))
-        (answer_of (remove_end old ctx place))) })
+    (record {
+      form = tt;
+      short = omega (
+        arith,
+        removed-size (wcc (state_after old (remove_end old ctx place)) (resolve old ctx place.directory))
+            (answer_of (remove_end old ctx place)),
+      );
+    })
 replies_short old ctx (calls.Rmdir place) reply messages new w step =
     subst IsShort (sym step.reply_is)
-        (record { form = tt; short = omega
-        (arith, removed-size (wcc (state_after old (rmdir_end old ctx place)) (resolve old ctx place.directory))
-        (answer_of (rmdir_end old ctx place))) })
+    (record {
+      form = tt;
+      short = omega (
+        arith,
+        removed-size (wcc (state_after old (rmdir_end old ctx place)) (resolve old ctx place.directory))
+            (answer_of (rmdir_end old ctx place)),
+      );
+    })
 replies_short old ctx (calls.Rename a) reply messages new w step =
     let from = resolve old ctx a.from.directory in
     let end = rename_end old ctx a step.is_within in
@@ -299,8 +400,11 @@ replies_short old ctx (calls.Link a) reply messages new w step =
     let file = resolve old ctx a.file in let new = state_after old (link_end old ctx a) in
     subst IsShort (sym step.reply_is) (record {
       form = tt;
-      short = omega (arith, linked-size (shown new file)
-          (wcc new (after_first file (resolve old ctx a.place.directory))) (answer_of (link_end old ctx a)));
+      short = omega (
+        arith,
+        linked-size (shown new file)
+            (wcc new (after_first file (resolve old ctx a.place.directory))) (answer_of (link_end old ctx a)),
+      );
     })
 
 -- a refusal shows nothing

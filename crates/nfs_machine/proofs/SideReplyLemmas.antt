@@ -39,8 +39,16 @@ use Rattle.nfs_machine.specs.SideLaws.{NlmRefusalsChangeNothing, NlmRepliesHaveF
 use Rattle.nfs_machine.specs.SideLaws.{is_mount_refusal, is_nlm_refusal, refuses}
 use Rattle.nfs_machine.specs.State.{Lock, Request, Share, State, Range}
 use Rattle.nfs_machine.specs.declared.context.Ctx.{Ctx}
-use Rattle.nfs_machine.proofs.NlmChecksLemmas.{CancelOf, Cancels, LockOf, ShareOf, ShareAnswers, TestOf, UnlockOf,
-    UnshareOf}
+use Rattle.nfs_machine.proofs.NlmChecksLemmas.{
+  CancelOf,
+  Cancels,
+  LockOf,
+  ShareOf,
+  ShareAnswers,
+  TestOf,
+  UnlockOf,
+  UnshareOf,
+}
 use Rattle.nfs_machine.proofs.ModesLemmas.{all-joined, all-left}
 use Rattle.side_wire.specs.declared.mount.lists.MountBody.{MountBody}
 

@@ -261,7 +261,7 @@ module _ (m : State) (ctx : Ctx) where
         tells-chain (changeable m.exports directory.object) _ (tells-held _ _ refl) (λ x2.
         tells-chain (permitted ctx directory.object ToChange) _ (tells-held _ _ refl) (λ x3.
         by-name what directory.number directory.object entries.list entries.last_cookie
-            (entry_of entries.list place.name)))))))
+        (entry_of entries.list place.name)))))))
 
   tells-ends : (r : Result (End m) NfsStatus) (end : Result (Made × State) NfsStatus) → EndsAs m r end →
       TellsStatus r →
@@ -406,7 +406,7 @@ walk-tells find number [] = chain (directory_at (find number)) _ (directory-tell
 walk-tells find number (name ∷ names) =
     chain (directory_at (find number)) _ (directory-tells (find number)) (λ d.
     chain (ok_or (entry_of (entries_of d.content) name) mount_status.NoEntry) _
-        (entry-tells (entry_of (entries_of d.content) name)) (λ e.
+    (entry-tells (entry_of (entries_of d.content) name)) (λ e.
     walk-tells find e.number names))
 
 path-tells : (path : List ℕ) (e : MountStatus) → path_fault path ≡ Some e → mount_never_answers e ≡ false

@@ -33,8 +33,18 @@ use Rattle.nfs_machine.specs.Permission.{ToChange}
 use Rattle.nfs_machine.specs.Answers.{Answers, state_after}
 use Rattle.nfs_machine.specs.Attributes.{links_of, names_in, names_of, is_directory, is_living_directory}
 use Rattle.nfs_machine.specs.Chains.{Chain, Transition}
-use Rattle.nfs_machine.specs.Checks.{DirectoryEntries, holding, link_limit, ◌>>=◌, object_of, entries_in, entry_of,
-    changeable, permitted, plain_name_checked}
+use Rattle.nfs_machine.specs.Checks.{
+  DirectoryEntries,
+  holding,
+  link_limit,
+  ◌>>=◌,
+  object_of,
+  entries_in,
+  entry_of,
+  changeable,
+  permitted,
+  plain_name_checked,
+}
 use Rattle.nfs_machine.specs.Laws.{GivesOnce, KeepsCookies, KeepsExports, LivesAs, NeverGivenAgain, ChainsKeepForm}
 use Rattle.nfs_machine.specs.Laws.{StepsGiveOnce, StepsKeepCookies, StepsKeepExports, StepsKeepForm}
 use Rattle.nfs_machine.specs.Laws.{AreWithin, ChainsNumberOnce, GoneIsStale, NumbersOnce, StepsKeepWithin}
@@ -79,10 +89,21 @@ use Rattle.nfs_machine.specs.DataSteps.{write_end}
 use Rattle.nfs_machine.specs.AttributeSteps.{setattr_end}
 use Rattle.nfs_machine.proofs.ChecksPassedLemmas.{chained-is, holds, is-directory, leads-found, resolved-lives}
 use Rattle.nfs_machine.proofs.ProcedureFollowsLemmas.{Follows, LocksFollow, Plain, beside-follows, bounds-losing}
-use Rattle.nfs_machine.proofs.ProcedureFollowsLemmas.{ends-follow, exports-losing, follows-after, follows-itself,
-    locks-losing, locks-on}
-use Rattle.nfs_machine.proofs.ProcedureFollowsLemmas.{make-follows, mounts-losing, write-follows, file-plain,
-    existing-follows}
+use Rattle.nfs_machine.proofs.ProcedureFollowsLemmas.{
+  ends-follow,
+  exports-losing,
+  follows-after,
+  follows-itself,
+  locks-losing,
+  locks-on,
+}
+use Rattle.nfs_machine.proofs.ProcedureFollowsLemmas.{
+  make-follows,
+  mounts-losing,
+  write-follows,
+  file-plain,
+  existing-follows,
+}
 use Rattle.nfs_machine.proofs.FirmLemmas.{FilesOn, firm-of, firm-on, formed-of, put-directory, put-over}
 use Rattle.nfs_machine.proofs.NlmStepLemmas.{Untouched, nlm-touches}
 use Rattle.nfs_machine.proofs.LooseLemmas.{Beside, well_formed-alike}
@@ -106,7 +127,7 @@ stays now old new same = subst (Follows now old) (sym same) (follows-itself now 
 answered : {A : Type 0} {Answer : Type 0} (now : Time) (answer : Answer) (old : State)
     (end : Result (A × State) NfsStatus) (reply : Answer) (messages : List Message) (new : State)
     → Answers answer (state_after old end) reply messages new → IfOk end (λ e. Follows now old e.1)
-        → Follows now old new
+    → Follows now old new
 answered now answer old end reply messages new step f = subst (Follows now old) (sym step.state_is)
     (follows-after now old end f)
 
@@ -114,7 +135,7 @@ made : (old : State) (ctx : Ctx) (place : Place) (wanted : Result Wanted NfsStat
     (there : ℕ → Option Living → Result (Made × State) NfsStatus) (reply_of : MadeReply → NfsReply)
     (reply : NfsReply)
     (messages : List Message) (new : State) → MakeStep old ctx place wanted there reply_of reply messages new
-        → IfOk wanted (Plain old ctx)
+    → IfOk wanted (Plain old ctx)
     → ((number : ℕ) → IfOk (there number (get old.objects number)) (λ e. Follows (time_of ctx.moment) old e.1))
     → Follows (time_of ctx.moment) old new
 made old ctx place wanted there reply_of reply messages new step plain found =
@@ -151,7 +172,7 @@ module _ (old : State) (ctx : Ctx) where
   moved-locks : (now : Time) (move : Move) → IsMove old move → (replaced : Option Named) →
       move.replaced ≡ replaced
       → LocksFollow old (without_replaced old (with_object (with_names_moved old now move) move.from.number
-          (touched move.from.object now)) now replaced)
+      (touched move.from.object now)) now replaced)
   moved-locks now move is None e =
       locks-on old (with_object (with_names_moved old now move) move.from.number (touched move.from.object now)).objects
       old.spent
@@ -174,14 +195,14 @@ module _ (old : State) (ctx : Ctx) where
 
   moved-mounts : (now : Time) (move : Move) (replaced : Option Named)
       → (without_replaced old (with_object (with_names_moved old now move) move.from.number
-          (touched move.from.object now)) now replaced).mounts ≡ old.mounts
+      (touched move.from.object now)) now replaced).mounts ≡ old.mounts
   moved-mounts now move None = refl
   moved-mounts now move (Some o) = mounts-losing (with_object (with_names_moved old now move) move.from.number
       (touched move.from.object now)) (names_of old o.number) now o.number o.object
 
   moved-bounds : (now : Time) (move : Move) (replaced : Option Named)
       → LocksFit old → LocksFit (without_replaced old (with_object (with_names_moved old now move) move.from.number
-          (touched move.from.object now)) now replaced)
+      (touched move.from.object now)) now replaced)
   moved-bounds now move None = λ h. h
   moved-bounds now move (Some o) = bounds-losing (with_object (with_names_moved old now move) move.from.number
       (touched move.from.object now)) (names_of old o.number) now o.number o.object
@@ -256,7 +277,7 @@ module _ (old : State) (ctx : Ctx) where
       move-follows (Some r) begun =
           elim (r.number == moved.number) as (λ b. (r.number == moved.number) ≡ b
           → IfOk (cond b (Ok (tt, old)) (holding (is_compatible moved.object.content r.object.content) status.Exists
-              >>= λ _.
+          >>= λ _.
           end_of (Some r))) Followed) [
             | true ↦ λ e. follows-itself (time_of ctx.moment) old
             | false ↦ λ e. chained-is Followed (holding (is_compatible moved.object.content r.object.content)
@@ -303,7 +324,7 @@ nfs-follows old ctx (nfs.Write a) reply messages new step = answered (time_of ct
     reply messages new step (write-follows old ctx a)
 nfs-follows old ctx (nfs.Create a) reply messages new step =
     made old ctx a.place _ _ _ reply messages new step (file-plain old ctx a.how)
-        (λ number. existing-follows old ctx a.how number (get old.objects number) refl)
+    (λ number. existing-follows old ctx a.how number (get old.objects number) refl)
 nfs-follows old ctx (nfs.Mkdir a) reply messages new step = made old ctx a.place _ _ _ reply messages new step
     (record { entries = refl; cookies = directory-plain }) (λ number. tt)
 nfs-follows old ctx (nfs.Symlink a) reply messages new step = made old ctx a.place _ _ _ reply messages new step

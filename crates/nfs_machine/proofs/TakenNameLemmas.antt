@@ -14,8 +14,17 @@ use Rattle.nfs_wire.specs.declared.status.NfsStatus.{NfsStatus}
 use Rattle.nfs_wire.specs.declared.status.NfsStatus.TheVariants as status
 use Rattle.nfs_machine.specs.Attributes.{entries_of, is_directory, names_of, links_of}
 use Rattle.nfs_machine.specs.Bytes.{same_bytes}
-use Rattle.nfs_machine.specs.Checks.{DirectoryEntries, holding, object_of, entries_in, plain_name_checked, changeable,
-    permitted, entry_of, link_limit}
+use Rattle.nfs_machine.specs.Checks.{
+  DirectoryEntries,
+  holding,
+  object_of,
+  entries_in,
+  plain_name_checked,
+  changeable,
+  permitted,
+  entry_of,
+  link_limit,
+}
 use Rattle.nfs_machine.specs.Laws.{KeepsEntries}
 use Rattle.nfs_machine.specs.LinkSteps.{link_end}
 use Rattle.nfs_machine.specs.Making.{with_entry}
@@ -27,8 +36,15 @@ use Rattle.nfs_machine.specs.State.{Content, Directory, Entry, Living, State}
 use Rattle.nfs_machine.specs.Times.{time_of}
 use Rattle.nfs_machine.specs.WellFormed.{Leads, WellFormed, is_root}
 use Rattle.nfs_machine.specs.declared.context.Ctx.{Ctx}
-use Rattle.nfs_machine.proofs.MapChangeLemmas.{apart, differs-insert, differs-other, differs-there, find-all, flipped,
-    itself}
+use Rattle.nfs_machine.proofs.MapChangeLemmas.{
+  apart,
+  differs-insert,
+  differs-other,
+  differs-there,
+  find-all,
+  flipped,
+  itself,
+}
 use Rattle.nfs_machine.proofs.WellFormedLemmas.{replaced-names}
 use Rattle.nfs_machine.specs.Times.{touch}
 use Rattle.nfs_machine.proofs.ContinuesLemmas.{Continues, kinds-continued, continues-itself, continues-losing}
@@ -36,15 +52,36 @@ use Rattle.nfs_machine.proofs.ContinuesLemmas.{continues-touched, continues-with
 use Rattle.nfs_machine.proofs.ContinuesLemmas.{texts-continued, touches-continued, well_formed-losing}
 use Rattle.nfs_machine.proofs.LinksCountedLemmas.{Counts, changed-losing, names-losing}
 use Rattle.nfs_machine.proofs.CookieLemmas.{kept-added, kept-of, kept-same, kept-without}
-use Rattle.nfs_machine.proofs.ChecksPassedLemmas.{absent, chained-is, directory-empty, holds, is-directory, leads-found,
-    plain-empty, resolved-lives, numbered}
+use Rattle.nfs_machine.proofs.ChecksPassedLemmas.{
+  absent,
+  chained-is,
+  directory-empty,
+  holds,
+  is-directory,
+  leads-found,
+  plain-empty,
+  resolved-lives,
+  numbered,
+}
 use Rattle.nfs_machine.proofs.FirmLemmas.{put-directory, put-over}
-use Rattle.nfs_machine.proofs.ProcedureFollowsLemmas.{Follows, LocksFollow, beside-follows, bounds-losing,
-    exports-losing, locks-losing}
+use Rattle.nfs_machine.proofs.ProcedureFollowsLemmas.{
+  Follows,
+  LocksFollow,
+  beside-follows,
+  bounds-losing,
+  exports-losing,
+  locks-losing,
+}
 use Rattle.nfs_machine.proofs.ProcedureFollowsLemmas.{locks-on, mounts-losing}
 use Rattle.nfs_machine.proofs.LooseLemmas.{AddsName, Loose, Swaps, TakesName, also, loose-added, loose-taken}
-use Rattle.nfs_machine.proofs.LooseLemmas.{loose-touched, loosened, names_of-added, names_of-taken, none_loose,
-    tightened}
+use Rattle.nfs_machine.proofs.LooseLemmas.{
+  loose-touched,
+  loosened,
+  names_of-added,
+  names_of-taken,
+  none_loose,
+  tightened,
+}
 use Rattle.nfs_machine.specs.RemoveSteps.{take_end}
 use Rattle.nfs_machine.specs.RemoveSteps.{rmdir_end}
 use Rattle.nfs_machine.specs.RemoveSteps.{remove_end}
@@ -69,8 +106,12 @@ under-entry m (Some e) o is = found (get m.objects e.number) refl is
     found : (l : Option Living) → get m.objects e.number ≡ l → option_map (λ (x : Living). numbered e.number x) l ≡ Some
         o → (f : Entry) × (Some e ≡ Some f) × (f.number ≡ o.number) × (get m.objects o.number ≡ Some o.object)
     found None at some = cc
-    found (Some x) at some = (let same : numbered e.number x ≡ o = cc in (e, refl, ap (λ (y : Named). y.number) same,
-        subst (λ (y : Named). get m.objects y.number ≡ Some y.object) same at))
+    found (Some x) at some = (let same : numbered e.number x ≡ o = cc in (
+      e,
+      refl,
+      ap (λ (y : Named). y.number) same,
+      subst (λ (y : Named). get m.objects y.number ≡ Some y.object) same at,
+    ))
 
 pub is-under : (m : State) (directory : Named) (entries : DirectoryEntries) (name : List ℕ) (o : Named)
     → get m.objects directory.number ≡ Some directory.object
@@ -89,7 +130,7 @@ kept-taken m n named = kept-of n.directory.content n.entries (without n.entries 
 -- a directory in the place of another: its entries alone differ
 pub narrower-swaps : (m : State) (n : NamedEntry) (now : Time) (entries : List Entry) (last : ℕ) → IsNamedEntry m n
     → Swaps m (with_object m n.place (with_content n.directory now (Directory entries last))) n.place n.directory
-        (with_content n.directory now (Directory entries last))
+    (with_content n.directory now (Directory entries last))
 narrower-swaps m n now entries last named = record {
   lives = named.lives;
   objects = differs-insert m.objects n.place (with_content n.directory now (Directory entries last));
@@ -125,7 +166,7 @@ module _ (m : State) (now : Time) (n : NamedEntry) (named : IsNamedEntry m n) wh
   pub one-less : (loose : ℕ → Bool) → Loose loose m → names_of mid n.number + 1 ≡ names_of m n.number
   one-less loose l =
       let one : cond {A = ℕ} (named.entry.number == n.number) 1 0 ≡ 1 = ap (λ k. cond {A = ℕ} (k == n.number) 1 0)
-          named.number ∙ ap (λ b. cond b 1 0) (itself n.number) in
+      named.number ∙ ap (λ b. cond b 1 0) (itself n.number) in
       omega (arith, names_of-taken m mid n.place n.directory narrower n.name named.entry takes loose l n.number, one)
 
   -- what a name leads to is no root
@@ -144,9 +185,9 @@ module _ (m : State) (now : Time) (n : NamedEntry) (named : IsNamedEntry m n) wh
         let both : Some n.object ≡ Some n.directory = sym named.object ∙ ap (get m.objects) same ∙ named.lives in
         let is : n.object ≡ n.directory = cc in
         let none : n.entries ≡ [] = sym (ap entries_of named.content)
-            ∙ sym (ap (λ (o : Living). entries_of o.content) is) ∙ empty in
+        ∙ sym (ap (λ (o : Living). entries_of o.content) is) ∙ empty in
         let found : find (λ (x : Entry). same_bytes x.name n.name) [] ≡ Some named.entry = subst
-            (λ es. find (λ (x : Entry). same_bytes x.name n.name) es ≡ Some named.entry) none named.found in
+        (λ es. find (λ (x : Entry). same_bytes x.name n.name) es ≡ Some named.entry) none named.found in
         cc)
 
     object-there : get mid.objects n.number ≡ Some n.object
@@ -230,7 +271,7 @@ module _ (m : State) (ctx : Ctx) where
       chained-is Leaves (content o.object.content) _ (λ x5 e5.
       taken-follows m (time_of ctx.moment) (named_as directory entries place.name o)
       (is-under m directory entries place.name o (resolved-lives m ctx place.directory directory at)
-          (is-directory directory.object.content entries is)
+      (is-directory directory.object.content entries is)
       (leads-found (object_under m (entry_of entries.list place.name)) o e4))
       (empty o.object.content x5 e5))))))))
 
@@ -245,9 +286,9 @@ module _ (m : State) (ctx : Ctx) where
 module _ (m : State) (now : Time) (number : ℕ) (object : Living) (place : ℕ) (directory : Living) (entries : List Entry)
     (last : ℕ) (name : List ℕ)
     (there : get m.objects number ≡ Some object) (lives : get m.objects place ≡ Some directory)
-        (export : object.export ≡ directory.export) (plain : is_directory object.content ≡ false)
+    (export : object.export ≡ directory.export) (plain : is_directory object.content ≡ false)
     (content : directory.content ≡ Directory entries last) (none : find (λ (x : Entry). same_bytes x.name name)
-        entries ≡ None) where
+    entries ≡ None) where
   abbrev wider : Living
   wider = with_content directory now (with_entry entries last name number)
 
@@ -303,9 +344,9 @@ module _ (m : State) (now : Time) (number : ℕ) (object : Living) (place : ℕ)
   formed w =
       let l = loosened (also number none_loose) m w in
       let wide = loose-added m added place number directory wider object name (adds w) none_loose l l.depth
-          (record { deeper = l.deeper; added = λ e. (let no : true ≡ false = sym e ∙ plain in cc) }) in
+      (record { deeper = l.deeper; added = λ e. (let no : true ≡ false = sym e ∙ plain in cc) }) in
       let at : get added.objects number ≡ Some object = differs-other m.objects added.objects place (Some wider)
-          (differs-insert m.objects place wider) number other-place ∙ there in
+      (differs-insert m.objects place wider) number other-place ∙ there in
       tightened (with_object added number (touched object now))
       (beside-follows m (with_object added number (touched object now))
       (texts-continued now m (with_object added number (touched object now)) continues-linked w.texts) locks-linked refl
@@ -368,14 +409,14 @@ link-follows m ctx a =
     chained-is P (permitted ctx directory.object ToChange) _ (λ x5 e5.
     chained-is P (holding (is_none (entry_of entries.list a.place.name)) status.Exists) _ (λ x6 e6.
     chained-is P (holding (nat_lt (links_of m file.number file.object.content) link_limit) status.TooManyLinks) _
-        (λ x7 e7.
+    (λ x7 e7.
     chained-is P (holding (nat_lt (entries.last_cookie + 1) (2 ^ 64)) status.NoSpace) _ (λ x8 e8.
     linked-follows m (time_of ctx.moment) file.number file.object directory.number directory.object entries.list
-        entries.last_cookie a.place.name
+    entries.last_cookie a.place.name
     (resolved-lives m ctx a.file file at) (resolved-lives m ctx a.place.directory directory there)
     ((unsigned_Decides file.object.export directory.object.export).0
-        (holds (file.object.export == directory.object.export) status.CrossDevice x1 e1))
+    (holds (file.object.export == directory.object.export) status.CrossDevice x1 e1))
     (not-true (is_directory file.object.content) (holds (not (is_directory file.object.content)) status.Invalid x2 e2))
     (is-directory directory.object.content entries is)
     (absent entries.list a.place.name (holds (is_none (entry_of entries.list a.place.name)) status.Exists x6
-        e6)))))))))))))
+    e6)))))))))))))

@@ -32,8 +32,16 @@ use Rattle.nfs_machine.specs.NlmSteps.{NlmStep}
 use Rattle.nfs_machine.specs.OneFile as one
 use Rattle.nfs_machine.specs.State.{Lock, PendingGrant, Range, Request, Share, State}
 use Rattle.nfs_machine.specs.declared.context.Ctx.{Ctx}
-use Rattle.nfs_machine.proofs.NlmChecksLemmas.{CancelOf, Cancels, LockOf, ShareOf, ShareAnswers, TestOf, UnlockOf,
-    UnshareOf}
+use Rattle.nfs_machine.proofs.NlmChecksLemmas.{
+  CancelOf,
+  Cancels,
+  LockOf,
+  ShareOf,
+  ShareAnswers,
+  TestOf,
+  UnlockOf,
+  UnshareOf,
+}
 use Rattle.nfs_machine.proofs.FileMapLemmas.{each-with, of-other, of-there}
 use Rattle.nfs_machine.proofs.FirmLemmas.{granting}
 use Rattle.nfs_machine.proofs.ModesLemmas.{all-joined, all-left}

@@ -1,14 +1,50 @@
 -- Where what has a name lives on, names lead where they led, links are as many and parents stay; so where objects
 -- change but for their names.
-use Rattle.std.proofs.Common.{◌≡◌, ◌==◌, ℕ, ◌+◌, ◌<◌, ◌≤◌, Bool, true, false, cond, List, [], ◌∷◌, ◌++◌, Option, Some,
-    None, inl, inr, refl, sym, ◌∙◌, ap, subst, arith}
+use Rattle.std.proofs.Common.{
+  ◌≡◌,
+  ◌==◌,
+  ℕ,
+  ◌+◌,
+  ◌<◌,
+  ◌≤◌,
+  Bool,
+  true,
+  false,
+  cond,
+  List,
+  [],
+  ◌∷◌,
+  ◌++◌,
+  Option,
+  Some,
+  None,
+  inl,
+  inr,
+  refl,
+  sym,
+  ◌∙◌,
+  ap,
+  subst,
+  arith,
+}
 use Rattle.std.proofs.lemmas.List.Sums.{sum_by-cons}
 use Rattle.std.specs.Cmp.{unsigned_Decides}
 use Rattle.std.specs.FinMap.{get, insert}
 use Rattle.std.specs.List.{AllByRecursion, count_by, list_any}
 use Rattle.nfs_machine.specs.Attributes.{entries_of, is_directory, is_living_directory, links_of, names_in, names_of}
-use Rattle.nfs_machine.specs.State.{Content, Regular, Directory, Link, BlockDevice, CharacterDevice, Socket, Fifo,
-    Entry, Living, State}
+use Rattle.nfs_machine.specs.State.{
+  Content,
+  Regular,
+  Directory,
+  Link,
+  BlockDevice,
+  CharacterDevice,
+  Socket,
+  Fifo,
+  Entry,
+  Living,
+  State,
+}
 use Rattle.nfs_machine.specs.Exports.{LivingExport}
 use Rattle.nfs_machine.specs.WellFormed.{IsDirectoryOf, IsParent, Leads, is_root}
 use Rattle.nfs_machine.proofs.MapChangeLemmas.{part-of_sum}
@@ -50,7 +86,7 @@ counted (e ∷ es) = (
   all_map (λ (f : Entry). 1 ≤ count_by (λ (x : Entry). x.number == f.number) es)
       (λ (f : Entry). 1 ≤ count_by (λ (x : Entry). x.number == f.number) (e ∷ es))
       (λ f some. omega (arith, some, sum_by-cons (λ (x : Entry). cond {A = ℕ} (x.number == f.number) 1 0) e es)) es
-          (counted es),
+      (counted es),
 )
 
 -- what an entry of a living directory leads to has a name
@@ -58,7 +94,7 @@ has-names : (m : State) (n : ℕ) (d : Living) → get m.objects n ≡ Some d
     → AllByRecursion (λ (e : Entry). 1 ≤ names_of m e.number) (entries_of d.content)
 has-names m n d at =
     all_map (λ (e : Entry). 1 ≤ names_in e.number d) (λ (e : Entry). 1 ≤ names_of m e.number)
-        (λ e some. (let part = part-of_sum (names_in e.number) m.objects n d at in omega (arith, some, part)))
+    (λ e some. (let part = part-of_sum (names_in e.number) m.objects n d at in omega (arith, some, part)))
     (entries_of d.content) (counted (entries_of d.content))
 
 -- ---- links
@@ -85,7 +121,7 @@ pub links-same : (old new : State) (n : ℕ) (c : Content) → names_of new n �
     → links_of new n c ≡ links_of old n c
 links-same old new n c names counts =
     links-by new n c ∙ ap (λ k. cond (is_directory c) (2 + k) (names_of new n)) counts
-        ∙ ap (cond (is_directory c) (2 + count_by (is_subdirectory old) (entries_of c))) names ∙ sym (links-by old n c)
+    ∙ ap (cond (is_directory c) (2 + count_by (is_subdirectory old) (entries_of c))) names ∙ sym (links-by old n c)
 
 -- entries that lead to directories where they did
 pub counts-same : (old new : State) (es : List Entry) →
@@ -132,7 +168,7 @@ module _ (old new : State) (on : (n : ℕ) (o : Living) → get old.objects n �
         all_map (λ (e : Entry). (1 ≤ names_of old e.number) × Leads old d e) LeadsOn
         (λ e both. (both.1, on e.number (both.1).object (both.1).lives both.0))
         (entries_of d.content) (all_both (λ (e : Entry). 1 ≤ names_of old e.number) (Leads old d) (entries_of d.content)
-            (has-names old n d at) leads)
+        (has-names old n d at) leads)
 
     pub leads-on : new.exports ≡ old.exports → (is : Living) → is.export ≡ d.export →
         AllByRecursion (Leads old d) (entries_of d.content) → AllByRecursion (Leads new is) (entries_of d.content)
@@ -161,9 +197,9 @@ module _ (old new : State) (on : (n : ℕ) (o : Living) → get old.objects n �
         → AllByRecursion (Deep new depth n) (entries_of d.content)
     deep-on depth leads deep =
         all_map (λ (e : Entry). (is_subdirectory new e ≡ is_subdirectory old e) × Deep old depth n e) (Deep new depth n)
-            (λ e both living. both.1 (sym both.0 ∙ living))
+        (λ e both living. both.1 (sym both.0 ∙ living))
         (entries_of d.content) (all_both (λ (e : Entry). is_subdirectory new e ≡ is_subdirectory old e)
-            (Deep old depth n) (entries_of d.content) (kinds-on leads) deep)
+        (Deep old depth n) (entries_of d.content) (kinds-on leads) deep)
 
     pub counts-on : AllByRecursion (Leads old d) (entries_of d.content)
         → count_by (is_subdirectory new) (entries_of d.content) ≡ count_by (is_subdirectory old) (entries_of d.content)
@@ -248,12 +284,16 @@ module _ (old new : State) (alike : (n : ℕ) → Alike (get old.objects n) (get
   parent-alike exports n parent p =
       let a = after parent p.directory p.lives in
       let same : names_in n a.0 ≡ names_in n p.directory = ap (count_by (λ (e : Entry). e.number == n))
-          (keeps_entries p.directory a.0 a.2) in
+      (keeps_entries p.directory a.0 a.2) in
       parent-on old new n parent p a.0 a.1 exports (omega (arith, same))
 
   pub lives-alike : (n : ℕ) (p : Living) → get old.objects n ≡ Some p → LivesOn new n p
-  lives-alike n p at = let a = after n p at in record { object = a.0; lives = a.1; export = a.2.export;
-      kind = a.2.kind }
+  lives-alike n p at = let a = after n p at in record {
+    object = a.0;
+    lives = a.1;
+    export = a.2.export;
+    kind = a.2.kind;
+  }
 
   pub links-alike : ((n : ℕ) → names_of new n ≡ names_of old n) → (n : ℕ) (c : Content)
       → links_of new n c ≡ links_of old n c
@@ -276,6 +316,6 @@ module _ (m : State) (number : ℕ) (old new : Living) (lives : get m.objects nu
   pub replaced-names : (n : ℕ) → names_of (record m { objects = insert m.objects number new }) n ≡ names_of m n
   replaced-names n =
       let same : names_in n new ≡ names_in n old = ap (count_by (λ (e : Entry). e.number == n))
-          (keeps_entries old new keeps) in
+      (keeps_entries old new keeps) in
       let sums = sum-insert_old (names_in n) m.objects number old new lives in
       omega (arith, same, sums)

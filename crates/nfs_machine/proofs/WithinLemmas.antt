@@ -1,7 +1,29 @@
 -- Whether a directory is within another can be told, so a directory that moves to one that is not within it can be
 -- counted deeper with all below it.
-use Rattle.std.proofs.Common.{◌≡◌, ◌==◌, ℕ, zero, suc, ◌+◌, ◌≤◌, ◌<◌, Bool, true, false, cond, [], Option, Some, None,
-    refl, sym, ◌∙◌, ap, subst, arith}
+use Rattle.std.proofs.Common.{
+  ◌≡◌,
+  ◌==◌,
+  ℕ,
+  zero,
+  suc,
+  ◌+◌,
+  ◌≤◌,
+  ◌<◌,
+  Bool,
+  true,
+  false,
+  cond,
+  [],
+  Option,
+  Some,
+  None,
+  refl,
+  sym,
+  ◌∙◌,
+  ap,
+  subst,
+  arith,
+}
 use Rattle.std.specs.Cmp.{unsigned_Decides}
 use Rattle.std.specs.FinMap.{FinMap, get, remove, values}
 use Rattle.std.specs.List.{count_by, sum_by}
@@ -23,7 +45,7 @@ two-parts f m k j v u at there other =
     let s = sum-differs f m (remove m k) k None (differs-remove m k) in
     let here : weight f (get m k) ≡ f v = ap (weight f) at in
     let rest = part-of_sum f (remove m k) j u (differs-other m (remove m k) k None (differs-remove m k) j other
-        ∙ there) in
+    ∙ there) in
     omega (arith, s, here, rest)
 
 living-directory : (x : Option Living) → is_living_directory x ≡ true → (o : Living) × (x ≡ Some o)
@@ -51,7 +73,7 @@ pub within-empty : (m : State) (top : ℕ) (o : Living) → get m.objects top �
 within-empty m top o at empty _ _ (itself number) same = same
 within-empty m top o at empty _ _ (below upper middle lower directory within lives named) same =
     let both : Some o ≡ Some directory = sym at
-        ∙ sym (ap (get m.objects) (within-empty m top o at empty upper middle within same)) ∙ lives in
+    ∙ sym (ap (get m.objects) (within-empty m top o at empty upper middle within same)) ∙ lives in
     let own : o ≡ directory = cc in
     let some : 1 ≤ names_in lower o = subst (λ (d : Living). 1 ≤ names_in lower d) (sym own) named in
     let none : names_in lower o ≡ 0 = ap (count_by (λ (e : Entry). e.number == lower)) empty in
@@ -82,7 +104,7 @@ module _ (m : State) (loose : ℕ → Bool) (l : Loose loose m) where
       complete = λ w.
           let u = under m top n w other in
           let same : u.middle ≡ place = one-above n place u.middle directory u.directory lives u.lives named u.named
-              (l.one_name n o at kind) in
+          (l.one_name n o at kind) in
           told.complete (subst (λ k. IsWithin m top k) same u.within);
     }
 
@@ -98,10 +120,10 @@ module _ (m : State) (loose : ℕ → Bool) (l : Loose loose m) where
         → get m.objects place ≡ Some directory → 1 ≤ names_in n directory → l.depth place < l.depth n
     shallower n place o directory at kind lives named =
         let found = passing (Deep m l.depth place) (λ (e : Entry). e.number == n) (entries_of directory.content)
-            (l.deeper place directory lives) named in
+        (l.deeper place directory lives) named in
         let number : found.0.number ≡ n = (unsigned_Decides found.0.number n).0 found.2 in
         subst (λ k. l.depth place < l.depth k) number (found.1 (ap is_living_directory (ap (get m.objects) number ∙ at)
-            ∙ kind))
+        ∙ kind))
 
     tell : (fuel n : ℕ) (o : Living) → get m.objects n ≡ Some o → is_directory o.content ≡ true → l.depth n < fuel
         → Told n
@@ -116,7 +138,7 @@ module _ (m : State) (loose : ℕ → Bool) (l : Loose loose m) where
                 let part = sum-some_part (names_in n) m.objects (omega (arith, some)) in
                 raised n part.0 o part.1 at kind e part.2 part.3
                 (tell fuel part.0 part.1 part.2 (has-directory n part.1 part.3) (let up = shallower n part.0 o part.1 at
-                    kind part.2 part.3 in omega (arith, up, less)))
+                kind part.2 part.3 in omega (arith, up, less)))
           ] refl
         ] refl
 
@@ -133,8 +155,12 @@ module _ (m : State) (loose : ℕ → Bool) (l : Loose loose m) where
               let o = living-directory (get m.objects n) e in
               let t = tell (l.depth n + 1) n o.0 o.1 o.2 (omega arith) in
               record { is = t.is; within = λ _. t.within; complete = λ _. t.complete }
-          | false ↦ λ e. record { is = false; within = λ d t. cc; complete = λ d w. (let no : true ≡ false = sym d
-              ∙ e in cc) }
+          | false ↦ λ e. record {
+            is = false;
+            within = λ d t. cc;
+            complete = λ d w. (let no : true ≡ false = sym d
+                ∙ e in cc);
+          }
         ] refl
 
     module _ (object : Living) (at : get m.objects top ≡ Some object) (place : ℕ) (directory : Living)
@@ -165,9 +191,9 @@ module _ (m : State) (loose : ℕ → Bool) (l : Loose loose m) where
           elim (told n).is as (λ b. (told n).is ≡ b → depth n < depth e.number) [
             | true ↦ λ inside.
                 let is-directory : is_living_directory (get m.objects n) ≡ true = ap is_living_directory there
-                    ∙ has-directory e.number o named in
+                ∙ has-directory e.number o named in
                 let w : IsWithin m top e.number = below top n e.number o ((told n).within is-directory inside) there
-                    named in
+                named in
                 let also : (told e.number).is ≡ true = (told e.number).complete living w in
                 omega (arith, less, depth-in n inside, depth-in e.number also)
             | false ↦ λ outside. omega (arith, less, depth-out n outside, at-least e.number)
@@ -177,9 +203,9 @@ module _ (m : State) (loose : ℕ → Bool) (l : Loose loose m) where
       deepened = record {
         deeper = λ n o there.
             all_map (λ (e : Entry). (1 ≤ names_in e.number o) × Deep m l.depth n e) (Deep m depth n)
-                (λ e both. step n o there e both.0 both.1)
+            (λ e both. step n o there e both.0 both.1)
             (entries_of o.content) (all_both (λ (e : Entry). 1 ≤ names_in e.number o) (Deep m l.depth n)
-                (entries_of o.content) (counted (entries_of o.content)) (l.deeper n o there));
+            (entries_of o.content) (counted (entries_of o.content)) (l.deeper n o there));
         added = λ own.
             let top-in : (told top).is ≡ true = (told top).complete (ap is_living_directory at ∙ own) (itself top) in
             elim (told place).is as (λ b. (told place).is ≡ b → depth place < depth top) [

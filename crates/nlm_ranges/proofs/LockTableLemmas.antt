@@ -20,8 +20,15 @@ use Rattle.nlm_ranges.proofs.CallRangeLemmas.{not-zero, owner-turned}
 use Rattle.nlm_ranges.proofs.ListedLockLemmas.{all-listed, listed-mode}
 use Rattle.nlm_ranges.proofs.CutLocksLemmas.{given-both, listed-first, listed-last}
 use Rattle.nlm_ranges.proofs.PieceLemmas.{counted}
-use Rattle.nlm_ranges.proofs.ModesAtLemmas.{both, insert-all, insert-has, left-has, left-kept, mode-append,
-    offset-within}
+use Rattle.nlm_ranges.proofs.ModesAtLemmas.{
+  both,
+  insert-all,
+  insert-has,
+  left-has,
+  left-kept,
+  mode-append,
+  offset-within,
+}
 use Rattle.nlm_ranges.proofs.ModesAtLemmas.{stays, within}
 use Rattle.nlm_ranges.specs.Cutting.{Inserts, is_touched}
 use Rattle.nlm_ranges.specs.Held.{AreAll, AreHeld, BeginsWith, EndsWith, HasNoneAlone, IsGivenBack, IsHad, IsInTheWay}

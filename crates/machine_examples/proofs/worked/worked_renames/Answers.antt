@@ -23,9 +23,9 @@ found : (k : State) (is_within : ℕ → ℕ → Bool) (from to : List ℕ) (ent
     → Moves (with_writable k) from to entries others content target last_cookie replaced
     → rename_end (with_writable k) (called_as 9) (a_to_b from to) is_within
     ≡ move_end (with_writable k) (time 1000 0) (a_to_b from to) is_within
-        (numbered 2 (object 511 (Directory entries 7)))
+    (numbered 2 (object 511 (Directory entries 7)))
     (numbered target (object 511 (Directory others last_cookie))) (entries_with entries 7)
-        (entries_with others last_cookie)
+    (entries_with others last_cookie)
     (numbered 4 (object 511 content)) replaced
 found k is_within from to entries others content target last_cookie replaced is =
     let m : State = with_writable k in
@@ -35,10 +35,10 @@ found k is_within from to entries others content target last_cookie replaced is 
     ap (λ f. move_by m (called_as 9) a is_within f (resolve m (called_as 9) to)) is.source
     ∙ ap (move_by m (called_as 9) a is_within (Names 2 (object 511 (Directory entries 7)))) is.destination
     ∙ ap (λ o. move_found m (called_as 9) a is_within source destination (entries_with entries 7)
-        (entries_with others last_cookie) o
+    (entries_with others last_cookie) o
     (object_under m (entry_of others (codes "b")))) is.moved
     ∙ ap (move_found m (called_as 9) a is_within source destination (entries_with entries 7)
-        (entries_with others last_cookie)
+    (entries_with others last_cookie)
     (Some (numbered 4 (object 511 content)))) is.over
 
 pub returns : goal.returns
@@ -74,14 +74,14 @@ returns c = record {
   last_cookie = λ m from to is. found m (λ upper lower. false) from to _ _ _ _ _ _ is;
   into_itself = λ m from to is_within tells is.
       let lives = resolved-lives (with_writable m) (called_as 9) to
-          (numbered 4 (object 511 (Directory (fourth_entry ∷ []) 7)))
+      (numbered 4 (object 511 (Directory (fourth_entry ∷ []) 7)))
       (ap object_of is.destination) in
       let inside : is_within 4 4 ≡ true = (tells 4 4 (ap is_living_directory lives)).1 (itself 4) in
       found m is_within from to _ _ _ _ _ _ is
       ∙ ap (λ b. move_end (with_writable m) (time 1000 0) (a_to_b from to) (λ upper lower. b)
       (numbered 2 (object 511 (Directory beside 7))) (numbered 4 (object 511 (Directory (fourth_entry ∷ []) 7)))
       (entries_with beside 7) (entries_with (fourth_entry ∷ []) 7)
-          (numbered 4 (object 511 (Directory (fourth_entry ∷ []) 7))) None) inside;
+      (numbered 4 (object 511 (Directory (fourth_entry ∷ []) 7))) None) inside;
   below = λ m directory lives content.
       let one : names_in 6 directory ≡ 1 = ap (λ d. count_by (λ (e : Entry). e.number == 6) (entries_of d)) content in
       below 4 4 6 directory (itself 4) lives (omega (arith, one));

@@ -8,5 +8,5 @@ use Rattle.nfs_machine.proofs.export_faults.are_export_hosts.Goals as goal
 pub returns-in-1-to-1024 : goal.returns-in-1-to-1024
 returns-in-1-to-1024 c =
     let all = all_from_yields_List (has_length 255) _ _ c.all.result c.all.ensures.ran
-        (YieldsList-from_slice c.args.hosts.now cc) (λ x b q k. search (rules, tests)) in
+    (YieldsList-from_slice c.args.hosts.now cc) (λ x b q k. search (rules, tests)) in
     are_export_hosts-all c.args.hosts.now c.all.result (omega arith) (omega arith) all

@@ -1,5 +1,10 @@
-use Rattle.nfs_machine.proofs.StateBoundsLemmas.{locks_stay_fit, mounts_stay_fit, opening_fits, chains_stay_fit,
-    spelled_calls_fit}
+use Rattle.nfs_machine.proofs.StateBoundsLemmas.{
+  locks_stay_fit,
+  mounts_stay_fit,
+  opening_fits,
+  chains_stay_fit,
+  spelled_calls_fit,
+}
 use Rattle.nfs_machine.proofs.laws.bounds_are_kept.Goals as goal
 
 pub returns-clause-opening : goal.returns-clause-opening
