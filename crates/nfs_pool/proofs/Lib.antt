@@ -1,6 +1,7 @@
 pub mod CrossingLemmas
 pub mod MarksStayLemmas
 pub mod CommitLetsGoLemmas
+pub mod CountsLemmas
 pub mod MarkedWritesLemmas
 pub mod NotesBesideLemmas
 pub mod ReceiptNumberLemmas

@@ -1,5 +1,5 @@
 -- A call that reads on.
-use Rattle.std.proofs.Common.{◌≡◌, ℕ, ◌+◌, refl, sym, ◌∙◌, ap, subst}
+use Rattle.std.proofs.Common.{◌≡◌, ℕ, ◌+◌, ◌^◌, refl, sym, ◌∙◌, ap, subst}
 use Rattle.nfs_objects.specs.Values.{ViewValue}
 use Rattle.nfs_engine.specs.Calls.{FinishedValue, TxnValue}
 use Rattle.nfs_engine.specs.declared.journal.Receipt.{Receipt}
@@ -15,7 +15,7 @@ reads_twice a b c one two = two ∙ ap (λ (t : TxnValue). record t { view = c.v
 
 -- what was made of a call, by another name, is the next receipt
 pub made_next : (f made : FinishedValue) (last before after : ℕ) (receipt : Receipt) → made ≡ f
-    → IsMadeAbove last made receipt → after ≡ before + 1 → IsNext f.received last before after receipt
+    → IsMadeAbove last made receipt → after ≡ before + 2 ^ 64 → IsNext f.received last before after receipt
 made_next f made last before after receipt same is counted =
     let of_call : IsMadeAbove last f receipt = subst (λ (x : FinishedValue). IsMadeAbove last x receipt) same is in record {
       of_call = record { finished = f; received = refl; called = of_call.called; made = of_call.made };

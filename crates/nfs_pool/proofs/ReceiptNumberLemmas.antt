@@ -134,6 +134,16 @@ told_in-left lists new list s rest seats same is left =
     ∙ append_assoc (told_in lists) (map told s.receipts) (told_by rest)
     ∙ ap (λ (ss : List SeatValue). told_in lists ++ told_by ss) (sym left)
 
+-- as many more of lists
+pub told_in-more : (lists new : List (Vec Receipt Global)) (list : Vec Receipt Global) (s : SeatValue) →
+    list.items ≡ s.receipts → new ≡ lists ++ list ∷ [] →
+    length (told_in lists) + length s.receipts ≡ length (told_in new)
+told_in-more lists new list s same is =
+    let more =
+    ap length (ap told_in is
+    ∙ told_each-more (λ (l : Vec Receipt Global). l.items) lists list s.receipts (sym same)) in
+    omega (arith, more, length-append (told_in lists) (map told s.receipts), length-map s.receipts told)
+
 pub told-count : (seats : List SeatValue) (tells : List Told) → IsPermutation (told_by seats) (map told_value tells) →
     length tells ≡ receipts_count seats
 told-count seats tells moved =

@@ -4,8 +4,9 @@ use Rattle.std.specs.List.{AllByRecursion}
 use Rattle.nfs_machine.specs.Run.{Arrival}
 use Rattle.nfs_engine.specs.Arrivals.{ArrivalValue}
 use Rattle.nfs_engine.specs.declared.journal.Receipt.{Receipt}
+use Rattle.nfs_pool.proofs.CountsLemmas.{counts-more}
 use Rattle.nfs_pool.specs.Passes.{IsNext}
-use Rattle.nfs_pool.specs.Seats.{Gains, IsReceiptOf, IsSeat}
+use Rattle.nfs_pool.specs.Seats.{Counts, Gains, IsReceiptOf, IsSeat}
 
 more_below : (last n : ℕ) → last < n → (rs : List Receipt) → AllByRecursion (λ (r : Receipt). r.number ≤ last) rs →
     (x : Receipt) → x.number ≡ n → AllByRecursion (λ (r : Receipt). r.number ≤ n) (rs ++ x ∷ [])
@@ -23,7 +24,8 @@ pub seat_after : (shard last : ℕ) (old new : List Receipt) (parts before after
     IsSeat (record { shard = shard; receipts = new; last = receipt.number }) parts' after
 seat_after shard last old new parts before after parts' r receipt seat is next same = record {
   part = same ∙ seat.part;
-  counted = omega (arith, next.counted, seat.counted, ap length is, length-append old (receipt ∷ []));
+  counted = subst (λ (n : ℕ). Counts n after) (omega (arith, ap length is, length-append old (receipt ∷ [])))
+      (counts-more (length old) before after seat.counted next.counted);
   below = subst (λ (rs : List Receipt). AllByRecursion (λ (x : Receipt). x.number ≤ receipt.number) rs) (sym is)
       (more_below last receipt.number next.above old seat.below receipt refl);
   shard = seat.shard;

@@ -1,5 +1,5 @@
 -- Passes of a call: what it reads, and what it comes to.
-use Rattle.std.specs.Prelude.{◌≡◌, ℕ, ◌+◌, ◌<◌, Option, Some, None}
+use Rattle.std.specs.Prelude.{◌≡◌, ℕ, ◌+◌, ◌^◌, ◌<◌, Option, Some, None}
 use Rattle.nfs_machine.specs.Run.{Arrival}
 use Rattle.nfs_engine.specs.Calls.{PendingValue, TxnValue}
 use Rattle.nfs_engine.specs.declared.journal.Receipt.{Receipt}
@@ -23,11 +23,11 @@ abbrev pub LeadsOut : Then → Option PendingValue → Type 0
 LeadsOut t None = t ≡ then.Ended
 LeadsOut t (Some p) = t ≡ then.Aborted p
 
--- the receipt is of what came in, above that number, and counts one
+-- the receipt is of what came in, above that number, and is counted
 pub record IsNext (r : Arrival) (last before after : ℕ) (receipt : Receipt) : Type 0 where
   pub of_call : IsReceiptOf r receipt
   pub above : last < receipt.number
-  pub counted : after ≡ before + 1
+  pub counted : after ≡ before + 2 ^ 64
 
 -- one pass: it is executed; or in progress still, as it came
 abbrev pub ComesTo : Arrival → (last before after : ℕ) → Passed → Type 0

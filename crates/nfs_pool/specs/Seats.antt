@@ -1,5 +1,5 @@
 -- Seats, and what their callers are told.
-use Rattle.std.specs.Prelude.{◌≡◌, ℕ, ◌<◌, ◌≤◌, List, [], ◌∷◌, ◌++◌, length}
+use Rattle.std.specs.Prelude.{◌≡◌, ℕ, ◌+◌, ◌*◌, ◌^◌, ◌<◌, ◌≤◌, List, [], ◌∷◌, ◌++◌, length}
 use Rattle.std.specs.Prelude.{IfSome, Result, Ok, Err}
 use Rattle.std.specs.List.{AllByRecursion}
 use Rattle.nfs_machine.specs.Refusal.{refusal_of}
@@ -25,10 +25,15 @@ pub record SeatValue : Type 0 where
   -- no receipt's number is above this one, and each that comes is
   pub last : ℕ
 
+-- A share counts 2^64 for each of so many receipts, and for each record of an era that is over one more. There are fewer
+-- records than that, so an amount tells how many there are of each.
+abbrev pub Counts : (receipts amount : ℕ) → Type 0
+Counts receipts amount = (past : ℕ) × (amount ≡ 2 ^ 64 * (past + receipts) + past)
+
 -- one part of the ledger, which counts the receipts
 pub record IsSeat (s : SeatValue) (parts amount : ℕ) : Type 0 where
   pub part : parts ≡ 1
-  pub counted : amount ≡ length s.receipts
+  pub counted : Counts (length s.receipts) amount
   pub below : AllByRecursion (λ (r : Receipt). r.number ≤ s.last) s.receipts
   pub shard : s.shard < 16
 

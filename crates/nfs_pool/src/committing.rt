@@ -1,6 +1,6 @@
 //! The commit of a call, in the holds of the shards that it writes.
 
-ghost use Rattle.std.specs.Prelude.{◌≡◌, ◌+◌, ◌<◌, ◌≤◌, ℕ, IfErr, IfOk, OnErr, OnOk, false, map};
+ghost use Rattle.std.specs.Prelude.{◌≡◌, ◌+◌, ◌^◌, ◌<◌, ◌≤◌, ℕ, IfErr, IfOk, OnErr, OnOk, false, map};
 ghost use Rattle.std.specs.Prelude.{IfSome, None, option_copied, slice_index_or, true};
 ghost use Rattle.std.specs.List.{AllByRecursion};
 ghost use Rattle.nfs_objects.specs.Values.{write_value, written_at};
@@ -43,7 +43,7 @@ impl<L: Ledger + Naming> Pool<L> {
         requires notes { AreNotes notes.now finished.done.view.entries }
         requires stamp { IfSome (option_copied stamp) (λ s. s ≡ finished.done.change.writes) }
         ensures parts { mine.new.parts ≡ mine.old.parts }
-        ensures counted { OnOk result (mine.new.amount ≡ mine.old.amount + 1) }
+        ensures counted { OnOk result (mine.new.amount ≡ mine.old.amount + 2 ^ 64) }
         ensures uncounted { OnErr result (mine.new.amount ≡ mine.old.amount) }
         ensures receipt { IfOk result (λ c. IsMadeAbove last finished c.receipt) }
         ensures over { IfOk result (λ c. c.release.after ≡ then.Ended) }

@@ -1,6 +1,6 @@
 //! What lies under the book's lock.
 
-ghost use Rattle.std.specs.Prelude.{◌≡◌, ◌+◌, ◌<◌, [], IfErr, IfOk, IfSome, OnErr, OnOk, length, option_copied};
+ghost use Rattle.std.specs.Prelude.{◌≡◌, ◌+◌, ◌*◌, ◌^◌, ◌<◌, ◌≤◌, ℕ, [], IfErr, IfOk, IfSome, OnErr, OnOk, length, option_copied};
 ghost use Rattle.std.specs.Prelude.{slice_get};
 ghost use Rattle.std.specs.Bool.{Decides};
 ghost use Rattle.nfs_engine.specs.Book.{Commits, GivesUp, MayCommit, TakesMessage, store_in};
@@ -9,6 +9,7 @@ ghost use Rattle.nfs_engine.specs.Tables.{Stands};
 ghost use Rattle.nfs_engine.specs.declared.release.Then.TheVariants as then;
 ghost use Rattle.nfs_stamps.specs.Marking.{AreMarks, AreNotes};
 ghost use Rattle.nfs_pool.specs.Eras.{LeavesEra};
+ghost use Rattle.nfs_pool.specs.Seats.{Counts};
 ghost use Rattle.nfs_pool.specs.Steps.{AdmitsUnlessFull, IsMadeAbove};
 
 use crate::marking::mark_written;
@@ -22,19 +23,23 @@ use std::sync::atomic::{AtomicU64, Ordering};
 use std::sync::ledger;
 use std::sync::ledger::{Ledger, Share};
 
-/// The book, and a ledger of its records: each counts one for the seat that has its receipt. The type of `Book` keeps
-/// that the records are a run of the machine to its store; so it is whenever the lock is free. Beside the store stands
-/// by which commits its large objects were put.
+/// The book, and a ledger of its records: each counts for the seat that has its receipt. The type of `Book` keeps that
+/// the records are a run of the machine to its store; so it is whenever the lock is free. What is counted is never taken
+/// back, and tells the records of the era from those of eras that are over: so no book without them has its place here.
+/// Beside the store stands by which commits its large objects were put.
 #[derive(Drop)]
 pub struct Desk<L: Ledger + Naming> {
     pub(crate) book: Book,
     marks: Marks<L>,
     /// How many large objects were compared by value.
     compared: AtomicU64,
+    /// How many records of eras that are over are counted.
+    past: u64,
     counted: ledger::Book<L>,
     /// A share of nothing, to begin others from.
     nothing: Share<L>,
-    ghost counts: { length book.records ≡ counted.total },
+    ghost counts: { counted.total ≡ 2 ^ 64 * (past + length book.records) + past },
+    ghost over: { past ≤ book.before },
     ghost empty: { nothing.parts ≡ 0 },
     ghost none: { nothing.amount ≡ 0 },
     ghost marked: { AreMarks marks (store_in book).at },
@@ -58,6 +63,7 @@ impl<L: Ledger + Naming> Desk<L> {
             book,
             marks,
             compared: AtomicU64::new(0),
+            past: 0,
             counted,
             nothing,
         }
@@ -141,7 +147,7 @@ impl<L: Ledger + Naming> Desk<L> {
         requires notes { AreNotes notes.now finished.done.view.entries }
         requires stamp { IfSome (option_copied stamp) (λ s. s ≡ finished.done.change.writes) }
         ensures parts { mine.new.parts ≡ mine.old.parts }
-        ensures counted { OnOk result (mine.new.amount ≡ mine.old.amount + 1) }
+        ensures counted { OnOk result (mine.new.amount ≡ mine.old.amount + 2 ^ 64) }
         ensures uncounted { OnErr result (mine.new.amount ≡ mine.old.amount) }
         ensures commits { OnOk result (Commits self.old.book self.new.book finished) }
         ensures receipt { IfOk result (λ c. IsMadeAbove last finished c.receipt) }
@@ -162,12 +168,14 @@ impl<L: Ledger + Naming> Desk<L> {
             book,
             marks,
             compared: _,
+            past: _,
             counted,
             nothing: _,
         } = self;
         match book.commit(alloc, finished) {
             Ok(committed) => {
                 mark_written(marks, None, &committed.writes, stamp);
+                counted.add(mine, u64::MAX);
                 counted.add(mine, 1);
                 Ok(committed)
             }
@@ -219,24 +227,33 @@ impl<L: Ledger + Naming> Desk<L> {
         self.nothing.empty()
     }
 
-    /// Ends the era, and begins the next. The share that has every part counts each record, and then none.
+    /// Ends the era, and begins the next. The share that has every part counts each record of the era, and then none:
+    /// they are of an era that is over.
     pub(crate) fn new_era(&mut self, alloc: Global, all: &mut Share<L>) -> Era
         requires parts { all.old.parts ≡ L.parts }
         ensures parts { all.new.parts ≡ all.old.parts }
-        ensures none { all.new.amount ≡ 0 }
-        ensures leaves { LeavesEra self.old.book self.new.book all.old.amount result }
+        ensures none { Counts 0 all.new.amount }
+        ensures leaves { (receipts : ℕ) → Counts receipts all.old.amount →
+            LeavesEra self.old.book self.new.book receipts result }
     {
         self.book.run();
+        // It brings that there are fewer records than 2^64.
+        self.book.before();
         let count = self.book.executed().len() as u64;
         let Desk {
             book,
             marks: _,
             compared: _,
+            past,
             counted,
             nothing: _,
         } = self;
         counted.audit(all);
-        counted.sub(all, count);
+        // Without a record there may be no part to count for.
+        if count > 0 {
+            counted.add(all, count);
+            *past += count;
+        }
         book.new_era(alloc)
     }
 

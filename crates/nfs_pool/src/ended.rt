@@ -11,7 +11,7 @@ use nfs_engine::{Era, Receipt};
 use std::marker::Model;
 
 /// An era that is over, whose receipts are as many as its records and not yet compared with them. A clause sees what
-/// they tell. It has to be spent.
+/// they tell. It has to be spent, and nobody outside of this crate can but compare it.
 pub struct Ended {
     era: Era,
     /// The receipts of each seat.
@@ -62,15 +62,6 @@ impl Ended {
         } else {
             Err((era, room))
         }
-    }
-
-    /// Lets the era go. The room in which it ended is left.
-    pub fn let_go(self) -> EraRoom
-        ensures { result ≡ self.room }
-    {
-        let (era, room) = self.into_parts();
-        drop(era);
-        room
     }
 
     /// The records as they are, and the room in which the era ended.

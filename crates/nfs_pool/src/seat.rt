@@ -1,7 +1,8 @@
 //! Who makes calls.
 
-ghost use Rattle.std.specs.Prelude.{◌≡◌, ◌+◌, ◌≤◌, [], length, max, vec_capacity};
-ghost use Rattle.nfs_pool.specs.Eras.{AreNew, receipts_count, told_by, told_in};
+ghost use Rattle.std.specs.Prelude.{◌≡◌, ◌+◌, ◌≤◌, ℕ, [], length, max, vec_capacity};
+ghost use Rattle.nfs_pool.specs.Eras.{AreNew, told_by, told_in};
+ghost use Rattle.nfs_pool.specs.Seats.{Counts};
 
 use nfs_engine::{Receipt, SHARDS};
 use std::alloc::Global;
@@ -35,7 +36,7 @@ impl<L: Ledger> Seat<L> {
     /// A seat with one part of the ledger, and no receipt.
     pub(crate) fn new(alloc: Global, number: usize, share: Share<L>) -> Seat<L>
         requires part { share.parts ≡ 1 }
-        requires none { share.amount ≡ 0 }
+        requires none { Counts 0 share.amount }
         ensures { result.receipts ≡ [] }
     {
         Seat {
@@ -63,7 +64,8 @@ impl<L: Ledger> Seat<L> {
     /// Gives its part back, and leaves its receipts.
     pub(crate) fn leave(self, all: &mut Share<L>) -> Vec<Receipt>
         ensures parts { all.new.parts ≡ all.old.parts + 1 }
-        ensures amount { all.new.amount ≡ all.old.amount + length self.receipts }
+        ensures counted { (receipts : ℕ) → Counts receipts all.old.amount →
+            Counts (receipts + length self.receipts) all.new.amount }
         ensures receipts { result.items ≡ self.receipts }
     {
         let Seat {
@@ -77,7 +79,7 @@ impl<L: Ledger> Seat<L> {
     }
 }
 
-/// A seat for each part of the share, in this room.
+/// A seat for each part of the share, in this room. The last one has what is counted of eras that are over.
 pub(crate) fn new_seats<L: Ledger>(
     alloc: Global,
     room: Vec<Seat<L>>,
@@ -85,17 +87,21 @@ pub(crate) fn new_seats<L: Ledger>(
     count: usize,
 ) -> Vec<Seat<L>>
     requires parts { all.parts ≡ count }
-    requires none { all.amount ≡ 0 }
+    requires none { Counts 0 all.amount }
     requires empty { room.items ≡ [] }
     requires room { count ≤ vec_capacity room }
     ensures { AreNew result.items count }
 {
+    let Some(last) = count.checked_sub(1) else {
+        return room;
+    };
     let mut seats = room;
     let mut all = all;
-    for number in 0..count {
+    for number in 0..last {
         let seat = Seat::new(alloc, number, all.split_off(1, 0));
         seats.push_reserved(seat);
     }
+    seats.push_reserved(Seat::new(alloc, last, all));
     seats
 }
 
@@ -107,8 +113,9 @@ pub(crate) fn leave_all<L: Ledger>(
 ) -> (Vec<Vec<Receipt>>, Vec<Seat<L>>)
     requires empty { room.items ≡ [] }
     requires room { length seats.items ≤ vec_capacity room }
+    requires none { Counts 0 all.old.amount }
     ensures parts { all.new.parts ≡ all.old.parts + length seats.items }
-    ensures amount { all.new.amount ≡ all.old.amount + receipts_count seats.items }
+    ensures counted { Counts (length (told_in result.0.items)) all.new.amount }
     ensures told { told_in result.0.items ≡ told_by seats.items }
     ensures same { vec_capacity result.0 ≡ vec_capacity room }
     ensures emptied { result.1.items ≡ [] }

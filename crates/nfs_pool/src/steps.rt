@@ -1,6 +1,6 @@
 //! The steps of a call.
 
-ghost use Rattle.std.specs.Prelude.{◌≡◌, ◌+◌, ◌<◌, None, IfErr, IfOk, OnErr, OnOk};
+ghost use Rattle.std.specs.Prelude.{◌≡◌, ◌+◌, ◌^◌, ◌<◌, None, IfErr, IfOk, OnErr, OnOk};
 ghost use Rattle.nfs_objects.specs.Values.{seen_at};
 ghost use Rattle.nfs_engine.specs.Apart.{GetsNumber};
 ghost use Rattle.nfs_engine.specs.Engine.{ArePlaces};
@@ -96,7 +96,7 @@ pub trait Steps<L: Ledger + Naming> {
         requires parts { 0 < mine.old.parts }
         requires notes { AreNotes notes.now finished.done.view.entries }
         ensures parts { mine.new.parts ≡ mine.old.parts }
-        ensures counted { OnOk result (mine.new.amount ≡ mine.old.amount + 1) }
+        ensures counted { OnOk result (mine.new.amount ≡ mine.old.amount + 2 ^ 64) }
         ensures uncounted { OnErr result (mine.new.amount ≡ mine.old.amount) }
         ensures receipt { IfOk result (λ r. IsMadeAbove last finished r.0) }
         ensures over { IfOk result (λ r. r.1.after ≡ then.Ended) }

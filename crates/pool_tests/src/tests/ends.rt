@@ -259,7 +259,7 @@ fn stays_without_room<L: Ledger + Naming, R: Runs>(
     match room_for(rt, 0) {
         Ok(none) => match pool.next_era(rt.alloc(), seats, none) {
             Ok((ended, seats)) => {
-                drop(ended.let_go());
+                drop(ended.compare());
                 drop(seats);
                 None
             }
