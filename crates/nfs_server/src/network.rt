@@ -64,7 +64,7 @@ const OWN_PLACES: u64 = 64;
 /// # Errors
 ///
 /// `CannotListen`; `Memory` where there is none to begin; `NoTransport` where the options name no address; `Receipts`
-/// where a record has no receipt, or a place is missing.
+/// where a record has no receipt. A place that was lost is waited for at the end of its era, for good.
 pub fn serve_network<
     R: AllocGlobal
         + Net<Listener = TcpListener, Stream = TcpStream>

@@ -163,7 +163,7 @@ impl<L: Ledger + Naming> Keeper<L> {
     ///
     /// # Errors
     ///
-    /// A record has no receipt, or a seat is missing (`Receipts`).
+    /// A record has no receipt (`Receipts`). A place that was lost is waited for, for good.
     pub(crate) fn work<R: Wait>(
         &self,
         rt: &R,
