@@ -34,7 +34,8 @@ use Rattle.nfs_server.specs.declared.exit.Exit.{Exit}
 use Rattle.nfs_server.specs.declared.options.Options.{Options}
 use Rattle.nfs_server.specs.declared.options.Transport.{Transport}
 use Rattle.nfs_server.specs.declared.options.Transport.TheVariants.{Stdio, Network}
-use Rattle.nfs_server.specs.declared.exit.Exit.TheVariants.{Callback, CannotListen, CommandLine, Exports, Memory, NoTransport, Receipts, StandardStream}
+use Rattle.nfs_server.specs.declared.exit.Exit.TheVariants.{Callback, CannotListen, CommandLine, Exports, Memory}
+use Rattle.nfs_server.specs.declared.exit.Exit.TheVariants.{NoRandomBytes, NoTransport, Receipts, StandardStream}
 
 nfsd_is_simple : is_simple nfsd ≡ true
 unfolding nfsd clap_on_literals
