@@ -6,6 +6,7 @@
 mod admissions;
 mod alone;
 mod arrivals;
+mod attempts;
 mod openings;
 mod records;
 mod refusals;

@@ -44,11 +44,16 @@ pub(super) fn spelled(alloc: Global, words: &[u32]) -> Result<Vec<u8>, AllocErro
     }
 }
 
-/// The record of these words came in.
+/// The record of these bytes came in.
+pub(super) fn read(alloc: Global, bytes: &[u8]) -> Result<Arrival, AllocError> {
+    let record = Bytes::copy_from_slice(alloc, bytes)?;
+    Arrival::read(alloc, host(), record, moment())
+}
+
+/// That of these words.
 fn read_at_once(alloc: Global, words: &[u32]) -> Result<Arrival, AllocError> {
     let bytes = spelled_at_once(alloc, words)?;
-    let record = Bytes::copy_from_slice(alloc, &bytes)?;
-    Arrival::read(alloc, host(), record, moment())
+    read(alloc, &bytes)
 }
 
 /// The same, if need be by a second try.
