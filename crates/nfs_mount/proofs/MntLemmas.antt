@@ -43,8 +43,10 @@ module _ (d : DraftValue) (path : List ℕ) where
   pub faulty : (e : MountStatus) → path_fault path ≡ Some e → Finds d (IsTarget d.ctx path) (Ok (Err e))
   faulty e fault = λ s k w formed. (inl fault, refl)
 
-  module _ (exports : List LivingExport) (known : Knows d (λ k. k.state.exports ≡ exports)) (sane : path_fault path ≡ None) where
-    pub not-exported : (AllApart exports → NoExport exports d.ctx.host (parts path)) → Finds d (IsTarget d.ctx path) (Ok (Err Access))
+  module _ (exports : List LivingExport) (known : Knows d (λ k. k.state.exports ≡ exports))
+      (sane : path_fault path ≡ None) where
+    pub not-exported : (AllApart exports → NoExport exports d.ctx.host (parts path))
+        → Finds d (IsTarget d.ctx path) (Ok (Err Access))
     not-exported none = λ s k w formed.
         let here : NoExport k.state.exports d.ctx.host (parts path) =
         subst (λ es. AllApart es → NoExport es d.ctx.host (parts path)) (sym (known s k w)) none formed.exports.apart in
@@ -66,11 +68,13 @@ module _ (d : DraftValue) (path : List ℕ) where
             sound = sound;
           } in
           let c = chosen-in s k w formed in
-          let r = export-all (HasRoot k.state) k.state.exports c.0 c.1.matches.export formed.exports.rooted c.1.matches.stands in
+          let r = export-all (HasRoot k.state) k.state.exports c.0 c.1.matches.export formed.exports.rooted
+          c.1.matches.stands in
           object-stands s k choice.root r.root stands (ap (get k.state.objects) (sym c.2) ∙ r.lives)
 
       pub walked : (r : Result (Result Known MountStatus) Halt) →
-          Finds d (λ found m. walk (get m.objects) choice.root choice.rest ≡ walk_end m found) r → Finds d (IsTarget d.ctx path) r
+          Finds d (λ found m. walk (get m.objects) choice.root choice.rest ≡ walk_end m found) r
+          → Finds d (IsTarget d.ctx path) r
       walked (Err halt) walks = walks
       walked (Ok (Ok x)) walks = λ s k w formed.
           let c = chosen-in s k w formed in (
@@ -93,7 +97,8 @@ module _ (d : DraftValue) (path : List ℕ) where
           )
 
 -- ---- the mount
-module _ (d : DraftValue) (path : List ℕ) (mounts : List MountBody) (known : Knows d (λ k. k.state.mounts ≡ mounts)) where
+module _ (d : DraftValue) (path : List ℕ) (mounts : List MountBody)
+    (known : Knows d (λ k. k.state.mounts ≡ mounts)) where
   -- with_mount goes by whether the pair is listed
   after : (b : Bool) → is_mounted mounts (mounted d.ctx.host path) ≡ b → (s : Store) (k : Kept) → Possible d s k →
       with_mount k.state (mounted d.ctx.host path) ≡
@@ -157,7 +162,8 @@ module _ (d : DraftValue) (none : d.writes ≡ []) (quiet : d.messages ≡ []) w
         promised-unchanged d none quiet (calls.Mount (mount.Mnt path)) (answers.Mount (replies.Mnt (Err e))) held given
         (λ s k w formed. (Err e, refl, refl, refused s k w formed))
 
-    pub mounted-promised : (new : DraftValue) (x : Known) (handle : List ℕ) → Finds d (IsTarget d.ctx path) (Ok (Ok x)) →
+    pub mounted-promised : (new : DraftValue) (x : Known) (handle : List ℕ)
+        → Finds d (IsTarget d.ctx path) (Ok (Ok x)) →
         AddsMount d new path → handle ≡ handle_at d.ctx x.number (shell x Socket) → Held new.view new.writes →
         Given new.view new.writes → AnswersWith new (Ok handle)
     unfolding MountStep

@@ -120,7 +120,8 @@ module _ (d : DraftValue) where
 
   pub unmounted-promised : (host path : Bor (List ℕ)) (sent : List ℕ) → host.now ≡ d.ctx.host →
       path.now ≡ sent → (new : DraftValue) → Begins (calls.Mount (mount.Unmount sent)) d →
-      TakesMounts d new (which.Path host path) → Held new.view new.writes → Given new.view new.writes → AnswersBy d (mount.Unmount sent) new replies.Unmount
+      TakesMounts d new (which.Path host path) → Held new.view new.writes → Given new.view new.writes
+      → AnswersBy d (mount.Unmount sent) new replies.Unmount
   unfolding MountStep
   unmounted-promised host path sent own same new begins takes =
       taken-promised d (mount.Unmount sent) begins new (which.Path host path) replies.Unmount takes

@@ -10,7 +10,8 @@ use Rattle.nfs_wire.specs.declared.attributes.Time.{Time}
 use Rattle.nfs_machine.proofs.ExportedLemmas.{export-all, export-number}
 use Rattle.nfs_machine.proofs.StepKeepsLemmas.{room as room-fits}
 use Rattle.nfs_machine.proofs.RenumberedExportsLemmas.{with-path}
-use Rattle.nfs_machine.proofs.ReplacedStateLemmas.{Comes, IsNew, IsOld, comes, got, is-new-root, lived-elsewhere, names-kept}
+use Rattle.nfs_machine.proofs.ReplacedStateLemmas.{Comes, IsNew, IsOld, comes, got, is-new-root, lived-elsewhere}
+use Rattle.nfs_machine.proofs.ReplacedStateLemmas.{names-kept}
 use Rattle.nfs_machine.proofs.ReplacedStateLemmas.{on, some-number, still-root, what-lives}
 use Rattle.nfs_machine.proofs.WellFormedLemmas.{all_map, counts-same, is_subdirectory, links-same}
 use Rattle.nfs_machine.specs.Attributes.{entries_of, is_directory, is_living_directory, links_of}

@@ -46,7 +46,8 @@ use Rattle.nfs_objects.specs.declared.view.Reserved.{Reserved}
 use Rattle.nfs_inodes.proofs.ReaderHaltLemmas.{known-shown, stops-before}
 use Rattle.nfs_inodes.specs.Roots.{Follows, ReservedFits, roots_made}
 use Rattle.nfs_inodes.specs.Stops.{StopsAt}
-use Rattle.nfs_mount.proofs.NewExportsLemmas.{AreGiven, end, end-sound, end-step, exhausted-step, table-follows, table_of}
+use Rattle.nfs_mount.proofs.NewExportsLemmas.{AreGiven, end, end-sound, end-step, exhausted-step, table-follows}
+use Rattle.nfs_mount.proofs.NewExportsLemmas.{table_of}
 use Rattle.nfs_mount.specs.Replaces.{AwaitsRoots, ReplacesExports, StopsReplacing}
 
 -- ---- lists

@@ -46,7 +46,8 @@ named-behind find None names = refl
 named-behind find (Some e) names = refl
 
 module _ (find : ℕ → Option Living) (number : ℕ) where
-  stopped : (e : MountStatus) → directory_at (find number) ≡ Err e → (names : List (List ℕ)) → walk find number names ≡ Err e
+  stopped : (e : MountStatus) → directory_at (find number) ≡ Err e → (names : List (List ℕ))
+      → walk find number names ≡ Err e
   unfolding walk
   stopped e is [] = rw is refl
   stopped e is (name ∷ names) = rw is refl
@@ -135,7 +136,8 @@ module _ (d : DraftValue) (root : ℕ) (start : List (List ℕ)) where
           name-there n is s k w = step s k w ∙ ap (λ o. behind (get k.state.objects) o rest) is
 
 -- the number of what is known there lives where its number does: each store says so for itself
-pub lives-known : (d : DraftValue) (number : ℕ) (x y : Known) → y ≡ x → Knows d (λ k. IsObject k.state number (Some x)) →
+pub lives-known : (d : DraftValue) (number : ℕ) (x y : Known) → y ≡ x
+    → Knows d (λ k. IsObject k.state number (Some x)) →
     d.writes ≡ [] → IsThere d.view (addresses.Inode number) → IsThere d.view (addresses.Inode y.number)
 lives-known d number x y same there none lives s k fits stands sound formed =
     let w : Possible d s k = record {

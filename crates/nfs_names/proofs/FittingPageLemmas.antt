@@ -1,5 +1,6 @@
 -- The page that fits, entry by entry; and what is listed is a step of the machine.
-use Rattle.std.proofs.Common.{◌≡◌, ℕ, suc, ◌+◌, ◌*◌, ◌/◌, ◌≤◌, ◌==◌, ◌&&◌, Bool, true, false, List, [], ◌∷◌, ◌++◌, map, min, nat_le}
+use Rattle.std.proofs.Common.{◌≡◌, ℕ, suc, ◌+◌, ◌*◌, ◌/◌, ◌≤◌, ◌==◌, ◌&&◌, Bool, true, false, List, [], ◌∷◌, ◌++◌, map}
+use Rattle.std.proofs.Common.{min, nat_le}
 use Rattle.std.proofs.Common.{Option, Some, None, append-nil, append_assoc, length, length-append}
 use Rattle.std.proofs.Common.{Result, Ok, Err, IfOk, arith, refl, sym, ◌∙◌, ap, subst}
 use Rattle.std.proofs.Math.Nat.{mul-suc}

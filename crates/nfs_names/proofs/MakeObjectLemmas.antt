@@ -32,7 +32,8 @@ use Rattle.nfs_machine.specs.WellFormed.{WellFormed}
 use Rattle.nfs_machine.specs.declared.calls.Call.TheVariants as calls
 use Rattle.nfs_machine.specs.declared.calls.Reply.TheVariants as answers
 use Rattle.nfs_machine.specs.declared.context.Ctx.{Ctx}
-use Rattle.nfs_objects.proofs.KnowsLemmas.{among-behind, among-front, covers-among, covers-both, failed, passed, stops-wider}
+use Rattle.nfs_objects.proofs.KnowsLemmas.{among-behind, among-front, covers-among, covers-both, failed, passed}
+use Rattle.nfs_objects.proofs.KnowsLemmas.{stops-wider}
 use Rattle.nfs_objects.proofs.KnowsLemmas.{stops-within}
 use Rattle.nfs_objects.proofs.PromiseLemmas.{answer-ending, does-as, possible-after, promised, turns-none}
 use Rattle.nfs_objects.proofs.UsageSumLemmas.{AllFit, turned-fit}
@@ -54,7 +55,8 @@ use Rattle.nfs_inodes.proofs.ReaderHaltLemmas.{lives-stops, stops-before}
 use Rattle.nfs_inodes.proofs.KeptBesideLemmas.{choice-of, fresh-of, made-is, made-sound, room-of}
 use Rattle.nfs_inodes.proofs.StandsLemmas.{directory-listed, kind-is}
 use Rattle.nfs_inodes.specs.Asked.{content_asked, wanted_as}
-use Rattle.nfs_inodes.specs.Known.{HasNumber, IsKnown, IsObject, Means, Names, content_at, entries_found, last_cookie_of}
+use Rattle.nfs_inodes.specs.Known.{HasNumber, IsKnown, IsObject, Means, Names, content_at, entries_found}
+use Rattle.nfs_inodes.specs.Known.{last_cookie_of}
 use Rattle.nfs_inodes.specs.Known.{listed, new_cookie, object_at, shell, weak_of}
 use Rattle.nfs_inodes.specs.Makes.{IsFree, made_under}
 use Rattle.nfs_inodes.specs.Stops.{IsOfExport, StopsAt, StopsMaking, brought_by}

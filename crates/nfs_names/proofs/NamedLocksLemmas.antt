@@ -9,7 +9,8 @@ use Rattle.nfs_wire.specs.declared.status.NfsStatus.{NfsStatus}
 use Rattle.nfs_machine.specs.Handles.{handle_of}
 use Rattle.nfs_machine.specs.declared.calls.Call.TheVariants as calls
 use Rattle.nfs_machine.specs.declared.handle.Handle.{Handle}
-use Rattle.nfs_objects.proofs.KnowsLemmas.{among-either, covers-among, covers-both, names-added, names-lost, stops-wider}
+use Rattle.nfs_objects.proofs.KnowsLemmas.{among-either, covers-among, covers-both, names-added, names-lost}
+use Rattle.nfs_objects.proofs.KnowsLemmas.{stops-wider}
 use Rattle.nfs_objects.specs.Asks.{IsThere}
 use Rattle.nfs_objects.specs.Calls.{IsAmong, added_at, addresses_of, locks_at, locks_under, named_by}
 use Rattle.nfs_objects.specs.Modes.{led_at}

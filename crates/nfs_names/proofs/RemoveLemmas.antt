@@ -275,7 +275,8 @@ module _ (taking : Taking) (d : DraftValue) (place : Place) (begins : Begins (ca
 -- ---- what is asked for first
 module _ (taking : Taking) (place : Place) (d : DraftValue) (begins : Begins (call_of taking place) d)
     (handle : List ℕ) (is : handle ≡ place.directory) where
-  first-asked : {A : Type 0} (r : Result A Halt) → HaltsFirst d.modes d.view (first_wanted_with d.view (handle ∷ [])) r →
+  first-asked : {A : Type 0} (r : Result A Halt)
+      → HaltsFirst d.modes d.view (first_wanted_with d.view (handle ∷ [])) r →
       HaltsFirst (modes_of (call_of taking place)) d.view (first_wanted (call_of taking place) d.view) r
   first-asked r first =
       subst (λ modes. HaltsFirst modes d.view (first_wanted (call_of taking place) d.view) r) begins.modes
@@ -284,10 +285,12 @@ module _ (taking : Taking) (place : Place) (d : DraftValue) (begins : Begins (ca
 
   pub first-halted : (A B : Type 0) (halt : Halt) →
       HaltsFirst {A = A} d.modes d.view (first_wanted_with d.view (handle ∷ [])) (Err halt) →
-      HaltsFirst {A = B} (modes_of (call_of taking place)) d.view (first_wanted (call_of taking place) d.view) (Err halt)
+      HaltsFirst {A = B} (modes_of (call_of taking place)) d.view (first_wanted (call_of taking place) d.view)
+      (Err halt)
   first-halted A B halt first = first-asked (Err halt) (by (first_wanted_with d.view (handle ∷ [])) first)
     where
-      by : (w : Option Addr) → HaltsFirst {A = A} d.modes d.view w (Err halt) → HaltsFirst {A = B} d.modes d.view w (Err halt)
+      by : (w : Option Addr) → HaltsFirst {A = A} d.modes d.view w (Err halt)
+          → HaltsFirst {A = B} d.modes d.view w (Err halt)
       by None first = tt
       by (Some a) first = first
 

@@ -57,9 +57,11 @@ use Rattle.nfs_objects.specs.declared.address.Addr.{Addr}
 use Rattle.nfs_objects.specs.declared.address.Addr.TheVariants as addresses
 use Rattle.nfs_objects.specs.declared.change.Halt.{Halt}
 use Rattle.nfs_objects.proofs.UsageSumLemmas.{AllFit, turned-fit}
-use Rattle.nfs_inodes.proofs.LivedBeforeLemmas.{LivesAsBefore, lived-both, lived-given, lived-left, lived-rehomed, lived-same}
+use Rattle.nfs_inodes.proofs.LivedBeforeLemmas.{LivesAsBefore, lived-both, lived-given, lived-left, lived-rehomed}
+use Rattle.nfs_inodes.proofs.LivedBeforeLemmas.{lived-same}
 use Rattle.nfs_inodes.proofs.LivedBeforeLemmas.{usage-there}
-use Rattle.nfs_inodes.proofs.RenameKeepsLemmas.{changes-are, directory_over, kept_moved, moved-sound, moved-state, one_if}
+use Rattle.nfs_inodes.proofs.RenameKeepsLemmas.{changes-are, directory_over, kept_moved, moved-sound, moved-state}
+use Rattle.nfs_inodes.proofs.RenameKeepsLemmas.{one_if}
 use Rattle.nfs_inodes.proofs.StandsLemmas.{directory-listed, kind-is, known-lives}
 use Rattle.nfs_inodes.specs.Known.{ChecksDirectory, IsKnown, IsObject, Means, Names, content_at, last_cookie_of, listed}
 use Rattle.nfs_inodes.specs.Known.{new_cookie, object_at, target, weak_of}
@@ -915,7 +917,8 @@ module _ (d : DraftValue) (a : RenameArguments) (begins : Begins (calls.Nfs (nfs
       (told k.state formed e (λ is_within. passed _ (source s k w).names (failed _ (refused s k w).refused))))
 
 -- ---- what is asked for first is known once the first handle names something
-pub first-known : {A B : Type 0} (modes other : ModesValue) (view : ViewValue) (wanted : Option Addr) (x : A) (r : Result B Halt) →
+pub first-known : {A B : Type 0} (modes other : ModesValue) (view : ViewValue) (wanted : Option Addr) (x : A)
+    (r : Result B Halt) →
     HaltsFirst modes view wanted (Ok x) → HaltsFirst other view wanted r
 first-known modes other view None x r first = tt
 first-known modes other view (Some a) x r first = absurd first

@@ -6,7 +6,8 @@ use Rattle.std.specs.Prelude.{filter_map}
 use Rattle.std.proofs.lemmas.List.{map-append}
 use Rattle.nfs_machine.specs.Run.{Arrival, FromHost, NewExports}
 use Rattle.nfs_engine.specs.Arrivals.{received_value}
-use Rattle.nfs_schedule.proofs.ArrivalsLemmas.{Passes, arrives_passes, option_joined, passes_both, same_passes, stop_passes}
+use Rattle.nfs_schedule.proofs.ArrivalsLemmas.{Passes, arrives_passes, option_joined, passes_both, same_passes}
+use Rattle.nfs_schedule.proofs.ArrivalsLemmas.{stop_passes}
 use Rattle.nfs_schedule.proofs.ArrivalsLemmas.{turn_passes}
 use Rattle.nfs_schedule.proofs.LedgerLemmas.{Adds, adds_both, adds_none, era_adds, message_adds, same_adds, stop_adds}
 use Rattle.nfs_schedule.proofs.LedgerLemmas.{turn_adds, world_ledger}

@@ -207,7 +207,8 @@ module _ (place : ℕ) (old new : WorldValue) (before : GoesOnAt place old) (aft
             (ap (λ (w : WorldValue). w.workers) t.rest))
       ] refl
 
-  stopped : (worker : ℕ) (answer : Option Answer) → StopsWorker old new worker answer → HasAsked before.call after.call 0
+  stopped : (worker : ℕ) (answer : Option Answer) → StopsWorker old new worker answer
+      → HasAsked before.call after.call 0
   stopped worker answer s =
       elim (worker - 1 == place) as (λ b. (worker - 1 == place) ≡ b → HasAsked before.call after.call 0) [
         | true ↦ λ is.

@@ -1,5 +1,6 @@
 -- A call that is alone in the engine: it goes on, it ends, and leaves the engine at rest.
-use Rattle.std.proofs.Common.{◌≡◌, ◌≢◌, ℕ, zero, suc, ◌+◌, List, [], ◌∷◌, length, Option, Some, None, IsSome, Ok, Err, refl, sym, ◌∙◌, ap, subst}
+use Rattle.std.proofs.Common.{◌≡◌, ◌≢◌, ℕ, zero, suc, ◌+◌, List, [], ◌∷◌, length, Option, Some, None, IsSome, Ok, Err}
+use Rattle.std.proofs.Common.{refl, sym, ◌∙◌, ap, subst}
 use Rattle.std.proofs.Common.{get_or, set, inl, inr, IfSome}
 use Rattle.std.specs.declared.alloc.AllocError.{AllocError}
 use Rattle.nfs_machine.specs.RpcReplies.{success_message}
@@ -13,7 +14,8 @@ use Rattle.nfs_objects.specs.declared.modes.Mode.TheVariants.{Shared, Exclusive}
 use Rattle.nfs_replies.specs.declared.origins.Origin.{Origin}
 use Rattle.nfs_engine.proofs.OneShardOfSixteenLemmas.{alike_or}
 use Rattle.nfs_engine.specs.Arrivals.{ArrivalValue, incoming_value}
-use Rattle.nfs_engine.specs.Book.{BeginsCall, BookValue, Commits, GivesUp, IsUnknown, LeadsBook, Repeats, Steps, StillRuns, new_txn, store_in}
+use Rattle.nfs_engine.specs.Book.{BeginsCall, BookValue, Commits, GivesUp, IsUnknown, LeadsBook, Repeats, Steps}
+use Rattle.nfs_engine.specs.Book.{StillRuns, new_txn, store_in}
 use Rattle.nfs_engine.specs.Calls.{FinishedValue, PendingValue, TxnValue, pending_of, txn_of}
 use Rattle.nfs_engine.specs.Commits.{IsReceipt}
 use Rattle.nfs_engine.specs.Engine.{EngineValue, IsAcquired, IsReleased, IsReserved, IsRunning, KeepsOthers, LetsAllGo}
@@ -230,7 +232,8 @@ module _ (e f g : EngineValue) (t : TxnValue) (r : ReleaseValue) (p : PendingVal
       EndsIn e g t answer
   ends_declined answer declined =
       refused_ends e g t answer keeps
-      (subst (λ (q : PendingValue). IsRefused q.received (record { xid = q.xid; ids = q.ctx.ids; call = q.call }) answer)
+      (subst (λ (q : PendingValue). IsRefused q.received (record { xid = q.xid; ids = q.ctx.ids; call = q.call })
+      answer)
       own
       (subst (λ (a : Asked). IsRefused p.received a answer) gives.asked
       (subst (λ (x : Arrival). IsRefused x refused.asked answer) gives.received declined)))
@@ -266,7 +269,8 @@ ends_moved e f g t u (answers.Executed receipt) book call x = record {
 ends_moved e f g t u (answers.Repeated kept) book call x = absurd x
 ends_moved e f g t u (answers.Refused declined) book call x = (
   keeps_from e f g x.0 book,
-  subst (λ (v : TxnValue). IsRefused v.received (record { xid = v.xid; ids = v.ctx.ids; call = v.call }) (answers.Refused declined))
+  subst (λ (v : TxnValue). IsRefused v.received (record { xid = v.xid; ids = v.ctx.ids; call = v.call })
+      (answers.Refused declined))
       call x.1,
 )
 ends_moved e f g t u (answers.Early faulted) book call x = absurd x
@@ -307,7 +311,8 @@ module _ (e b g : EngineValue) (a : ArrivalValue) (t : TxnValue) (begins : Begin
     begins.asked,
     begins.asks,
     keeps_join e b g (begins_keeps e b a t begins) x.0,
-    subst (λ (v : TxnValue). IsRefused v.received (record { xid = v.xid; ids = v.ctx.ids; call = v.call }) (answers.Refused declined))
+    subst (λ (v : TxnValue). IsRefused v.received (record { xid = v.xid; ids = v.ctx.ids; call = v.call })
+        (answers.Refused declined))
         begins.txn x.1,
   )
   answers_begun (answers.Early faulted) x = absurd x

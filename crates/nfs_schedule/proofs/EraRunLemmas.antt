@@ -1,5 +1,6 @@
 -- The records of all eras lead on, at each step.
-use Rattle.std.proofs.Common.{◌≡◌, ℕ, List, [], ◌∷◌, ◌++◌, append-nil, append_assoc, map, Option, Some, None, sym, ◌∙◌, ap, subst}
+use Rattle.std.proofs.Common.{◌≡◌, ℕ, List, [], ◌∷◌, ◌++◌, append-nil, append_assoc, map, Option, Some, None, sym, ◌∙◌}
+use Rattle.std.proofs.Common.{ap, subst}
 use Rattle.nfs_machine.proofs.RunChainLemmas.{run-append}
 use Rattle.nfs_machine.specs.Run.{Record, Run, Setting}
 use Rattle.nfs_engine.proofs.CommitLeadsLemmas.{same_leads}
@@ -38,7 +39,8 @@ store_leads e f same = record {
 -- only which calls are in progress may be another
 pub book_store : (e f : EngineValue) → KeepsBook e f → KeepsStore e f
 book_store e f same =
-    same ∙ ap (λ n. record e.book { living = f.book.living; next_id = n }) (sym (ap (λ (b : BookValue). b.next_id) same))
+    same ∙ ap (λ n. record e.book { living = f.book.living; next_id = n })
+    (sym (ap (λ (b : BookValue). b.next_id) same))
 
 effect_leads : (e f : EngineValue) (answer : Option Answer) → Effect e f answer → LeadsOn e f
 effect_leads e f None is = store_leads e f is
@@ -62,7 +64,8 @@ turn_runs old new worker answer t =
 pub stop_runs : (old new : WorldValue) (worker : ℕ) (answer : Option Answer) → StopsWorker old new worker answer →
     RunsOn old new
 stop_runs old new worker answer s =
-    runs_on old new (store_leads old.engine new.engine (book_store old.engine new.engine s.stop.store)) (ap (λ (w : WorldValue). w.eras) s.rest)
+    runs_on old new (store_leads old.engine new.engine (book_store old.engine new.engine s.stop.store))
+    (ap (λ (w : WorldValue). w.eras) s.rest)
 
 -- ---- messages
 message_leads : (e f : EngineValue) (posted : Option Posted) → TakesMessage e.book f.book posted → LeadsOn e f
@@ -103,7 +106,8 @@ era_runs old new t base r = record {
   began = r.present.state;
   before =
       subst (λ (l : List Record). Run new.engine.book.setting base l r.present.state) (sym joined)
-      (subst (λ (s : Setting). Run s base (records_of old.eras ++ old.engine.book.records) r.present.state) (sym setting)
+      (subst (λ (s : Setting). Run s base (records_of old.eras ++ old.engine.book.records) r.present.state)
+      (sym setting)
       (run-append old.engine.book.setting base r.began r.present.state (records_of old.eras) old.engine.book.records
       r.before r.present.run));
   present = t.rebases r.began r.present;

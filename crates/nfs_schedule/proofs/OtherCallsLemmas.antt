@@ -1,5 +1,6 @@
 -- What one call's step leaves of what others have.
-use Rattle.std.proofs.Common.{◌≡◌, ◌≢◌, ℕ, ◌<◌, ◌%◌, true, false, cond, List, [], ◌∷◌, Option, Some, None, IsSome, option_map, refl, sym, ◌∙◌, subst, arith}
+use Rattle.std.proofs.Common.{◌≡◌, ◌≢◌, ℕ, ◌<◌, ◌%◌, true, false, cond, List, [], ◌∷◌, Option, Some, None, IsSome}
+use Rattle.std.proofs.Common.{option_map, refl, sym, ◌∙◌, subst, arith}
 use Rattle.std.specs.List.{AllByRecursion}
 use Rattle.nfs_machine.specs.Run.{Setting}
 use Rattle.nfs_machine.specs.declared.context.Ctx.{Ctx}
@@ -13,14 +14,16 @@ use Rattle.nfs_objects.specs.declared.view.Reserved.{Reserved}
 use Rattle.nfs_replies.specs.declared.origins.Origin.{Origin}
 use Rattle.nfs_engine.specs.Book.{store_in}
 use Rattle.nfs_engine.specs.Calls.{IsUnder, TxnValue, again_of, txn_of}
-use Rattle.nfs_engine.specs.Engine.{EngineValue, Holds, IsLeaving, IsRunning, KeepsOthers, LeadsTo, Lives, held_among, kept_by, mode_in, shard_among}
+use Rattle.nfs_engine.specs.Engine.{EngineValue, Holds, IsLeaving, IsRunning, KeepsOthers, LeadsTo, Lives, held_among}
+use Rattle.nfs_engine.specs.Engine.{kept_by, mode_in, shard_among}
 use Rattle.nfs_engine.specs.Releases.{ReleaseValue}
 use Rattle.nfs_engine.specs.Repeats.{origin_of}
 use Rattle.nfs_engine.specs.declared.release.Then.{Then}
 use Rattle.nfs_engine.specs.declared.release.Then.TheVariants.{Aborted, Ended}
 use Rattle.nfs_schedule.specs.Workers.{WorkerLives, worker_id}
 use Rattle.nfs_schedule.specs.declared.worker.Worker.{Worker}
-use Rattle.nfs_schedule.specs.declared.worker.Worker.TheVariants.{Idle, Trying, Wanting, Wishing, Ready, Blocked, Failing}
+use Rattle.nfs_schedule.specs.declared.worker.Worker.TheVariants.{Idle, Trying, Wanting, Wishing, Ready, Blocked}
+use Rattle.nfs_schedule.specs.declared.worker.Worker.TheVariants.{Failing}
 use Rattle.nfs_schedule.specs.declared.worker.Worker.TheVariants.{Leaving, PutOff, Refusing}
 
 -- each address that was read is seen

@@ -1,5 +1,6 @@
 -- What a turn leaves of the other workers, by what it does.
-use Rattle.std.proofs.Common.{◌≡◌, ◌≢◌, ℕ, zero, suc, ◌<◌, ◌==◌, ◌⊎◌, inl, inr, cond, List, [], ◌∷◌, get_or, set, Option, Some, None, IsSome, refl, sym, ◌∙◌, ap, subst, arith}
+use Rattle.std.proofs.Common.{◌≡◌, ◌≢◌, ℕ, zero, suc, ◌<◌, ◌==◌, ◌⊎◌, inl, inr, cond, List, [], ◌∷◌, get_or, set}
+use Rattle.std.proofs.Common.{Option, Some, None, IsSome, refl, sym, ◌∙◌, ap, subst, arith}
 use Rattle.std.specs.Cmp.{unsigned_Decides}
 use Rattle.std.proofs.lemmas.List.{get_or-set_other}
 use Rattle.nfs_objects.specs.declared.address.Addr.{Addr}
@@ -17,7 +18,8 @@ use Rattle.nfs_schedule.specs.declared.worker.Worker.TheVariants.{Idle}
 -- it is this number, or not
 pub is_number : (o : Option ℕ) (n : ℕ) → (o ≡ Some n) ⊎ (o ≢ Some n)
 is_number None n = inr (λ is. cc)
-is_number (Some m) n = alike_or m n (λ is. inl (ap Some is)) (λ other. inr (λ is. other (let same : m ≡ n = cc in same)))
+is_number (Some m) n = alike_or m n (λ is. inl (ap Some is))
+    (λ other. inr (λ is. other (let same : m ≡ n = cc in same)))
 
 none_is : (o : Option ℕ) (n : ℕ) → o ≡ None → o ≢ Some n
 none_is o n none is = let none : None ≡ Some n = sym none ∙ is in cc
@@ -100,7 +102,8 @@ gone l k id r there same =
     ∙ ap (λ t. cond t (set l k None) l) ((unsigned_Decides r.id id).1 same)
 
 -- the worker's call is no longer in progress
-pub places_without : (e f : EngineValue) (w v : Worker) (k id : ℕ) (o : Option Origin) → IsRunning e k id o → worker_key w ≡ Some k →
+pub places_without : (e f : EngineValue) (w v : Worker) (k id : ℕ) (o : Option Origin) → IsRunning e k id o
+    → worker_key w ≡ Some k →
     f.book.living ≡ without_call e.book.living k id → (key : ℕ) → IsSome (running_at f.book.living key) →
     (worker_key v ≡ Some key) ⊎ (IsSome (running_at e.book.living key) × (worker_key w ≢ Some key))
 places_without e f w v k id o r at is key some =
@@ -116,12 +119,14 @@ places_without e f w v k id o r at is key some =
     ))
 
 -- ---- a call that begins
-pub rest_begun : (e f : EngineValue) (v : Worker) (id key : ℕ) (o : Option Origin) → KeepsOthers id e f → id ≡ e.book.next_id →
+pub rest_begun : (e f : EngineValue) (v : Worker) (id key : ℕ) (o : Option Origin) → KeepsOthers id e f
+    → id ≡ e.book.next_id →
     worker_id v ≡ Some id → worker_key v ≡ Some key → Joins e.book.living f.book.living key id o →
     f.shards ≡ e.shards → KeepsRest e f Idle v
 rest_begun e f v id key o k next has at joins shards = record {
   others = λ u apart lives. worker_on id e f k u
-      (λ j is same. (let below : j < e.book.next_id = worker_known e u j is lives in omega (arith, below, same, next))) lives;
+      (λ j is same. (let below : j < e.book.next_id = worker_known e u j is lives in omega (arith, below, same, next)))
+      lives;
   call = inr (inr (id, has, omega (arith, next)));
   running = λ place some. alike_or place key
       (λ same. inl (at ∙ ap Some (sym same)))

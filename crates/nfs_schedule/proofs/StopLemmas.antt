@@ -130,7 +130,8 @@ stop_left e m f r after p answer leaving lets gone unanswered =
 
 -- its call is done, and is given up with what it was to change
 pub stop_ready : (e f : EngineValue) (done : FinishedValue) (t : TxnValue) (answer : Answer) → t ≡ txn_of done →
-    Lives e (txn_of done) → IsGone e f t.key t.id → IsUnanswered t.received answer → IsStop e f (Ready done) (Some answer)
+    Lives e (txn_of done) → IsGone e f t.key t.id → IsUnanswered t.received answer
+    → IsStop e f (Ready done) (Some answer)
 stop_ready e f done t answer is lives gone unanswered =
     stop_gone e f (Ready done) done.key done.id done.received answer
     (subst (λ (x : TxnValue). IsGone e f x.key x.id) is gone) (origin_of done.received done.done.call)

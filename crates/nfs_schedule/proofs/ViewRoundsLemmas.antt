@@ -185,7 +185,8 @@ module _ (t u : TxnValue) (r : Reserved) (left : ℕ) (is : u ≡ record t { vie
 -- what an attempt on the call's view came to is asked for
 pub asks_need : (t : TxnValue) (call : Call) (ctx : Ctx) (view : ViewValue) (outcome : Outcome)
     (asked : Vec (Addr × Mode) Global) (wanted : List (Addr × Mode)) → Attempts call ctx view outcome →
-    AsksFirst call view outcome → outcome ≡ Need asked → call ≡ t.call → ctx ≡ t.ctx → view ≡ t.view → wanted ≡ asked.items →
+    AsksFirst call view outcome → outcome ≡ Need asked → call ≡ t.call → ctx ≡ t.ctx → view ≡ t.view
+    → wanted ≡ asked.items →
     AsksFor t wanted
 asks_need t call ctx view outcome asked wanted attempts first need called under seen listed = record {
   asked = asked;

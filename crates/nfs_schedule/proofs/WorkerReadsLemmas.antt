@@ -16,7 +16,8 @@ use Rattle.nfs_engine.specs.Holders.{hold_of}
 use Rattle.nfs_engine.specs.Releases.{ReleaseValue}
 use Rattle.nfs_engine.specs.Shards.{SlotValue}
 use Rattle.nfs_schedule.proofs.ArrivalsLemmas.{unacquired, unreserved_same}
-use Rattle.nfs_schedule.proofs.ReadOrderLemmas.{past_first, past_more, read_asked, read_given, read_left, read_more, read_none}
+use Rattle.nfs_schedule.proofs.ReadOrderLemmas.{past_first, past_more, read_asked, read_given, read_left, read_more}
+use Rattle.nfs_schedule.proofs.ReadOrderLemmas.{read_none}
 use Rattle.nfs_schedule.proofs.WorkerStepLemmas.{thinks_on}
 use Rattle.nfs_schedule.specs.Asking.{HasRead, HasReadFirst, IsRead}
 use Rattle.nfs_schedule.specs.Grown.{AsksFor}

@@ -30,7 +30,8 @@ use Rattle.nfs_engine.specs.Arrivals.{ArrivalValue, incoming_value}
 use Rattle.nfs_engine.specs.Book.{BeginsCall, BookValue, GivesUp, Repeats, StillRuns, store_in}
 use Rattle.nfs_engine.specs.Built.{IsBuilt}
 use Rattle.nfs_engine.specs.Calls.{FinishedValue, IsCalled, PendingValue, TxnValue, txn_of}
-use Rattle.nfs_engine.specs.Engine.{EngineValue, IsAcquired, IsLeaving, IsReleased, IsReserved, KeepsAll, KeepsOthers, LeadsTo, Lives, Releases, Waits, held_among, release_of}
+use Rattle.nfs_engine.specs.Engine.{EngineValue, IsAcquired, IsLeaving, IsReleased, IsReserved, KeepsAll, KeepsOthers}
+use Rattle.nfs_engine.specs.Engine.{LeadsTo, Lives, Releases, Waits, held_among, release_of}
 use Rattle.nfs_engine.specs.Releases.{ReleaseValue}
 use Rattle.nfs_engine.specs.Repeats.{RepeatValue, kept_for, origin_in, origin_of}
 use Rattle.nfs_engine.specs.Running.{without_call}
@@ -43,17 +44,21 @@ use Rattle.nfs_engine.specs.declared.shard.ReserveError.{ReserveError}
 use Rattle.nfs_engine.specs.declared.taking.Got.TheVariants as got
 use Rattle.nfs_schedule.proofs.ArrivalsLemmas.{unacquired, unreserved_same}
 use Rattle.nfs_schedule.proofs.OtherCallsLemmas.{all_both}
-use Rattle.nfs_schedule.proofs.OtherWorkersLemmas.{places_same, places_without, rest_all, rest_begun, rest_still, rest_with, rest_without}
+use Rattle.nfs_schedule.proofs.OtherWorkersLemmas.{places_same, places_without, rest_all, rest_begun, rest_still}
+use Rattle.nfs_schedule.proofs.OtherWorkersLemmas.{rest_with, rest_without}
 use Rattle.nfs_schedule.specs.Answers.{IsRefused, IsUnanswered}
 use Rattle.nfs_schedule.specs.Grown.{AsksFor, IsGrown}
-use Rattle.nfs_schedule.specs.Turns.{Admits, Declines, Effect, Executes, IsNamed, IsTurnOf, KeepsBook, KeepsStore, Recalls, TakesFirst, after_all, numbers_taken}
-use Rattle.nfs_schedule.specs.Workers.{Comes, IsSuited, MayTake, MayThink, Thinks, Wants, WorkerLives, after_key, worker_id, worker_key}
+use Rattle.nfs_schedule.specs.Turns.{Admits, Declines, Effect, Executes, IsNamed, IsTurnOf, KeepsBook, KeepsStore}
+use Rattle.nfs_schedule.specs.Turns.{Recalls, TakesFirst, after_all, numbers_taken}
+use Rattle.nfs_schedule.specs.Workers.{Comes, IsSuited, MayTake, MayThink, Thinks, Wants, WorkerLives, after_key}
+use Rattle.nfs_schedule.specs.Workers.{worker_id, worker_key}
 use Rattle.nfs_schedule.specs.declared.answer.Answer.{Answer}
 use Rattle.nfs_schedule.specs.declared.answer.Answer.TheVariants as answers
 use Rattle.nfs_schedule.specs.declared.worker.Afterwards.{Afterwards}
 use Rattle.nfs_schedule.specs.declared.worker.Afterwards.TheVariants.{Again, GiveUp}
 use Rattle.nfs_schedule.specs.declared.worker.Worker.{Worker}
-use Rattle.nfs_schedule.specs.declared.worker.Worker.TheVariants.{Idle, Trying, Wanting, Wishing, Ready, Blocked, Failing}
+use Rattle.nfs_schedule.specs.declared.worker.Worker.TheVariants.{Idle, Trying, Wanting, Wishing, Ready, Blocked}
+use Rattle.nfs_schedule.specs.declared.worker.Worker.TheVariants.{Failing}
 use Rattle.nfs_schedule.specs.declared.worker.Worker.TheVariants.{Leaving, PutOff, Refusing}
 
 -- ---- how what is read is held
@@ -373,7 +378,8 @@ given_up e f p refused answer waits g k shards is =
     let keeps : KeepsStore e f =
     g.rest ∙ ap (λ n. record e.book { living = without_call e.book.living p.key p.id; next_id = n })
     (sym (ap (λ (x : BookValue). x.next_id) g.rest))
-    ∙ ap (λ l. record e.book { living = l; next_id = f.book.next_id }) (sym (ap (λ (x : BookValue). x.living) g.rest)) in
+    ∙ ap (λ l. record e.book { living = l; next_id = f.book.next_id })
+    (sym (ap (λ (x : BookValue). x.living) g.rest)) in
     record {
       lives = tt;
       rest =
@@ -406,7 +412,12 @@ comes_on : (e : EngineValue) (t : TxnValue) (v : Worker) → Comes t v → Worke
     ThinksOn e (Trying t) v
 comes_on e t (Wanting u wanted) c lives =
     subst (λ (x : TxnValue). ThinksOn e (Trying t) (Wanting x wanted)) (sym c.0) (record {
-      lives = (lives.0, lives.1, wants_asked t.call t.view (into_iter_items wanted) lives.1 (asks_all t (into_iter_items wanted) c.1));
+      lives = (
+        lives.0,
+        lives.1,
+        wants_asked t.call t.view (into_iter_items wanted) lives.1
+            (asks_all t (into_iter_items wanted) c.1),
+      );
       ids = refl;
       keys = refl;
     })

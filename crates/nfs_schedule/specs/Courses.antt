@@ -37,7 +37,8 @@ IsAt (Planned plan) t = HasGrown t
 IsAt (Numbers left plan) t = IsNumbering t left
 
 -- ---- the next step
--- An attempt may ask for this address, and the call has it not. Whatever stands there, the call is there once it has it.
+-- An attempt may ask for this address, and the call has it not. Whatever stands there, the call is there once it has
+-- it.
 pub record TakesNext (t : TxnValue) (a : Addr × Mode) (after : Course) : Type 0 where
   pub others : List (Addr × Mode)
   pub asking : IsAsking t (a ∷ others)

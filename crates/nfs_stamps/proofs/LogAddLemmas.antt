@@ -1,5 +1,6 @@
 -- The exchange that adds an entry keeps the rule.
-use Rattle.std.proofs.Common.{◌≡◌, ℕ, ◌+◌, ◌<◌, ◌==◌, Bool, true, false, List, [], ◌∷◌, ◌++◌, length, MatchBool, refl, ap, sym, subst, arith, inl, length-append, None}
+use Rattle.std.proofs.Common.{◌≡◌, ℕ, ◌+◌, ◌<◌, ◌==◌, Bool, true, false, List, [], ◌∷◌, ◌++◌, length, MatchBool, refl}
+use Rattle.std.proofs.Common.{ap, sym, subst, arith, inl, length-append, None}
 use Rattle.std.proofs.lemmas.List.{append-nil}
 use Rattle.std.proofs.lemmas.Bool.Decides.{nat_tests}
 use mathlib.Core.List.{IsPrefix}
@@ -14,8 +15,10 @@ one_of false A B e m = absurd (cc e)
 
 module _ {E : Type 0} where
   -- an exchange that found what it looked for has added the entry
-  pub found_adds : (s : Step E) (v w : View E ℕ) (found : ℕ) → found ≡ s.old → Adds s v found w → w.0 ≡ v.0 ++ s.ask ∷ []
-  found_adds s v w found e a = one_of (found == s.old) (w.0 ≡ v.0 ++ s.ask ∷ []) (length w.0 ≡ found) (grind (arith, nat_tests)) a
+  pub found_adds : (s : Step E) (v w : View E ℕ) (found : ℕ) → found ≡ s.old → Adds s v found w
+      → w.0 ≡ v.0 ++ s.ask ∷ []
+  found_adds s v w found e a = one_of (found == s.old) (w.0 ≡ v.0 ++ s.ask ∷ []) (length w.0 ≡ found)
+      (grind (arith, nat_tests)) a
 
   abbrev pub shown : List E → List E
   shown log = []
@@ -25,11 +28,13 @@ module _ {E : Type 0} where
 
   pub adds_goes : (log v : List E) (e : E) (old : ℕ) → length v ≡ old → IsPrefix v log
       → (b : Bool) → (length log == old) ≡ b
-      → Goes IsKept shown moved 0 (v, (no_nib, None)) (λ n. either (n == old) (old + 1) n) (Adds (step 0 old (old + 1) e) (v, (no_nib, None))) ((length log, true) ∷ (0, true) ∷ []) log
+      → Goes IsKept shown moved 0 (v, (no_nib, None)) (λ n. either (n == old) (old + 1) n)
+      (Adds (step 0 old (old + 1) e) (v, (no_nib, None))) ((length log, true) ∷ (0, true) ∷ []) log
   adds_goes log v e old len pre true is =
       let here : length log ≡ old = grind (arith, nat_tests) in
       let same : v ≡ log = prefix_whole v log pre (omega arith) in
-      let n : either (length log == old) (old + 1) (length log) ≡ length (log ++ e ∷ []) = rw is (omega (arith, length-append log (e ∷ []))) in (
+      let n : either (length log == old) (old + 1) (length log) ≡ length (log ++ e ∷ []) = rw is
+      (omega (arith, length-append log (e ∷ []))) in (
         keeps,
         e ∷ [],
         None,
@@ -52,7 +57,10 @@ module _ {E : Type 0} where
 
   -- whatever the log is, the exchange adds the entry to all that was seen, or finds that the log is longer
   pub adds_moves : (v : List E) (e : E) (old : ℕ) → length v ≡ old
-      → Moves IsKept shown moved 0 (v, (no_nib, None)) (λ n. either (n == old) (old + 1) n) (Adds (step 0 old (old + 1) e) (v, (no_nib, None)))
+      → Moves IsKept shown moved 0 (v, (no_nib, None)) (λ n. either (n == old) (old + 1) n)
+      (Adds (step 0 old (old + 1) e) (v, (no_nib, None)))
   adds_moves v e old len cs log kept pre away =
-      let P : List Cell → Type 0 = λ c. (0 < length c) × ((cell c 0).1 ≡ true) × Goes IsKept shown moved 0 (v, (no_nib, None)) (λ n. either (n == old) (old + 1) n) (Adds (step 0 old (old + 1) e) (v, (no_nib, None))) c log in
+      let P : List Cell → Type 0 = λ c. (0 < length c) × ((cell c 0).1 ≡ true)
+      × Goes IsKept shown moved 0 (v, (no_nib, None)) (λ n. either (n == old) (old + 1) n)
+      (Adds (step 0 old (old + 1) e) (v, (no_nib, None))) c log in
       subst P (sym kept.words) (omega arith, refl, adds_goes log v e old len pre (length log == old) refl)

@@ -34,7 +34,8 @@ stamp_changed m n a o updates b =
     ]
 
 -- nothing changed, where that address had no mark
-pub marked_not : (marks : MarksValue) (a : Addr) (o : Option Writes) → stamp_at marks a ≡ None → IsMarked marks marks a o
+pub marked_not : (marks : MarksValue) (a : Addr) (o : Option Writes) → stamp_at marks a ≡ None
+    → IsMarked marks marks a o
 marked_not marks a o none b s is = elim (is_addr a b) as (λ t. is_addr a b ≡ t → cond t o (stamp_at marks b) ≡ Some s) [
   | true ↦ λ same. absurd (cc (sym is, ap (stamp_at marks) (sym (is_addr-same a b same)), none))
   | false ↦ λ apart. is

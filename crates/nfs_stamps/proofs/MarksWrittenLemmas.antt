@@ -1,5 +1,6 @@
 -- Marks as writes are made, one after the other.
-use Rattle.std.proofs.Common.{◌≡◌, true, false, Bool, cond, List, [], ◌∷◌, ◌++◌, Option, None, Some, refl, sym, ◌∙◌, ap, subst, ◌&&◌}
+use Rattle.std.proofs.Common.{◌≡◌, true, false, Bool, cond, List, [], ◌∷◌, ◌++◌, Option, None, Some, refl, sym, ◌∙◌, ap}
+use Rattle.std.proofs.Common.{subst, ◌&&◌}
 use Rattle.std.specs.Prelude.{IfSome, is_some}
 use Rattle.nfs_objects.proofs.SeenLemmas.{is_addr-same, written-append, written-none, written-or}
 use Rattle.nfs_objects.specs.Values.{is_addr, written_at}
@@ -13,7 +14,8 @@ mark_after here stamp old made b = cond (here b && is_some (written_at None made
 
 -- marks are so, where there are any
 abbrev pub IsAfter : (Addr → Bool) → Option Writes → MarksValue → MarksValue → Writes → Type 0
-IsAfter here stamp old new made = (b : Addr) (s : Writes) → stamp_at new b ≡ Some s → mark_after here stamp old made b ≡ Some s
+IsAfter here stamp old new made = (b : Addr) (s : Writes) → stamp_at new b ≡ Some s
+    → mark_after here stamp old made b ≡ Some s
 
 pub after_none : (here : Addr → Bool) (stamp : Option Writes) (marks : MarksValue) → IsAfter here stamp marks marks []
 after_none here stamp marks b s is = elim (here b) as (λ t. cond (t && false) stamp (stamp_at marks b) ≡ Some s) [
@@ -21,7 +23,8 @@ after_none here stamp marks b s is = elim (here b) as (λ t. cond (t && false) s
   | false ↦ is
 ]
 
-module _ (here : Addr → Bool) (stamp : Option Writes) (old now : MarksValue) (made : Writes) (a : Addr) (o : Option Object) where
+module _ (here : Addr → Bool) (stamp : Option Writes) (old now : MarksValue) (made : Writes) (a : Addr)
+    (o : Option Object) where
   more : (b : Addr) → written_at None (made ++ (a, o) ∷ []) b ≡ cond (is_addr a b) (Some o) (written_at None made b)
   more b = written-append made None a o b
 
@@ -51,7 +54,8 @@ module _ (here : Addr → Bool) (stamp : Option Writes) (old now : MarksValue) (
             → cond (here b && is_some w) stamp (stamp_at old b) ≡ Some s
         apart_here b s is elsewhere w =
             ap (λ t. cond (t && is_some w) stamp (stamp_at old b)) elsewhere
-            ∙ sym (ap (λ t. cond (t && is_some (written_at None made b)) stamp (stamp_at old b)) elsewhere) ∙ after b s is
+            ∙ sym (ap (λ t. cond (t && is_some (written_at None made b)) stamp (stamp_at old b)) elsewhere)
+            ∙ after b s is
 
 -- once all are made the marks are those of what stands there
 pub after_all : (here : Addr → Bool) (stamp : Option Writes) (old new : MarksValue) (writes : Writes)

@@ -1,5 +1,6 @@
 -- Notes beside a view, as it grows.
-use Rattle.std.proofs.Common.{◌≡◌, ℕ, zero, suc, ◌+◌, ◌≤◌, List, [], ◌∷◌, ◌++◌, length, length-append, Option, None, Some, slice_get, refl, sym, ◌∙◌, ap, subst, arith}
+use Rattle.std.proofs.Common.{◌≡◌, ℕ, zero, suc, ◌+◌, ◌≤◌, List, [], ◌∷◌, ◌++◌, length, length-append, Option, None}
+use Rattle.std.proofs.Common.{Some, slice_get, refl, sym, ◌∙◌, ap, subst, arith}
 use Rattle.std.specs.Prelude.{IfSome}
 use Rattle.nfs_objects.specs.Values.{Seen, written_at}
 use Rattle.nfs_objects.specs.declared.address.Addr.{Addr}
@@ -31,7 +32,8 @@ told_next : (notes : NotesValue) (entries : List Seen) (n : Option Writes) (e : 
     → Told notes entries → IfSome n (λ s. Puts s e.address e.object) → Told (notes ++ n ∷ []) (entries ++ e ∷ [])
 told_next [] [] None e len told puts zero s f note is = absurd (cc note)
 told_next [] [] (Some t) e len told puts zero s f note is =
-    subst (λ w. Puts w f.address f.object) (one t s note) (subst (λ g. Puts t g.address g.object) (one e f is) puts) where
+    subst (λ w. Puts w f.address f.object) (one t s note) (subst (λ g. Puts t g.address g.object) (one e f is)
+    puts) where
       one : {X : Type 0} (x y : X) → Some x ≡ Some y → x ≡ y
       one x y same = cc same
 told_next [] [] n e len told puts (suc k) s f note is = absurd (cc is)
@@ -41,8 +43,10 @@ told_next (m ∷ ms) (y ∷ ys) n e len told puts zero s f note is = told zero s
 told_next (m ∷ ms) (y ∷ ys) n e len told puts (suc k) s f note is =
     told_next ms ys n e (omega (arith, len)) (λ i t g u v. told (suc i) t g u v) puts k s f note is
 
-pub notes_next : (notes : NotesValue) (entries : List Seen) (n : Option Writes) (e : Seen) → length notes ≡ length entries
-    → AreNotes notes entries → IfSome n (λ s. Puts s e.address e.object) → AreNotes (notes ++ n ∷ []) (entries ++ e ∷ [])
+pub notes_next : (notes : NotesValue) (entries : List Seen) (n : Option Writes) (e : Seen)
+    → length notes ≡ length entries
+    → AreNotes notes entries → IfSome n (λ s. Puts s e.address e.object)
+    → AreNotes (notes ++ n ∷ []) (entries ++ e ∷ [])
 notes_next notes entries n e len are puts = record {
   short = omega (arith, len, length-append notes (n ∷ []), length-append entries (e ∷ []));
   told = told_next notes entries n e len are.told puts;

@@ -23,7 +23,8 @@ use Rattle.nfs_objects.specs.declared.change.Halt.{Halt}
 use Rattle.nfs_inodes.proofs.BucketPutLemmas.{bucket-stands}
 use Rattle.nfs_inodes.proofs.LocksPlaceLemmas.{locks-stop-behind}
 use Rattle.nfs_inodes.specs.Stops.{StopsAt}
-use Rattle.nlm_daemon.proofs.AnsweredGrantLemmas.{NoGrant, all-has, its-host, no-number, none-answered, other-host, pending-none}
+use Rattle.nlm_daemon.proofs.AnsweredGrantLemmas.{NoGrant, all-has, its-host, no-number, none-answered, other-host}
+use Rattle.nlm_daemon.proofs.AnsweredGrantLemmas.{pending-none}
 use Rattle.nlm_daemon.proofs.AnsweredGrantLemmas.{pending-now}
 use Rattle.nlm_daemon.proofs.BucketFilesLemmas.{placed-lives}
 use Rattle.nlm_daemon.specs.Granted.{FindsGrant, HasGrant, IsPendingNow, grant_of, grant_places}

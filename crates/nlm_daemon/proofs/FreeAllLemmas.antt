@@ -26,8 +26,10 @@ use Rattle.nlm_ranges.specs.declared.file.Settled.{Settled}
 use Rattle.nfs_inodes.proofs.BucketStoreLemmas.{cons-cases, later}
 use Rattle.nfs_inodes.specs.Locks.{AreOwnNumbers, HasLocks, IsFileAt, MayAllHave, with_file, with_files}
 use Rattle.nlm_daemon.proofs.AnsweredGrantLemmas.{nothing-in}
-use Rattle.nlm_daemon.proofs.FilesTellStateLemmas.{IsLaid, filter-has, laid-as, laid-freed, laid-has, laid-put, laid-same, put_there}
-use Rattle.nlm_daemon.proofs.GrantOwnerLemmas.{AllMine, IsMine, grants_told, own-mine, settles-held, settles-waited, tried-own}
+use Rattle.nlm_daemon.proofs.FilesTellStateLemmas.{IsLaid, filter-has, laid-as, laid-freed, laid-has, laid-put}
+use Rattle.nlm_daemon.proofs.FilesTellStateLemmas.{laid-same, put_there}
+use Rattle.nlm_daemon.proofs.GrantOwnerLemmas.{AllMine, IsMine, grants_told, own-mine, settles-held, settles-waited}
+use Rattle.nlm_daemon.proofs.GrantOwnerLemmas.{tried-own}
 use Rattle.nlm_daemon.proofs.GrantOwnerLemmas.{tried-settles}
 use Rattle.nlm_daemon.specs.Freeing.{AreFreed, AreRising, AreSettled, of_bucket}
 

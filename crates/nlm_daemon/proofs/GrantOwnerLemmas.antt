@@ -23,8 +23,10 @@ use Rattle.nlm_ranges.specs.declared.file.Settled.{Settled}
 use Rattle.nfs_objects.specs.Stands.{IsPendingIn}
 use Rattle.nfs_inodes.proofs.BucketStoreLemmas.{cons-cases, later}
 use Rattle.nfs_inodes.specs.Locks.{AreOwnNumbers, HasLocks, with_file}
-use Rattle.nlm_daemon.proofs.FilesTellStateLemmas.{AreFresh, IsLaid, SameLists, ended-still, fewer_grants, filter-has, laid-as}
-use Rattle.nlm_daemon.proofs.FilesTellStateLemmas.{laid-ended, laid-granted, laid-known, laid-put, laid-removed, laid-same, put-has}
+use Rattle.nlm_daemon.proofs.FilesTellStateLemmas.{AreFresh, IsLaid, SameLists, ended-still, fewer_grants, filter-has}
+use Rattle.nlm_daemon.proofs.FilesTellStateLemmas.{laid-as}
+use Rattle.nlm_daemon.proofs.FilesTellStateLemmas.{laid-ended, laid-granted, laid-known, laid-put, laid-removed}
+use Rattle.nlm_daemon.proofs.FilesTellStateLemmas.{laid-same, put-has}
 use Rattle.nlm_daemon.proofs.FilesTellStateLemmas.{put_there}
 
 -- ---- how often a number is used

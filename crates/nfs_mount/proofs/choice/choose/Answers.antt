@@ -6,7 +6,8 @@ use Rattle.nfs_mount.proofs.choice.choose.Goals as goal
 
 pub loop-export-preserved : goal.loop-export-preserved
 loop-export-preserved c =
-    let at = slice_get_read c.args.exports.now _ c.loop-export.export-index _ refl c.loop-export-test.true c.export-item.is in
+    let at = slice_get_read c.args.exports.now _ c.loop-export.export-index _ refl c.loop-export-test.true
+    c.export-item.is in
     rw c.deeper-best.ensures
     (best_step c.args.exports.now c.args.host.now (parts c.args.path.now) c.loop-export.export-index
     c.export-item.result at _ _ c.loop-export.invariant c.lead.ensures)

@@ -24,13 +24,15 @@ returns-in_default c =
 pub returns-in_default-directory : goal.returns-in_default-directory
 returns-in_default-directory c =
     other-told c.args.draft.now c.args.root c.args.names c.names.number c.names.names c.names.invariant.on
-    c.in-Some.object (λ s k w. subst (IsObject k.state c.names.number) c.in-Some.is (c.in_ok-object.ensures.object s k w))
+    c.in-Some.object (λ s k w. subst (IsObject k.state c.names.number) c.in-Some.is
+    (c.in_ok-object.ensures.object s k w))
     c.directory.result c.in_default-directory.not-Ok c.directory.ensures.checks
 
 pub returns-in_default-next : goal.returns-in_default-next
 returns-in_default-next c =
     end-there c.args.draft.now c.args.root c.args.names c.names.number c.names.names c.names.invariant.on
-    c.in-Some.object (λ s k w. subst (IsObject k.state c.names.number) c.in-Some.is (c.in_ok-object.ensures.object s k w))
+    c.in-Some.object (λ s k w. subst (IsObject k.state c.names.number) c.in-Some.is
+    (c.in_ok-object.ensures.object s k w))
     c.in-Ok.ensures.checks c.in_default-next.ensures.steps.0
 
 pub returns-in_err-next : goal.returns-in_err-next
@@ -45,7 +47,8 @@ returns-in_err-next c =
 pub returns-in_default-2 : goal.returns-in_default-2
 returns-in_default-2 c =
     name-absent c.args.draft.now c.args.root c.args.names c.names.number c.names.names c.names.invariant.on
-    c.in-Some.object (λ s k w. subst (IsObject k.state c.names.number) c.in-Some.is (c.in_ok-object.ensures.object s k w))
+    c.in-Some.object (λ s k w. subst (IsObject k.state c.names.number) c.in-Some.is
+    (c.in_ok-object.ensures.object s k w))
     c.in-Ok.ensures.checks _ _ c.in-Some-next.ensures.steps c.in_ok-next.field-0
     (subst (λ (x : Known). Knows c.args.draft.now (λ k. option_map (λ (e : Entry). e.number)
     (entry_of (entries_of (content_at k.state x.number)) c.in-Some-next.name.now) ≡ c.in_ok-next.field-0))
@@ -54,7 +57,8 @@ returns-in_default-2 c =
 pub names-preserved : goal.names-preserved
 names-preserved c = record {
   on = name-there c.args.draft.now c.args.root c.args.names c.names.number c.names.names c.names.invariant.on
-      c.in-Some.object (λ s k w. subst (IsObject k.state c.names.number) c.in-Some.is (c.in_ok-object.ensures.object s k w))
+      c.in-Some.object (λ s k w. subst (IsObject k.state c.names.number) c.in-Some.is
+      (c.in_ok-object.ensures.object s k w))
       c.in-Ok.ensures.checks _ _ c.in-Some-next.ensures.steps c.in_ok-next.field-0
       (subst (λ (x : Known). Knows c.args.draft.now (λ k. option_map (λ (e : Entry). e.number)
       (entry_of (entries_of (content_at k.state x.number)) c.in-Some-next.name.now) ≡ c.in_ok-next.field-0))

@@ -6,7 +6,8 @@ use Rattle.nfs_mount.proofs.paths.names_below.Goals as goal
 pub returns-in_err-next : goal.returns-in_err-next
 returns-in_err-next c =
     let short = behind_short _ _ _ _ c.in-Some.ensures.steps c.in_err-next.ensures.steps.0 in
-    rw c.from_residual.ensures (behind_none (parts c.args.export.now) (parts c.args.path.now) (sym c.loop-own.invariant.2 ∙ short))
+    rw c.from_residual.ensures (behind_none (parts c.args.export.now) (parts c.args.path.now)
+    (sym c.loop-own.invariant.2 ∙ short))
 
 pub returns-then-ne : goal.returns-then-ne
 returns-then-ne c =

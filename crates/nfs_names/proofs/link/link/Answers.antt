@@ -34,7 +34,8 @@ pub returns-in_err-entry : goal.returns-in_err-entry
 returns-in_err-entry c =
     let p = err_from_is_err_and c.from_residual-in_err-entry.result c.from_residual-in_err-entry.ensures.1 in
     let entry = rw c.in-Ok.ensures.known at c.in_err-entry.ensures.entry in
-    rw (p.1, p.2) (any-stops c.args.draft.now (addresses.Exports ∷ added_at c.args.draft.now.view c.args.arguments.now.place) _
+    rw (p.1, p.2) (any-stops c.args.draft.now (addresses.Exports ∷ added_at c.args.draft.now.view
+    c.args.arguments.now.place) _
     (lives-stops c.args.draft.now c.args.known.now.number _
     (known-lives c.args.draft.now c.args.known.now c.requires.none (λ s k w. (c.requires.directory s k w).known))
     entry))
@@ -64,7 +65,8 @@ pub returns-in_err-cookie : goal.returns-in_err-cookie
 returns-in_err-cookie c =
     let p = err_from_is_err_and c.from_residual-in_err-cookie.result c.from_residual-in_err-cookie.ensures.1 in
     let stops = rw c.in-Ok.ensures.known at c.in_err-cookie.ensures.cookie in
-    rw (p.1, p.2) (any-stops c.args.draft.now (addresses.Exports ∷ added_at c.args.draft.now.view c.args.arguments.now.place) _
+    rw (p.1, p.2) (any-stops c.args.draft.now (addresses.Exports ∷ added_at c.args.draft.now.view
+    c.args.arguments.now.place) _
     (lives-stops c.args.draft.now c.args.known.now.number _
     (known-lives c.args.draft.now c.args.known.now c.requires.none (λ s k w. (c.requires.directory s k w).known))
     stops))
@@ -109,4 +111,5 @@ returns c =
     (rw (c.in-Ok.ensures.known, c.as_slice-name.ensures) at c.in_ok-add_link.ensures)
 
 pub add_link-requires-clause-shown : goal.add_link-requires-clause-shown
-add_link-requires-clause-shown c = subst (λ (z : Known). IsShown c.args.draft.now z) (sym c.in-Ok.ensures.known) c.requires.shown
+add_link-requires-clause-shown c = subst (λ (z : Known). IsShown c.args.draft.now z) (sym c.in-Ok.ensures.known)
+    c.requires.shown

@@ -62,8 +62,10 @@ returns-in-None c =
     (rw (c.ctx.ensures, c.as_slice-name.ensures, c.in-Ok.is) at c.addable.ensures.checks) _ c.in-Ok.ensures.wanted
     c.make_new.new.draft c.make_new.result c.requires.usage c.requires.number
     (rw (c.in-Ok.ensures.known, c.as_slice-name.ensures, c.in-None.is) at c.in_ok-number.ensures.entry)
-    (new-as d c.make_new.new.draft c.make_new.result (wanted_as c.in-Ok.accepted.wanted) c.in-Ok.accepted.directory.known
+    (new-as d c.make_new.new.draft c.make_new.result (wanted_as c.in-Ok.accepted.wanted)
+    c.in-Ok.accepted.directory.known
     c.args.known.now _ c.args.place.now.name c.in-Ok.ensures.known c.as_slice-name.ensures c.make_new.ensures)
 
 pub make_new-requires-clause-shown : goal.make_new-requires-clause-shown
-make_new-requires-clause-shown c = subst (λ (z : Known). IsShown c.args.draft.now z) (sym c.in-Ok.ensures.known) c.requires.shown
+make_new-requires-clause-shown c = subst (λ (z : Known). IsShown c.args.draft.now z) (sym c.in-Ok.ensures.known)
+    c.requires.shown

@@ -59,4 +59,5 @@ returns c =
     (rw c.in-Ok.ensures.known at c.in_ok-give_size.ensures) c.in_ok-made.field-0 c.in_ok-made.ensures.made
 
 pub give_size-requires-clause-shown : goal.give_size-requires-clause-shown
-give_size-requires-clause-shown c = subst (λ (z : Known). IsShown c.args.draft.now z) (sym c.in-Ok.ensures.known) (rw c.in-Some.is at c.in_ok-object.ensures.shown)
+give_size-requires-clause-shown c = subst (λ (z : Known). IsShown c.args.draft.now z) (sym c.in-Ok.ensures.known)
+    (rw c.in-Some.is at c.in_ok-object.ensures.shown)

@@ -35,7 +35,8 @@ loop-entry-preserved c =
     let old = c.loop-entry.entries.items in
     let done = map listed_entry old in
     let next = listed_entry c.in-Some.entry in
-    let longer = ap (map listed_entry) c.in_ok-push.ensures.items ∙ map-append listed_entry old (c.in-Some.entry ∷ []) in
+    let longer = ap (map listed_entry) c.in_ok-push.ensures.items
+    ∙ map-append listed_entry old (c.in-Some.entry ∷ []) in
     let sized = sizes-more c.args.budget done next c.loop-entry.sizes c.with_entry-sizes.result
     c.loop-entry.invariant.sized c.with_entry-sizes.ensures.whole c.with_entry-sizes.ensures.names
     ∙ ap (sizes_of c.args.budget) (sym longer) in

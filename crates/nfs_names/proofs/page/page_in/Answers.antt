@@ -26,5 +26,6 @@ returns-clause-page c =
 
 pub returns-clause-lives : goal.returns-clause-lives
 returns-clause-lives c =
-    front-lives c.args.draft.now.view (fit_of c.args.asked.now.budget) c.in_ok-left.left.entries _ c.in_ok-left.ensures.lives
+    front-lives c.args.draft.now.view (fit_of c.args.asked.now.budget) c.in_ok-left.left.entries _
+    c.in_ok-left.ensures.lives
     c.in_ok-longest_page.ensures

@@ -69,4 +69,5 @@ returns c =
     (rw (c.in-Ok.ensures.known, c.as_slice-name.ensures) at c.in_ok-take_name.ensures)
 
 pub take_name-requires-clause-shown : goal.take_name-requires-clause-shown
-take_name-requires-clause-shown c = subst (λ (z : Known). IsShown c.args.draft.now z) (sym c.in-Ok.ensures.known) c.requires.shown
+take_name-requires-clause-shown c = subst (λ (z : Known). IsShown c.args.draft.now z) (sym c.in-Ok.ensures.known)
+    c.requires.shown

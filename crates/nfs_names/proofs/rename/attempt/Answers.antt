@@ -30,9 +30,11 @@ attempt_from-requires-clause-number c =
 pub returns-in-Ok-clause-first : goal.returns-in-Ok-clause-first
 returns-in-Ok-clause-first c =
     first-known c.args.draft.modes (modes_of (calls.Nfs (nfs.Rename c.args.arguments.now)))
-    c.args.draft.view (first_wanted_with c.args.draft.view (c.args.arguments.now.from.directory ∷ [])) c.in_ok-from.field-0
+    c.args.draft.view (first_wanted_with c.args.draft.view (c.args.arguments.now.from.directory ∷ []))
+    c.in_ok-from.field-0
     c.attempt_from.result
-    (subst (λ h. HaltsFirst c.args.draft.modes c.args.draft.view (first_wanted_with c.args.draft.view (h ∷ [])) (Ok c.in_ok-from.field-0))
+    (subst (λ h. HaltsFirst c.args.draft.modes c.args.draft.view (first_wanted_with c.args.draft.view (h ∷ []))
+    (Ok c.in_ok-from.field-0))
     c.as_slice.ensures
     c.in_ok-from.ensures.first)
 

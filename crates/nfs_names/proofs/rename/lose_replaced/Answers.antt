@@ -12,7 +12,8 @@ pub returns-in-Some : goal.returns-in-Some
 returns-in-Some c =
     rw c.in-Some.is
     (always-counting c.args.draft.now c.in-Some.replaced.number _ c.lose_link.result
-    (rw c.in-Some.is at c.requires.lives) (rw c.in-Some.is at c.requires.counts) (rw c.names_counted.ensures at c.lose_link.ensures))
+    (rw c.in-Some.is at c.requires.lives) (rw c.in-Some.is at c.requires.counts)
+    (rw c.names_counted.ensures at c.lose_link.ensures))
 
 pub returns-in-None : goal.returns-in-None
 returns-in-None c = rw c.in-None.is (turns-none c.args.draft.now)

@@ -71,7 +71,8 @@ lose_replaced-requires-clause-counts c =
     let now = time_of c.args.draft.now.ctx.moment in
     let r = c.args.renaming.now in
     over-counts c.args.draft.now c.rehome.new.draft
-    (λ k. rehomed now r.moved.number r.to.known.number (entry_moved now c.args.arguments.now r c.args.cookie k)) r.replaced
+    (λ k. rehomed now r.moved.number r.to.known.number (entry_moved now c.args.arguments.now r c.args.cookie k))
+    r.replaced
     c.requires.none
     (turned-both c.args.draft.now c.move_entry.new.draft c.rehome.new.draft
     (entry_moved now c.args.arguments.now r c.args.cookie) (λ t. rehomed t r.moved.number r.to.known.number)

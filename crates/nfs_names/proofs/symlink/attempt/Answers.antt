@@ -20,4 +20,5 @@ pub returns-clause-ends : goal.returns-clause-ends
 returns-clause-ends c =
     rw c.answer.ensures.value
     (symlink-promised c.args.draft c.make.new.draft c.in_ok-reply.reply c.answer.ensures.held c.answer.ensures.given
-    c.args.arguments.now c.requires (rw (c.link_wanted-wanted.ensures, c.as_slice.ensures) at c.in_ok-reply.ensures.answers))
+    c.args.arguments.now c.requires (rw (c.link_wanted-wanted.ensures, c.as_slice.ensures) at
+    c.in_ok-reply.ensures.answers))

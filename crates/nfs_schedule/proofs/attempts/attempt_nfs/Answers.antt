@@ -6,4 +6,5 @@ pub attempt-requires-clause-names : goal.attempt-requires-clause-names
 attempt-requires-clause-names c = sym c.is_name_call.ensures ∙ c.if-is_name_call.true
 
 pub attempt-requires-else-is_name_call-clause-data : goal.attempt-requires-else-is_name_call-clause-data
-attempt-requires-else-is_name_call-clause-data c = built-data _ c.requires.built (sym c.is_name_call.ensures ∙ c.if-is_name_call.false)
+attempt-requires-else-is_name_call-clause-data c = built-data _ c.requires.built (sym c.is_name_call.ensures
+    ∙ c.if-is_name_call.false)

@@ -10,7 +10,8 @@ returns-in-More c = released_more _ _ _ _ c.in-More.ensures.others c.in-More.ens
 
 pub returns-in-Aborted : goal.returns-in-Aborted
 returns-in-Aborted c =
-    subst (λ (v : Worker). IsTurnOf c.args.engine.now c.release.new.self 0 (Leaving c.args.release c.args.afterwards) v None)
+    subst (λ (v : Worker). IsTurnOf c.args.engine.now c.release.new.self 0 (Leaving c.args.release c.args.afterwards)
+    v None)
     (sym c.begin_again.ensures)
     (released_to _ _ _ _ c.in-Aborted.ensures.others c.in-Aborted.ensures.book c.requires _ c.in-Aborted.ensures.next)
 

@@ -1,6 +1,7 @@
 use Rattle.std.proofs.lemmas.Result.{err_from_is_err_and}
 use Rattle.side_wire.specs.declared.nlm.NlmStatus.TheVariants as statuses
-use Rattle.nlm_daemon.proofs.NlmWantsLemmas.{alone-ends, alone-first, alone-never, asks-nothing, ends-memory, granting-of}
+use Rattle.nlm_daemon.proofs.NlmWantsLemmas.{alone-ends, alone-first, alone-never, asks-nothing, ends-memory}
+use Rattle.nlm_daemon.proofs.NlmWantsLemmas.{granting-of}
 use Rattle.nlm_daemon.proofs.NlmHandleLemmas.{first-past}
 use Rattle.nlm_daemon.proofs.NlmAnswerLemmas.{denied-promised, step-denied}
 use Rattle.nlm_daemon.specs.Answering.{IsAnswered, granting_call}

@@ -17,7 +17,8 @@ compare_exchange-found-requires g c =
       same,
       pen.0 ∙ same,
       offer.0,
-      rw (ap (λ w. w.key) h, pen.1, offer.1, offer.3) (adds_moves c.load-next.new.seen.log (map write_value c.args.writes.now) c.load-next.result load.6.1),
+      rw (ap (λ w. w.key) h, pen.1, offer.1, offer.3)
+          (adds_moves c.load-next.new.seen.log (map write_value c.args.writes.now) c.load-next.result load.6.1),
     )
 
 pub returns : goal.returns
@@ -25,6 +26,12 @@ returns g c =
     let offer = c.plain-offer.ensures in
     let log = c.load-next.new.seen.log in
     let added : c.compare_exchange-found.new.seen.log ≡ log ++ (map write_value c.args.writes.now) ∷ [] =
-    found_adds (step c.args.self.now.head.key c.load-next.result (c.load-next.result + 1) c.plain-offer.result.ask) (log, (c.no_pen-pen.result.nib, c.plain-offer.result.state)) (c.compare_exchange-found.new.seen.log, (c.compare_exchange-found.new.pen.nib, c.compare_exchange-found.new.offer.state)) c.compare_exchange-found.result c.if-found-next.false c.compare_exchange-found.ensures.7
+    found_adds (step c.args.self.now.head.key c.load-next.result (c.load-next.result + 1) c.plain-offer.result.ask)
+    (log, (c.no_pen-pen.result.nib, c.plain-offer.result.state)) (
+      c.compare_exchange-found.new.seen.log,
+      (c.compare_exchange-found.new.pen.nib, c.compare_exchange-found.new.offer.state),
+    )
+    c.compare_exchange-found.result c.if-found-next.false c.compare_exchange-found.ensures.7
     ∙ ap (λ o. log ++ o ∷ []) offer.1 in
-    subst (λ l. slice_get l c.load-next.result ≡ Some (map write_value c.args.writes.now)) (sym added) (get_last log (map write_value c.args.writes.now) c.load-next.result c.load-next.ensures.6.1)
+    subst (λ l. slice_get l c.load-next.result ≡ Some (map write_value c.args.writes.now)) (sym added)
+    (get_last log (map write_value c.args.writes.now) c.load-next.result c.load-next.ensures.6.1)

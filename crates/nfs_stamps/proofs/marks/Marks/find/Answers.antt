@@ -11,4 +11,5 @@ returns-then-not-is_large g c =
 pub returns : goal.returns
 returns g c =
     c.get.ensures.value
-    ∙ (sym (stamp_lookup c.args.address c.self.inside.stamps.entries) ∙ ap (λ m. stamp_at m c.args.address) c.self.view_is)
+    ∙ (sym (stamp_lookup c.args.address c.self.inside.stamps.entries)
+    ∙ ap (λ m. stamp_at m c.args.address) c.self.view_is)

@@ -13,6 +13,7 @@ returns g c is =
     subst (λ n. IsSome (slice_get two.known.seen.log n)) (sym same) c.other.invariant in
     sym c.self.view_is
     ∙ (ap (λ o. unwrap_or o [])
-    (some_same (slice_get one.known.seen.log one.number) (slice_get two.known.seen.log one.number) c.self.invariant there
+    (some_same (slice_get one.known.seen.log one.number) (slice_get two.known.seen.log one.number)
+    c.self.invariant there
     c.agree.ensures
     ∙ ap (λ n. slice_get two.known.seen.log n) same) ∙ c.other.view_is)
