@@ -1,9 +1,9 @@
 //! The call that replaces the exports.
 
-ghost use Rattle.std.specs.Prelude.{◌≡◌, ◌+◌, ◌<◌, ◌^◌, MatchResult, OnOk, length};
+ghost use Rattle.std.specs.Prelude.{◌+◌, ◌<◌, ◌^◌, MatchResult, OnOk, length};
 ghost use Rattle.std.specs.List.{AllByRecursion};
 ghost use Rattle.nfs_machine.specs.Times.{time_of};
-ghost use Rattle.nfs_objects.specs.Attempt.{AsksFirst, Attempts, EndsCall, EndsFirst, HaltsFirst, unless_seen};
+ghost use Rattle.nfs_objects.specs.Attempt.{EndsCall, EndsFirst, HaltsFirst, unless_seen};
 ghost use Rattle.nfs_objects.specs.Begins.{Begins};
 ghost use Rattle.nfs_objects.specs.Bound.{HasNumbers};
 ghost use Rattle.nfs_objects.specs.Calls.{root_usages};

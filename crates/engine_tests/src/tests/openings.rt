@@ -1,8 +1,6 @@
 //! What an engine starts with, and how it ends.
 
-ghost use Rattle.std.specs.Prelude.{◌≡◌, IfOk};
-ghost use Rattle.nfs_engine.specs.Engine.{CountsLocked};
-ghost use Rattle.nfs_engine.specs.Running.{living_count};
+ghost use Rattle.std.specs.Prelude.{IfOk};
 ghost use Rattle.nfs_schedule.specs.Worlds.{IsAtRest};
 
 use super::records::moment;

@@ -1,8 +1,8 @@
 //! Changes of objects: bytes, links, names, and new files (RFC 1813, 2.5: mtime, ctime).
 
-ghost use Rattle.std.specs.Prelude.{◌≡◌, [], IfOk, IfSome, OnOk};
+ghost use Rattle.std.specs.Prelude.{◌≡◌, [], IfOk, IfSome};
 ghost use Rattle.nfs_objects.specs.Knows.{ShowsExport};
-ghost use Rattle.nfs_objects.specs.Modes.{Suits, changing};
+ghost use Rattle.nfs_objects.specs.Modes.{changing};
 ghost use Rattle.nfs_inodes.specs.Kinds.{IsShown};
 
 use super::*;
