@@ -2,6 +2,8 @@
 use Rattle.std.specs.Prelude.{◌≡◌, ℕ, ◌+◌, ◌<◌, ◌≤◌, Bool, true, ◌&&◌, List, [], ◌∷◌}
 use Rattle.std.specs.Prelude.{length, nat_eq}
 use Rattle.std.specs.Cmp.Lexicographic.{bytes_decides, nat_list_eq_equiv, pointwise}
+use Rattle.std.specs.Hash as fed
+use Rattle.std.specs.Hash.DefaultHasher as sip
 use Rattle.std.specs.List.{IsDistinct, flat_map}
 use Rattle.std.proofs.Common.{ap, sym, ◌∙◌}
 use Rattle.std.proofs.lemmas.Bool.{and_parts}
@@ -12,6 +14,14 @@ use Rattle.side_wire.specs.declared.mount.lists.MountBody.{MountBody}
 -- a host that mounted a path
 abbrev pub mounted : List ℕ → List ℕ → MountBody
 mounted host path = record { hostname = host; directory = path }
+
+-- the hash of a host and a path: SipHash-1-3 of all their bytes
+unfoldable pub mount_digest : List ℕ → List ℕ → ℕ
+mount_digest host path = sip.finish (sip.write (sip.write sip.initial host) path)
+
+-- what a table is given of them: that number, in one write
+abbrev pub mount_input : List ℕ → List ℕ → List (List ℕ)
+mount_input host path = fed.u64 (mount_digest host path)
 
 -- pieces, one behind the other
 abbrev pub joined : {X : Type 0} → List (List X) → List X

@@ -6,13 +6,13 @@ ghost use Rattle.std.specs.Arc.{arc_value};
 ghost use Rattle.std.specs.Cmp.Lexicographic.{pointwise};
 ghost use Rattle.std.specs.List.{list_any};
 ghost use Rattle.nfs_objects.specs.Leaving.{leaves};
-ghost use Rattle.nfs_objects.specs.MountTables.{AreDistinct, ArePacked, joined};
+ghost use Rattle.nfs_objects.specs.MountTables.{AreDistinct, ArePacked, joined, mount_digest};
 ghost use Rattle.nfs_objects.specs.Same.{same_mount};
 
 use bytes::Bytes;
 use indexmap::{Equivalent, IndexSet};
 use std::alloc::{AllocError, Global};
-use std::hash::{Hash, Hasher};
+use std::hash::{DefaultHasher, Hash, Hasher};
 use std::marker::Model;
 use std::sync::Arc;
 
@@ -24,22 +24,72 @@ pub const MOUNT_LIMIT: usize = 65536;
 /// the first too, or the first two.
 const PIECE_LIMIT: usize = 256;
 
-/// A host that mounted a path, as it sent it. A clause sees it as the machine does.
-#[derive(Drop, PartialEq, Eq, Hash)]
+/// The hash of a host and a path. It reads all of their bytes, eight at a time.
+#[tactic(auto, unfolding(crate::specs::MountTables::mount_digest))]
+fn mount_digest(host: &[u8], path: &[u8]) -> u64
+    ensures { result ≡ mount_digest host.now path.now }
+{
+    let mut hasher = DefaultHasher::new();
+    hasher.write(host);
+    hasher.write(path);
+    hasher.finish()
+}
+
+/// A host that mounted a path, as it sent it, with the hash of both, which is taken once and kept beside them. A clause
+/// sees it as the machine does.
+#[derive(Drop)]
 pub struct Mount {
     host: Bytes,
     path: Bytes,
+    hash: u64,
 }
 
 impl Model for Mount {
+    ghost use Rattle.std.specs.Prelude.{◌≡◌};
     ghost use Rattle.side_wire.specs.declared.mount.lists.MountBody.{MountBody};
-    ghost use Rattle.nfs_objects.specs.MountTables.{mounted};
+    ghost use Rattle.nfs_objects.specs.MountTables.{mount_digest, mounted};
 
     ghost Value = { MountBody };
 
     ghost view = { λ m. mounted m.host m.path };
 
-    ghost inverse = { λ m. record { host = m.hostname; path = m.directory } };
+    ghost invariant = { λ m. m.hash ≡ mount_digest m.host m.path };
+}
+
+impl PartialEq for Mount {
+    ghost use Rattle.std.specs.Cmp.{decided, partial_equiv_from_equiv};
+    ghost use Rattle.nfs_objects.specs.Same.{same_mount};
+    ghost use Rattle.nfs_objects.specs.SameLaws.{mount_decides};
+
+    ghost eq = { same_mount };
+
+    ghost laws = { partial_equiv_from_equiv (decided same_mount mount_decides) };
+
+    fn eq(&self, other: &Mount) -> bool {
+        self.host == other.host && self.path == other.path
+    }
+}
+
+impl Eq for Mount {
+    ghost use Rattle.std.specs.Cmp.{decided};
+    ghost use Rattle.nfs_objects.specs.Same.{same_mount};
+    ghost use Rattle.nfs_objects.specs.SameLaws.{mount_decides};
+
+    ghost laws = { decided same_mount mount_decides };
+}
+
+impl Hash for Mount {
+    ghost use Rattle.std.proofs.Common.{ap};
+    ghost use Rattle.nfs_objects.specs.MountTables.{mount_input};
+    ghost use Rattle.nfs_objects.specs.SameLaws.{mount_decides};
+
+    ghost hash_input = { λ m. mount_input m.hostname m.directory };
+
+    ghost respects_eq = { λ x y same. ap (λ m. mount_input m.hostname m.directory) ((mount_decides x y).0 same) };
+
+    fn hash<H: Hasher>(&self, state: &mut H) {
+        state.write_u64(self.hash);
+    }
 }
 
 impl Clone for Mount {
@@ -49,6 +99,7 @@ impl Clone for Mount {
         Ok(Mount {
             host: self.host.clone()?,
             path: self.path.clone()?,
+            hash: self.hash,
         })
     }
 }
@@ -63,6 +114,7 @@ impl Mount {
         Ok(Mount {
             host: Bytes::copy_from_slice(alloc, host)?,
             path: Bytes::copy_from_slice(alloc, path)?,
+            hash: mount_digest(host, path),
         })
     }
 
@@ -81,23 +133,75 @@ impl Mount {
     }
 }
 
-/// A mount to look up. It is hashed and compared as a `Mount` is.
-#[derive(Clone, Copy, PartialEq, Eq, Hash)]
+/// A mount to look up, with its hash. It is hashed and compared as a `Mount` is.
+#[derive(Clone, Copy)]
 struct Sought<'a> {
     host: &'a [u8],
     path: &'a [u8],
+    hash: u64,
+    ghost hashed: { hash ≡ mount_digest host.now path.now },
+}
+
+impl<'a> Sought<'a> {
+    /// The host's mount of the path. All of their bytes are read.
+    fn of(host: &'a [u8], path: &'a [u8]) -> Sought<'a>
+        ensures host { result.host.now ≡ host.now }
+        ensures path { result.path.now ≡ path.now }
+    {
+        let hash = mount_digest(host, path);
+        Sought { host, path, hash }
+    }
+}
+
+impl<'a> PartialEq for Sought<'a> {
+    ghost use Rattle.std.specs.Cmp.{decided, on_equiv, partial_equiv_from_equiv};
+    ghost use Rattle.std.specs.Ordering.{on};
+    ghost use Rattle.nfs_objects.specs.MountTables.{mounted};
+    ghost use Rattle.nfs_objects.specs.Same.{same_mount};
+    ghost use Rattle.nfs_objects.specs.SameLaws.{mount_decides};
+
+    ghost eq = { on (λ sought. mounted sought.host.now sought.path.now) same_mount };
+
+    ghost laws = { partial_equiv_from_equiv
+        (on_equiv (λ sought. mounted sought.host.now sought.path.now) (decided same_mount mount_decides)) };
+
+    fn eq(&self, other: &Sought<'a>) -> bool {
+        self.host == other.host && self.path == other.path
+    }
+}
+
+impl<'a> Eq for Sought<'a> {
+    ghost use Rattle.std.specs.Cmp.{decided, on_equiv};
+    ghost use Rattle.nfs_objects.specs.MountTables.{mounted};
+    ghost use Rattle.nfs_objects.specs.Same.{same_mount};
+    ghost use Rattle.nfs_objects.specs.SameLaws.{mount_decides};
+
+    ghost laws = { on_equiv (λ sought. mounted sought.host.now sought.path.now) (decided same_mount mount_decides) };
+}
+
+impl<'a> Hash for Sought<'a> {
+    ghost use Rattle.std.proofs.Common.{ap};
+    ghost use Rattle.nfs_objects.specs.MountTables.{mount_input, mounted};
+    ghost use Rattle.nfs_objects.specs.SameLaws.{mount_decides};
+
+    ghost hash_input = { λ sought. mount_input sought.host.now sought.path.now };
+
+    ghost respects_eq = { λ x y same. ap (λ m. mount_input m.hostname m.directory)
+        ((mount_decides (mounted x.host.now x.path.now) (mounted y.host.now y.path.now)).0 same) };
+
+    fn hash<H: Hasher>(&self, state: &mut H) {
+        state.write_u64(self.hash);
+    }
 }
 
 impl<'a> Equivalent<Mount> for Sought<'a> {
-    ghost use Rattle.std.specs.Hash as fed;
     ghost use Rattle.nfs_machine.specs.MountSteps.{is_of};
-    ghost use Rattle.nfs_objects.specs.MountTables.{both_alike, is_of_alike};
+    ghost use Rattle.nfs_objects.specs.MountTables.{both_alike, is_of_alike, mount_input};
 
     ghost equivalent = { λ sought mount. is_of sought.host.now sought.path.now mount };
 
     ghost respects_hash = { λ sought mount same.
-        both_alike (λ host path. fed.slice fed.u8 host ++ fed.slice fed.u8 path)
-        sought.host.now sought.path.now mount same };
+        both_alike mount_input sought.host.now sought.path.now mount same };
 
     ghost respects_eq = { λ sought x y same. is_of_alike sought.host.now sought.path.now x y same };
 
@@ -168,10 +272,10 @@ impl Piece {
         self.mounts.as_slice()
     }
 
-    fn is_listed(&self, host: &[u8], path: &[u8]) -> bool
-        ensures { result ≡ is_mounted self.now (mounted host.now path.now) }
+    fn is_listed(&self, sought: Sought<'_>) -> bool
+        ensures { result ≡ is_mounted self.now (mounted sought.entry.host.now sought.entry.path.now) }
     {
-        self.mounts.contains(Sought { host, path })
+        self.mounts.contains(sought)
     }
 
     /// A piece with the mounts of both, those of the other last.
@@ -190,7 +294,7 @@ impl Piece {
         ensures { result ≡ list_any (leaves leaving.entry) self.now }
     {
         match leaving {
-            Leaving::Path { host, path } => self.is_listed(host, path),
+            Leaving::Path { host, path } => self.is_listed(Sought::of(host, path)),
             Leaving::Host(_) => self.as_slice().iter().any(|mount| leaving.has(mount)),
         }
     }
@@ -274,11 +378,12 @@ impl MountTable {
         }
     }
 
-    /// Whether the host has mounted the path. It takes no memory.
+    /// Whether the host has mounted the path, both of which are hashed once. It takes no memory.
     pub fn is_listed(&self, host: &[u8], path: &[u8]) -> bool
         ensures { result ≡ is_mounted self.now (mounted host.now path.now) }
     {
-        self.has(Leaving::Path { host, path })
+        let sought = Sought::of(host, path);
+        self.pieces.iter().any(|piece| piece.is_listed(sought))
     }
 
     /// Whether a mount of the table leaves. It takes no memory, and that of one path is found by its hash.
