@@ -8,16 +8,18 @@ use Rattle.std.specs.Cmp.Lexicographic.{nat_list_eq_equiv, pointwise}
 use Rattle.std.specs.List.{AllByRecursion, IsDistinct, list_any}
 use Rattle.std.proofs.lemmas.Bool.{or_parts}
 use Rattle.std.proofs.lemmas.List.{append-nil, drop-append-le, length-drop, map-append, map_more, nil_from_length}
-use Rattle.std.proofs.lemmas.List.{take-append-drop, take_all}
+use Rattle.std.proofs.lemmas.List.{drop-drop, take-append-drop, take-append-le, take_all}
 use Rattle.std.proofs.lemmas.List.Concat.{flat_map-append}
 use Rattle.std.proofs.lemmas.List.Elements.{filter-append}
 use Rattle.std.proofs.lemmas.List.Folds.{flat_map-map, length-flat_map-take, list_any-append}
 use Rattle.std.proofs.lemmas.List.Sums.{count_by-le-length, length-filter}
-use Rattle.std.proofs.lemmas.Map.Keys.{IsDistinct-push}
+use Rattle.std.proofs.lemmas.Map.Keys.{IsDistinct-head, IsDistinct-push, IsDistinct-tail}
 use Rattle.indexmap.proofs.SetLemmas.{set_all_distinct}
-use Rattle.indexmap.specs.IndexSet.{insert_all}
+use Rattle.indexmap.specs.IndexSet.{insert_all, insert_key}
 use Rattle.nfs_machine.specs.MountSteps.{is_mounted, is_of, newest}
-use Rattle.nfs_objects.specs.MountTables.{AreDistinct, AreInPieces, ArePacked, is_same, joined}
+use Rattle.nfs_objects.specs.MountTables.{AreDistinct, AreInPieces, AreListed, ArePacked, first_piece, is_same, joined}
+use Rattle.nfs_objects.specs.MountTables.{listed}
+use Rattle.nfs_objects.specs.Same.{same_mount}
 use Rattle.nfs_objects.specs.SameLaws.{mount_decides}
 use Rattle.side_wire.specs.declared.mount.lists.MountBody.{MountBody}
 
@@ -50,6 +52,10 @@ pub any-dropped : {X : Type 0} (p : X → Bool) (xs : List X) → list_any p xs 
 any-dropped p [] none = none
 any-dropped p (x ∷ xs) none = (or_parts (p x) (list_any p xs) none).1
 
+and-true : (b : Bool) → (b && true) ≡ b
+and-true true = refl
+and-true false = refl
+
 -- one more, where all are kept
 pub newest-within : (mounts : List MountBody) (m : MountBody) → length mounts < 65536 →
     newest (mounts ++ m ∷ []) ≡ mounts ++ m ∷ []
@@ -73,6 +79,10 @@ module _ {X : Type 0} where
   all-front P [] b all = tt
   all-front P (x ∷ a) b all = (all.0, all-front P a b all.1)
 
+  all-back : (P : X → Type 0) (a b : List X) → AllByRecursion P (a ++ b) → AllByRecursion P b
+  all-back P [] b all = all
+  all-back P (x ∷ a) b all = all-back P a b all.1
+
   all-passed : (P : X → Type 0) (p : X → Bool) (xs : List X) → AllByRecursion P xs → AllByRecursion P (filter p xs)
   all-passed P p [] all = tt
   all-passed P p (x ∷ xs) all =
@@ -93,10 +103,9 @@ module _ {X : Type 0} where
     distinct-back [] b distinct = distinct
     distinct-back (x ∷ a) b distinct = distinct-back a b distinct.1
 
-    distinct-rest : (xs : List X) → IsDistinct same xs → IsDistinct same (drop 1 xs)
-    unfolding IsDistinct
-    distinct-rest [] distinct = tt
-    distinct-rest (x ∷ xs) distinct = distinct.1
+    distinct-behind : (k : ℕ) (xs : List X) → IsDistinct same xs → IsDistinct same (drop k xs)
+    distinct-behind k xs distinct =
+        distinct-back (take k xs) (drop k xs) (subst (IsDistinct same) (sym (take-append-drop k xs)) distinct)
 
     distinct-passed : (p : X → Bool) (xs : List X) → IsDistinct same xs → IsDistinct same (filter p xs)
     unfolding IsDistinct
@@ -110,10 +119,59 @@ module _ {X : Type 0} where
 same_laws : IsEquivalence is_same
 same_laws = decided is_same mount_decides
 
+-- of mounts that differ, none behind one is the same
+module _ (m : MountBody) where
+  none-alike : (xs : List MountBody) → AllByRecursion (λ y. is_same m y ≡ false) xs → is_mounted xs m ≡ false
+  none-alike [] all = refl
+  none-alike (y ∷ xs) all = λ i. (same_laws.symm y m ∙ all.0) i || none-alike xs all.1 i
+
+  apart-from : (front rest : List MountBody) → AreDistinct (front ++ rest) → is_mounted front m ≡ true →
+      is_mounted rest m ≡ false
+  apart-from [] rest distinct there = absurd (true≢false (sym there))
+  apart-from (x ∷ front) rest distinct there = by (is_same x m) refl
+    where
+      by : (b : Bool) → is_same x m ≡ b → is_mounted rest m ≡ false
+      by true is =
+          none-alike rest (subst (λ (z : MountBody). AllByRecursion (λ y. is_same z y ≡ false) rest)
+          ((mount_decides x m).0 is) (all-back (λ y. is_same x y ≡ false) front rest
+          (IsDistinct-head is_same x (front ++ rest) distinct)))
+      by false is =
+          apart-from front rest (IsDistinct-tail is_same x (front ++ rest) distinct)
+          (ap (λ b. b || is_mounted front m) (sym is) ∙ there)
+
+  -- so what is there and not among the first is behind them
+  pub behind-front : (k : ℕ) (xs : List MountBody) → AreDistinct xs →
+      (is_mounted xs m && not (is_mounted (take k xs) m)) ≡ is_mounted (drop k xs) m
+  behind-front k xs distinct = by (is_mounted (take k xs) m) refl
+    where
+      either : is_mounted xs m ≡ (is_mounted (take k xs) m || is_mounted (drop k xs) m)
+      either =
+          ap (λ l. is_mounted l m) (sym (take-append-drop k xs))
+          ∙ list_any-append (is_of m.hostname m.directory) (take k xs) (drop k xs)
+
+      by : (b : Bool) → is_mounted (take k xs) m ≡ b →
+          (is_mounted xs m && not (is_mounted (take k xs) m)) ≡ is_mounted (drop k xs) m
+      by true is =
+          (λ i. either i && not (is_mounted (take k xs) m))
+          ∙ (λ i. (is i || is_mounted (drop k xs) m) && not (is i))
+          ∙ sym (apart-from (take k xs) (drop k xs)
+          (subst AreDistinct (sym (take-append-drop k xs)) distinct) is)
+      by false is =
+          (λ i. either i && not (is_mounted (take k xs) m))
+          ∙ (λ i. (is i || is_mounted (drop k xs) m) && not (is i))
+          ∙ and-true (is_mounted (drop k xs) m)
+
 -- one more, which was not there
 distinct-more : (mounts : List MountBody) (m : MountBody) → AreDistinct mounts → is_mounted mounts m ≡ false →
     AreDistinct (mounts ++ m ∷ [])
 distinct-more mounts m distinct absent = IsDistinct-push same_laws mounts m distinct (any-turned m mounts ∙ absent)
+
+-- one that was not there goes last
+pub pushed-behind : (old copy new : List MountBody) (m : MountBody) → copy ≡ old → is_mounted old m ≡ false →
+    new ≡ insert_key same_mount copy m → new ≡ old ++ m ∷ []
+pushed-behind old copy new m same absent made =
+    made ∙ ap (λ l. insert_key same_mount l m) same
+    ∙ ap (λ b. cond b old (old ++ m ∷ [])) (any-turned m old ∙ absent)
 
 -- others that were not there go last
 pub joined-behind : (old copy others more new : List MountBody) → copy ≡ old → others ≡ more →
@@ -249,50 +307,147 @@ pub held-none : AreInPieces [] 0
 unfolding IsDistinct
 held-none = record { counted = refl; bounded = omega arith; packed = tt; distinct = tt }
 
--- one more mount, which was not there
-module _ (pieces : List (List MountBody)) (m : MountBody) (count : ℕ) (held : AreInPieces pieces count)
-    (absent : is_mounted (joined pieces) m ≡ false) where
-  pub more-apart : AreDistinct (joined pieces ++ m ∷ [])
-  more-apart = distinct-more (joined pieces) m held.distinct absent
+-- the first ones are of the first piece, which keeps the others
+module _ {X : Type 0} (first : List X) (others : List (List X)) (count : ℕ) (within : count ≤ length first) where
+  pub others-kept : drop count first ++ joined others ≡ drop count (joined (first ∷ others))
+  others-kept = sym (drop-append-le count first (joined others) within)
 
-  pub more-held : (new : List (List MountBody)) → joined new ≡ joined pieces ++ m ∷ [] → count < 65536 →
-      (ArePacked 256 pieces → ArePacked 256 new) → AreInPieces new (count + 1)
-  more-held new made room packed =
-      let long : length (joined new) ≡ length (joined pieces) + 1 =
-      ap length made ∙ length-append (joined pieces) (m ∷ []) in
+  pub only-first : take count (joined (first ∷ others)) ≡ take count first
+  only-first = take-append-le count first (joined others) within
+
+pub others-apart : (first : List MountBody) (others : List (List MountBody)) (count : ℕ) → count ≤ length first →
+    AreDistinct (joined (first ∷ others)) → AreDistinct (drop count first ++ joined others)
+others-apart first others count within distinct =
+    subst AreDistinct (sym (others-kept first others count within))
+    (distinct-behind is_same count (joined (first ∷ others)) distinct)
+
+-- ---- tables
+older-few : (gone : ℕ) (older : List (List MountBody)) → gone ≤ length (first_piece older) →
+    gone ≤ length (joined older)
+older-few gone [] within = within
+older-few gone (piece ∷ older) within =
+    let some : gone ≤ length piece = within in
+    let long : length (joined (piece ∷ older)) ≡ length piece + length (joined older) =
+    length-append piece (joined older) in
+    omega (arith, some, long)
+
+-- where mounts are in pieces, the first piece has one
+first-some : (pieces : List (List MountBody)) → ArePacked 256 pieces → 0 < length (joined pieces) →
+    1 ≤ length (first_piece pieces)
+first-some [] packed some = let none : 0 < 0 = some in omega (arith, none)
+first-some (piece ∷ pieces) packed some = let one : 0 < length piece = packed.0 in omega (arith, one)
+
+module _ (older : List (List MountBody)) (gone : ℕ) (latest : List MountBody) (held : AreListed older gone latest) where
+  pub gone-few : gone ≤ length (joined older)
+  gone-few = older-few gone older held.within
+
+  pub listed-count : length (listed older gone latest) ≡ length (joined older) - gone + length latest
+  listed-count =
+      length-append (drop gone (joined older)) latest
+      ∙ ap (λ n. n + length latest) (length-drop gone (joined older))
+
+  -- a mount is in a table where it is behind those that are gone, or among the latest
+  pub in-table : (m : MountBody) →
+      (is_mounted (drop gone (joined older)) m || is_mounted latest m) ≡ is_mounted (listed older gone latest) m
+  in-table m = sym (list_any-append (is_of m.hostname m.directory) (drop gone (joined older)) latest)
+
+  -- one more of the latest
+  module _ (m : MountBody) (absent : is_mounted (listed older gone latest) m ≡ false) where
+    pub latest-lacks : is_mounted latest m ≡ false
+    latest-lacks =
+        (or_parts (is_mounted (drop gone (joined older)) m) (is_mounted latest m)
+        (sym (list_any-append (is_of m.hostname m.directory) (drop gone (joined older)) latest) ∙ absent)).1
+
+    pub one-later : listed older gone (latest ++ m ∷ []) ≡ listed older gone latest ++ m ∷ []
+    one-later = sym (append_assoc (drop gone (joined older)) latest (m ∷ []))
+
+    pub later-listed : length (listed older gone latest) < 65536 → AreListed older gone (latest ++ m ∷ [])
+    later-listed room = record {
+      within = held.within;
+      bounded = (let long : length (listed older gone (latest ++ m ∷ [])) ≡ length (listed older gone latest) + 1 =
+          ap length one-later ∙ length-append (listed older gone latest) (m ∷ []) in omega (arith, long, room));
+      once = held.once;
+      distinct = subst AreDistinct (sym one-later) (distinct-more (listed older gone latest) m held.distinct absent);
+    }
+
+  -- one more is gone
+  module _ (more : gone < length (first_piece older)) where
+    pub one-gone : listed older (gone + 1) latest ≡ drop 1 (listed older gone latest)
+    one-gone =
+        ap (λ xs. xs ++ latest) (sym (drop-drop 1 gone (joined older)))
+        ∙ sym (drop-append-le 1 (drop gone (joined older)) latest
+        (let few = older-few (gone + 1) older (omega (arith, more)) in
+        let left = length-drop gone (joined older) in omega (arith, few, left)))
+
+    pub gone-listed : AreListed older (gone + 1) latest
+    gone-listed = record {
+      within = omega (arith, more);
+      bounded = (let left = ap length one-gone ∙ length-drop 1 (listed older gone latest) in
+          let most = held.bounded in omega (arith, left, most));
+      once = held.once;
+      distinct = subst AreDistinct (sym one-gone) (distinct-behind is_same 1 (listed older gone latest) held.distinct);
+    }
+
+  -- all in pieces
+  module _ (kept : List (List MountBody)) (are : joined kept ≡ drop gone (joined older)) where
+    pub latest-apart : AreDistinct (joined kept ++ latest)
+    latest-apart = subst AreDistinct (ap (λ xs. xs ++ latest) (sym are)) held.distinct
+
+    pub all-held : (new : List (List MountBody)) → joined new ≡ joined kept ++ latest → ArePacked 256 new →
+        (count : ℕ) → count ≡ length (listed older gone latest) → AreInPieces new count
+    all-held new made packed count counted =
+        let all : joined new ≡ listed older gone latest = made ∙ ap (λ xs. xs ++ latest) are in
+        record {
+          counted = counted ∙ ap length (sym all);
+          bounded = (let most = held.bounded in omega (arith, counted, most));
+          packed = packed;
+          distinct = subst AreDistinct (sym all) held.distinct;
+        }
+
+-- tables whose pieces have what another table has
+module _ (mounts : List MountBody) (bounded : length mounts ≤ 65536) (distinct : AreDistinct mounts)
+    (pieces : List (List MountBody)) (are : joined pieces ≡ mounts) where
+  pub pieces-listed : AreListed pieces 0 []
+  pieces-listed =
+      let all : listed pieces 0 [] ≡ mounts = append-nil (joined pieces) ∙ are in
       record {
-        counted = ap (λ n. n + 1) held.counted ∙ sym long;
-        bounded = omega (arith, room);
-        packed = packed held.packed;
-        distinct = subst AreDistinct (sym made) more-apart;
+        within = omega arith;
+        bounded = (let long = ap length all in omega (arith, long, bounded));
+        once = subst AreDistinct (sym are) distinct;
+        distinct = subst AreDistinct (sym all) distinct;
       }
 
--- the first of all is the first of the first piece, which keeps the others
-module _ (first : List MountBody) (others : List (List MountBody)) (count : ℕ)
-    (held : AreInPieces (first ∷ others) count) where
-  others-kept : drop 1 first ++ joined others ≡ drop 1 (joined (first ∷ others))
-  others-kept =
-      sym (drop-append-le 1 first (joined others)
-      (let some : 0 < length first = held.packed.0 in omega (arith, some)))
+  pub with-one : (m : MountBody) → is_mounted mounts m ≡ false → length mounts < 65536 →
+      AreListed pieces 0 (m ∷ [])
+  with-one m absent room =
+      let all : listed pieces 0 (m ∷ []) ≡ mounts ++ m ∷ [] = ap (λ xs. xs ++ m ∷ []) are in
+      record {
+        within = omega arith;
+        bounded = (let long : length (listed pieces 0 (m ∷ [])) ≡ length mounts + 1 =
+            ap length all ∙ length-append mounts (m ∷ []) in omega (arith, long, room));
+        once = subst AreDistinct (sym are) distinct;
+        distinct = subst AreDistinct (sym all) (distinct-more mounts m distinct absent);
+      }
 
-  pub others-apart : AreDistinct (drop 1 first ++ joined others)
-  others-apart = subst AreDistinct (sym others-kept)
-      (distinct-rest is_same (joined (first ∷ others)) held.distinct)
+  pub first-dropped : listed pieces 1 [] ≡ drop 1 mounts
+  first-dropped = append-nil (drop 1 (joined pieces)) ∙ ap (drop 1) are
 
-  module _ (new : List (List MountBody)) (made : joined new ≡ drop 1 first ++ joined others) where
-    pub first-dropped : joined new ≡ drop 1 (joined (first ∷ others))
-    first-dropped = made ∙ others-kept
+  pub without-one : ArePacked 256 pieces → 0 < length mounts → AreListed pieces 1 []
+  without-one packed some = record {
+    within = first-some pieces packed (subst (λ xs. 0 < length xs) (sym are) some);
+    bounded = (let left = ap length first-dropped ∙ length-drop 1 mounts in omega (arith, left, bounded));
+    once = subst AreDistinct (sym are) distinct;
+    distinct = subst AreDistinct (sym first-dropped) (distinct-behind is_same 1 mounts distinct);
+  }
 
-    pub first-held : ArePacked 256 new → AreInPieces new (count - 1)
-    first-held packed =
-        let left : length (joined new) ≡ length (joined (first ∷ others)) - 1 =
-        ap length first-dropped ∙ length-drop 1 (joined (first ∷ others)) in
-        record {
-          counted = ap (λ n. n - 1) held.counted ∙ sym left;
-          bounded = (let most = held.bounded in omega (arith, most));
-          packed = packed;
-          distinct = subst AreDistinct (sym made) others-apart;
-        }
+pub none-listed : AreListed [] 0 []
+unfolding IsDistinct
+none-listed = record {
+  within = omega arith;
+  bounded = (let none : 0 ≤ 65536 = omega arith in none);
+  once = tt;
+  distinct = tt;
+}
 
 -- ---- what passes a test
 -- where no one passes, all are left without those that do
@@ -370,6 +525,14 @@ module _ {A X : Type 0} (f : A → List X) (p : X → Bool) (pieces : List A) wh
   pub sifted-all : (i : ℕ) (kept : List (List X)) (count : ℕ) → length pieces ≤ i →
       AreSifted p (map f (take i pieces)) kept count → AreSifted p (map f pieces) kept count
   sifted-all i kept count all = subst (λ seen. AreSifted p (map f seen) kept count) (take_all i pieces all)
+
+pub filter-few : (p : MountBody → Bool) (mounts : List MountBody) → length mounts ≤ 65536 →
+    length (filter p mounts) ≤ 65536
+filter-few p mounts most = omega (arith, length-filter p mounts, count_by-le-length p mounts, most)
+
+pub filter-distinct : (p : MountBody → Bool) (mounts : List MountBody) → AreDistinct mounts →
+    AreDistinct (filter p mounts)
+filter-distinct p mounts distinct = distinct-passed is_same p mounts distinct
 
 pub sifted-pieces : (p : MountBody → Bool) (pieces kept : List (List MountBody)) (count was : ℕ) →
     AreSifted p pieces kept count → AreInPieces pieces was → AreInPieces kept count

@@ -1,10 +1,13 @@
 -- Tables of mounts (RFC 1813, appendix I, 5.2): hosts with the paths that they mounted.
-use Rattle.std.specs.Prelude.{◌≡◌, ℕ, ◌+◌, ◌<◌, ◌≤◌, Bool, true, ◌&&◌, List, [], ◌∷◌}
-use Rattle.std.specs.Prelude.{length, nat_eq}
+use Rattle.std.specs.Prelude.{◌≡◌, ℕ, ◌+◌, ◌<◌, ◌≤◌, Bool, true, ◌&&◌, List, [], ◌∷◌, ◌++◌}
+use Rattle.std.specs.Prelude.{Option, Some, None, drop, length, nat_eq}
+use Rattle.std.specs.Arc.{arc_value}
 use Rattle.std.specs.Cmp.Lexicographic.{bytes_decides, nat_list_eq_equiv, pointwise}
 use Rattle.std.specs.Hash as fed
 use Rattle.std.specs.Hash.DefaultHasher as sip
 use Rattle.std.specs.List.{IsDistinct, flat_map}
+use Rattle.std.specs.declared.sync.Arc.{Arc}
+use Rattle.std.specs.declared.vec.Vec.{Vec}
 use Rattle.std.proofs.Common.{ap, sym, ◌∙◌}
 use Rattle.std.proofs.lemmas.Bool.{and_parts}
 use Rattle.nfs_machine.specs.Bytes.{same_bytes}
@@ -27,6 +30,16 @@ mount_input host path = fed.u64 (mount_digest host path)
 abbrev pub joined : {X : Type 0} → List (List X) → List X
 joined pieces = flat_map (λ piece. piece) pieces
 
+-- what a vector has that is shared, if there is one
+abbrev pub items_in : {X A B : Type 0} → Option (Arc (Vec X A) B) → List X
+items_in None = []
+items_in (Some items) = (arc_value items).items
+
+-- the first piece, where there is one
+abbrev pub first_piece : {X : Type 0} → List (List X) → List X
+first_piece [] = []
+first_piece (piece ∷ pieces) = piece
+
 -- no piece is empty, and each has more than 256 together with the one before it; the first comes behind one of so many
 abbrev pub ArePacked : {X : Type 0} → ℕ → List (List X) → Type 0
 ArePacked before [] = Unit {0}
@@ -47,6 +60,17 @@ pub record AreInPieces (pieces : List (List MountBody)) (count : ℕ) : Type 0 w
   pub bounded : count ≤ 65536
   pub packed : ArePacked 256 pieces
   pub distinct : AreDistinct (joined pieces)
+
+-- the mounts in pieces behind the first so many, which are gone, and then the latest
+abbrev pub listed : List (List MountBody) → ℕ → List MountBody → List MountBody
+listed older gone latest = drop gone (joined older) ++ latest
+
+-- what is gone is of the first piece; each mount is there once, also among those that are older
+pub record AreListed (older : List (List MountBody)) (gone : ℕ) (latest : List MountBody) : Type 0 where
+  pub within : gone ≤ length (first_piece older)
+  pub bounded : length (listed older gone latest) ≤ 65536
+  pub once : AreDistinct (joined older)
+  pub distinct : AreDistinct (listed older gone latest)
 
 -- what is made of a host and a path is made of the mount that they are
 pub both_alike : {X : Type 0} (f : List ℕ → List ℕ → X) (host path : List ℕ) (m : MountBody) →

@@ -1,7 +1,7 @@
 //! The table of mounts (RFC 1813, appendix I, 5.2).
 
 ghost use Rattle.std.specs.Prelude.{◌≡◌, ◌==◌, ◌<◌, ◌≤◌, [], ◌∷◌, ◌++◌, false, IfOk};
-ghost use Rattle.std.specs.Prelude.{◌+◌, ◌^◌, ◌↔◌, IsTrue, OnOk, drop, filter, length, map, not};
+ghost use Rattle.std.specs.Prelude.{◌+◌, ◌^◌, ◌↔◌, IsTrue, OnOk, drop, filter, length, map, not, take};
 ghost use Rattle.std.specs.Arc.{arc_value};
 ghost use Rattle.std.specs.Cmp.Lexicographic.{pointwise};
 ghost use Rattle.std.specs.List.{list_any};
@@ -20,9 +20,11 @@ use std::sync::Arc;
 pub const MOUNT_LIMIT: usize = 65536;
 
 /// How many mounts a piece of a table has at most. Two neighbours have more, so that n mounts stand in at most
-/// 2 n / 257 + 1 pieces, each of which a look-up asks. One more mount copies the last piece, and where the oldest goes
-/// the first too, or the first two.
+/// 2 n / 257 + 1 pieces, each of which a look-up asks.
 const PIECE_LIMIT: usize = 256;
+
+/// How many of the latest mounts a table keeps beside its pieces, at most. One more mount copies these alone.
+const LATEST_LIMIT: usize = 64;
 
 /// The hash of a host and a path. It reads all of their bytes, eight at a time.
 #[tactic(auto, unfolding(crate::specs::MountTables::mount_digest))]
@@ -250,6 +252,15 @@ impl Piece {
     ghost use Rattle.nfs_machine.specs.MountSteps.{is_mounted};
     ghost use Rattle.nfs_objects.specs.MountTables.{AreDistinct, mounted};
 
+    /// A piece without mounts.
+    fn new(alloc: Global) -> Piece
+        ensures { result ≡ [] }
+    {
+        Piece {
+            mounts: IndexSet::new(alloc),
+        }
+    }
+
     /// A piece of this mount alone.
     fn of(alloc: Global, mount: Mount) -> Result<Piece, AllocError>
         ensures { IfOk result (λ piece. piece ≡ mount ∷ []) }
@@ -276,6 +287,42 @@ impl Piece {
         ensures { result ≡ is_mounted self.now (mounted sought.entry.host.now sought.entry.path.now) }
     {
         self.mounts.contains(sought)
+    }
+
+    /// The mounts behind the first so many.
+    fn behind(&self, count: usize) -> &[Mount]
+        requires { count ≤ length self.now }
+        ensures { result.now ≡ drop count self.now }
+    {
+        &self.as_slice()[count..]
+    }
+
+    /// Whether one of the first so many leaves.
+    fn has_in_front(&self, count: usize, leaving: Leaving<'_>) -> bool
+        requires { count ≤ length self.now }
+        ensures { result ≡ list_any (leaves leaving.entry) (take count self.now) }
+    {
+        self.as_slice()[..count]
+            .iter()
+            .any(|mount| leaving.has(mount))
+    }
+
+    fn copied(&self) -> Result<Piece, AllocError>
+        ensures { IfOk result (λ piece. piece ≡ self.now) }
+    {
+        Ok(Piece {
+            mounts: self.mounts.clone()?,
+        })
+    }
+
+    /// A piece with this mount last.
+    fn with_last(&self, mount: Mount) -> Result<Piece, AllocError>
+        requires { is_mounted self.now mount ≡ false }
+        ensures { IfOk result (λ piece. piece ≡ self.now ++ mount ∷ []) }
+    {
+        let mut mounts = self.mounts.clone()?;
+        mounts.insert(mount)?;
+        Ok(Piece { mounts })
     }
 
     /// A piece with the mounts of both, those of the other last.
@@ -308,35 +355,208 @@ impl Piece {
         Ok(Piece { mounts })
     }
 
-    /// A piece without the first mount.
-    fn without_first(&self) -> Result<Piece, AllocError>
-        ensures { IfOk result (λ piece. piece ≡ drop 1 self.now) }
+    /// A piece without the first so many.
+    fn without_front(&self, count: usize) -> Result<Piece, AllocError>
+        requires { count ≤ length self.now }
+        ensures { IfOk result (λ piece. piece ≡ drop count self.now) }
     {
         let mut mounts = self.mounts.clone()?;
-        mounts.shift_remove_index(0);
-        Ok(Piece { mounts })
+        Ok(Piece {
+            mounts: mounts.split_off(count)?,
+        })
+    }
+}
+
+/// Mounts in pieces, in order of adding. They are never changed: copies share them, and what becomes of them shares the
+/// pieces that stay.
+#[derive(Drop)]
+struct Pieces {
+    pieces: Option<Arc<Vec<Arc<Piece>>>>,
+    len: usize,
+}
+
+impl Model for Pieces {
+    ghost use Rattle.std.specs.Prelude.{List, map};
+    ghost use Rattle.std.specs.Arc.{arc_value};
+    ghost use Rattle.side_wire.specs.declared.mount.lists.MountBody.{MountBody};
+    ghost use Rattle.nfs_objects.specs.MountTables.{AreInPieces, items_in};
+
+    ghost Value = { List (List MountBody) };
+
+    ghost view = { λ p. map arc_value (items_in p.pieces) };
+
+    ghost invariant = { λ p. AreInPieces (map arc_value (items_in p.pieces)) p.len };
+}
+
+impl Pieces {
+    ghost use Rattle.nfs_machine.specs.MountSteps.{is_mounted};
+    ghost use Rattle.nfs_objects.specs.MountTables.{AreInPieces, first_piece, mounted};
+
+    /// No pieces.
+    fn new() -> Pieces
+        ensures { result ≡ [] }
+    {
+        Pieces {
+            pieces: None,
+            len: 0,
+        }
+    }
+
+    /// These pieces, which have so many mounts.
+    fn of(alloc: Global, pieces: Vec<Arc<Piece>>, len: usize) -> Result<Pieces, AllocError>
+        requires { AreInPieces (map arc_value pieces.items) len }
+        ensures { IfOk result (λ made. made ≡ map arc_value pieces.items) }
+    {
+        Ok(Pieces {
+            pieces: Some(Arc::new(alloc, pieces)?),
+            len,
+        })
+    }
+
+    /// The same pieces, shared.
+    fn shared(&self) -> Result<Pieces, AllocError>
+        ensures { IfOk result (λ copy. copy ≡ self.now) }
+    {
+        let Some(pieces) = &self.pieces else {
+            return Ok(Pieces::new());
+        };
+        Ok(Pieces {
+            pieces: Some(Arc::try_clone(pieces)?),
+            len: self.len,
+        })
+    }
+
+    fn as_slice(&self) -> &[Arc<Piece>]
+        ensures pieces { map arc_value result.now ≡ self.now }
+        ensures held { AreInPieces self.now (length (joined self.now)) }
+    {
+        match &self.pieces {
+            Some(pieces) => pieces.as_slice(),
+            None => &[],
+        }
+    }
+
+    /// How many mounts there are.
+    fn len(&self) -> usize
+        ensures len { result ≡ length (joined self.now) }
+        ensures bounded { result ≤ MOUNT_LIMIT }
+    {
+        self.len
+    }
+
+    /// How many mounts the first piece has.
+    fn first_len(&self) -> usize
+        ensures { result ≡ length (first_piece self.now) }
+    {
+        match self.as_slice().split_first() {
+            Some((first, _)) => first.len(),
+            None => 0,
+        }
+    }
+
+    fn is_listed(&self, sought: Sought<'_>) -> bool
+        ensures { result ≡ is_mounted (joined self.now) (mounted sought.entry.host.now sought.entry.path.now) }
+    {
+        self.as_slice().iter().any(|piece| piece.is_listed(sought))
+    }
+
+    /// Whether the mount is listed behind the first so many.
+    fn is_behind(&self, count: usize, sought: Sought<'_>) -> bool
+        requires { count ≤ length (first_piece self.now) }
+        ensures { result ≡ is_mounted (drop count (joined self.now))
+            (mounted sought.entry.host.now sought.entry.path.now) }
+    {
+        let leaving = Leaving::Path {
+            host: sought.host,
+            path: sought.path,
+        };
+        self.is_listed(sought) && !self.has_in_front(count, leaving)
+    }
+
+    /// Whether one of the first so many leaves.
+    fn has_in_front(&self, count: usize, leaving: Leaving<'_>) -> bool
+        requires { count ≤ length (first_piece self.now) }
+        ensures { result ≡ list_any (leaves leaving.entry) (take count (joined self.now)) }
+    {
+        match self.as_slice().split_first() {
+            Some((first, _)) => first.has_in_front(count, leaving),
+            None => false,
+        }
+    }
+
+    /// The mounts behind the first so many, and others behind them.
+    fn behind<'a>(&'a self, count: usize, others: &'a [Mount]) -> Mounts<'a>
+        requires { count ≤ length (first_piece self.now) }
+        ensures { result ≡ drop count (joined self.now) ++ others.now }
+    {
+        match self.as_slice().split_first() {
+            Some((first, pieces)) => Mounts {
+                front: first.behind(count),
+                pieces,
+                others,
+            },
+            None => Mounts {
+                front: &[],
+                pieces: &[],
+                others,
+            },
+        }
+    }
+
+    /// The pieces of the mounts behind the first so many.
+    fn pieces_behind(&self, alloc: Global, count: usize) -> Result<Vec<Arc<Piece>>, AllocError>
+        requires { count ≤ length (first_piece self.now) }
+        ensures joined { IfOk result
+            (λ pieces. joined (map arc_value pieces.items) ≡ drop count (joined self.now)) }
+        ensures packed { IfOk result (λ pieces. ArePacked PIECE_LIMIT (map arc_value pieces.items)) }
+    {
+        let Some((first, others)) = self.as_slice().split_first() else {
+            return Ok(Vec::new(alloc));
+        };
+        let mut pieces = Vec::new(alloc);
+        add_piece(alloc, &mut pieces, shortened(alloc, first, count)?)?;
+        add_pieces(alloc, &mut pieces, others)?;
+        Ok(pieces)
+    }
+
+    /// The mounts that stay. They share with these the pieces that lose none and aren't joined.
+    fn without(&self, alloc: Global, leaving: Leaving<'_>) -> Result<Pieces, AllocError>
+        ensures { IfOk result
+            (λ rest. joined rest ≡ filter (λ m. not (leaves leaving.entry m)) (joined self.now)) }
+    {
+        let old = self.as_slice();
+        let mut pieces = Vec::new(alloc);
+        let mut len = 0;
+        for piece in old {
+            let rest = rest_of(alloc, piece, leaving)?;
+            len += rest.len();
+            add_piece(alloc, &mut pieces, rest)?;
+        }
+        Pieces::of(alloc, pieces, len)
     }
 }
 
 /// The mounts in order of adding, at most `MOUNT_LIMIT`; each is found by its hash. A table is never changed: one more
-/// mount makes another one, which shares with it all but some hundreds.
+/// mount makes another one, which shares all pieces with it, and copies some tens of mounts. It is made of new pieces
+/// where as many of the latest are there as are kept beside them, or where one leaves that is not the first.
 #[derive(Drop)]
 pub struct MountTable {
-    pieces: Vec<Arc<Piece>>,
-    len: usize,
+    older: Pieces,
+    /// How many of the first piece are no longer in the table.
+    gone: usize,
+    latest: Piece,
 }
 
 impl Model for MountTable {
-    ghost use Rattle.std.specs.Prelude.{List, map};
-    ghost use Rattle.std.specs.Arc.{arc_value};
+    ghost use Rattle.std.specs.Prelude.{List};
     ghost use Rattle.side_wire.specs.declared.mount.lists.MountBody.{MountBody};
-    ghost use Rattle.nfs_objects.specs.MountTables.{AreInPieces, joined};
+    ghost use Rattle.nfs_objects.specs.MountTables.{AreListed, listed};
 
     ghost Value = { List MountBody };
 
-    ghost view = { λ t. joined (map arc_value t.pieces.items) };
+    ghost view = { λ t. listed t.older t.gone t.latest };
 
-    ghost invariant = { λ t. AreInPieces (map arc_value t.pieces.items) t.len };
+    ghost invariant = { λ t. AreListed t.older t.gone t.latest };
 }
 
 impl MountTable {
@@ -348,8 +568,9 @@ impl MountTable {
         ensures { result ≡ [] }
     {
         MountTable {
-            pieces: Vec::new(alloc),
-            len: 0,
+            older: Pieces::new(),
+            gone: 0,
+            latest: Piece::new(alloc),
         }
     }
 
@@ -358,7 +579,7 @@ impl MountTable {
         ensures len { result ≡ length self.now }
         ensures bounded { length self.now ≤ MOUNT_LIMIT }
     {
-        self.len
+        self.older.len() - self.gone + self.latest.len()
     }
 
     /// Whether there are no mounts.
@@ -372,10 +593,7 @@ impl MountTable {
     pub fn iter(&self) -> Mounts<'_>
         ensures { result ≡ self.now }
     {
-        Mounts {
-            front: &[],
-            pieces: &self.pieces,
-        }
+        self.older.behind(self.gone, self.latest.as_slice())
     }
 
     /// Whether the host has mounted the path, both of which are hashed once. It takes no memory.
@@ -383,14 +601,17 @@ impl MountTable {
         ensures { result ≡ is_mounted self.now (mounted host.now path.now) }
     {
         let sought = Sought::of(host, path);
-        self.pieces.iter().any(|piece| piece.is_listed(sought))
+        self.older.is_behind(self.gone, sought) || self.latest.is_listed(sought)
     }
 
     /// Whether a mount of the table leaves. It takes no memory, and that of one path is found by its hash.
     pub fn has(&self, leaving: Leaving<'_>) -> bool
         ensures { result ≡ list_any (leaves leaving.entry) self.now }
     {
-        self.pieces.iter().any(|piece| piece.has(leaving))
+        match leaving {
+            Leaving::Path { host, path } => self.is_listed(host, path),
+            Leaving::Host(_) => has_one(self.iter(), leaving),
+        }
     }
 
     /// A table with this mount last; beyond `MOUNT_LIMIT` mounts the first goes. The table itself stays as it is. The
@@ -422,13 +643,17 @@ impl MountTable {
         requires absent { is_mounted self.now mount ≡ false }
         ensures { IfOk result (λ table. table ≡ self.now ++ mount ∷ []) }
     {
-        let mut pieces = Vec::with_capacity(alloc, self.pieces.len() + 1)?;
-        share_pieces(&mut pieces, &self.pieces)?;
-        let last = Arc::new(alloc, Piece::of(alloc, mount)?)?;
-        add_piece(alloc, &mut pieces, last)?;
+        if self.latest.len() < LATEST_LIMIT {
+            return Ok(MountTable {
+                older: self.older.shared()?,
+                gone: self.gone,
+                latest: self.latest.with_last(mount)?,
+            });
+        }
         Ok(MountTable {
-            pieces,
-            len: self.len + 1,
+            older: self.in_pieces(alloc)?,
+            gone: 0,
+            latest: Piece::of(alloc, mount)?,
         })
     }
 
@@ -440,30 +665,40 @@ impl MountTable {
     pub fn without(&self, alloc: Global, leaving: Leaving<'_>) -> Result<MountTable, AllocError>
         ensures { IfOk result (λ table. table ≡ filter (λ m. not (leaves leaving.entry m)) self.now) }
     {
-        let mut pieces = Vec::new(alloc);
-        let mut len = 0;
-        for piece in &self.pieces {
-            let rest = rest_of(alloc, piece, leaving)?;
-            len += rest.len();
-            add_piece(alloc, &mut pieces, rest)?;
-        }
-        Ok(MountTable { pieces, len })
+        Ok(MountTable {
+            older: self.in_pieces(alloc)?.without(alloc, leaving)?,
+            gone: 0,
+            latest: Piece::new(alloc),
+        })
     }
 
     /// A table without the first mount.
     fn without_first(&self, alloc: Global) -> Result<MountTable, AllocError>
+        requires { 0 < length self.now }
         ensures { IfOk result (λ table. table ≡ drop 1 self.now) }
     {
-        let Some((first, others)) = self.pieces.split_first() else {
-            return Ok(MountTable::new(alloc));
-        };
-        let mut pieces = Vec::new(alloc);
-        add_piece(alloc, &mut pieces, Arc::new(alloc, first.without_first()?)?)?;
-        add_pieces(alloc, &mut pieces, others)?;
+        if self.gone < self.older.first_len() {
+            return Ok(MountTable {
+                older: self.older.shared()?,
+                gone: self.gone + 1,
+                latest: self.latest.copied()?,
+            });
+        }
         Ok(MountTable {
-            pieces,
-            len: self.len - 1,
+            older: self.in_pieces(alloc)?,
+            gone: 1,
+            latest: Piece::new(alloc),
         })
+    }
+
+    /// All mounts in pieces.
+    fn in_pieces(&self, alloc: Global) -> Result<Pieces, AllocError>
+        ensures joined { IfOk result (λ pieces. joined pieces ≡ self.now) }
+        ensures packed { IfOk result (λ pieces. ArePacked PIECE_LIMIT pieces) }
+    {
+        let mut pieces = self.older.pieces_behind(alloc, self.gone)?;
+        add_piece(alloc, &mut pieces, Arc::new(alloc, self.latest.copied()?)?)?;
+        Pieces::of(alloc, pieces, self.len())
     }
 }
 
@@ -508,15 +743,16 @@ fn are_same<'a>(mut mounts: Mounts<'a>, mut others: Mounts<'a>) -> bool
     others.next().is_none()
 }
 
-/// Adds one more owner of each of these pieces.
-fn share_pieces(owners: &mut Vec<Arc<Piece>>, pieces: &[Arc<Piece>]) -> Result<(), AllocError>
-    ensures { OnOk result
-        (map arc_value owners.new.items ≡ map arc_value owners.old.items ++ map arc_value pieces.now) }
+/// Whether one of these mounts leaves.
+fn has_one(mut mounts: Mounts<'_>, leaving: Leaving<'_>) -> bool
+    ensures { result ≡ list_any (leaves leaving.entry) mounts.entry }
 {
-    for piece in pieces {
-        owners.push(Arc::try_clone(piece)?)?;
+    while let Some(mount) = mounts.next() {
+        if leaving.has(mount) {
+            return true;
+        }
     }
-    Ok(())
+    false
 }
 
 /// Adds a piece. It is joined to the last where both fit into one, and left out where it is empty.
@@ -585,11 +821,23 @@ fn rest_of(
     Ok(Arc::new(alloc, piece.without(leaving)?)?)
 }
 
+/// The piece itself where none goes, and else one without the first so many.
+fn shortened(alloc: Global, piece: &Arc<Piece>, count: usize) -> Result<Arc<Piece>, AllocError>
+    requires { count ≤ length (arc_value piece.now) }
+    ensures { IfOk result (λ rest. arc_value rest ≡ drop count (arc_value piece.now)) }
+{
+    if count == 0 {
+        return Arc::try_clone(piece);
+    }
+    Ok(Arc::new(alloc, piece.without_front(count)?)?)
+}
+
 /// Lends the mounts of a table, in order of adding.
 #[derive(Drop)]
 pub struct Mounts<'a> {
     front: &'a [Mount],
     pieces: &'a [Arc<Piece>],
+    others: &'a [Mount],
 }
 
 impl<'a> Model for Mounts<'a> {
@@ -600,7 +848,7 @@ impl<'a> Model for Mounts<'a> {
 
     ghost Value = { List MountBody };
 
-    ghost view = { λ m. m.front.now ++ joined (map arc_value m.pieces.now) };
+    ghost view = { λ m. m.front.now ++ joined (map arc_value m.pieces.now) ++ m.others.now };
 }
 
 impl<'a> Iterator for Mounts<'a> {
@@ -618,7 +866,11 @@ impl<'a> Iterator for Mounts<'a> {
                 self.front = rest;
                 return Some(mount);
             }
-            let (piece, rest) = self.pieces.split_first()?;
+            let Some((piece, rest)) = self.pieces.split_first() else {
+                let (mount, rest) = self.others.split_first()?;
+                self.others = rest;
+                return Some(mount);
+            };
             self.front = piece.as_slice();
             self.pieces = rest;
         }

@@ -1,8 +1,9 @@
-use Rattle.std.proofs.Common.{map, subst, sym}
-use Rattle.std.specs.Arc.{arc_value}
-use Rattle.nfs_objects.proofs.MountTableLemmas.{held-none}
+use Rattle.std.proofs.Common.{[], subst, sym}
+use Rattle.nfs_objects.proofs.MountTableLemmas.{none-listed}
 use Rattle.nfs_objects.proofs.mounts.MountTable.new.Goals as goal
-use Rattle.nfs_objects.specs.MountTables.{AreInPieces}
+use Rattle.nfs_objects.specs.MountTables.{AreListed}
 
 pub invariant_of-result : goal.invariant_of-result
-invariant_of-result c = subst (λ l. AreInPieces (map arc_value l) 0) (sym c.new.ensures.items) held-none
+invariant_of-result c =
+    subst (λ older. AreListed older 0 c.new-2.result) (sym c.new.ensures)
+    (subst (AreListed [] 0) (sym c.new-2.ensures) none-listed)

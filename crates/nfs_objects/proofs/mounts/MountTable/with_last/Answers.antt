@@ -1,32 +1,38 @@
-use Rattle.std.proofs.Common.{◌≡◌, ◌<◌, [], ◌∷◌, ◌++◌, ap, arith, length, map, subst, sym, ◌∙◌}
-use Rattle.std.specs.Arc.{arc_value}
+use Rattle.std.proofs.Common.{◌<◌, ◌≤◌, [], ◌∷◌, ◌++◌, ap, length, subst, sym, ◌∙◌}
 use Rattle.nfs_machine.specs.MountSteps.{is_mounted}
-use Rattle.nfs_objects.proofs.MountTableLemmas.{more-apart, more-held}
+use Rattle.nfs_objects.proofs.MountTableLemmas.{later-listed, latest-lacks, one-later, with-one}
 use Rattle.nfs_objects.proofs.mounts.MountTable.with_last.Goals as goal
-use Rattle.nfs_objects.specs.MountTables.{AreDistinct, ArePacked, joined}
+use Rattle.nfs_objects.specs.MountTables.{AreDistinct, AreListed, listed}
 
-pub add_piece-requires : goal.add_piece-requires
-add_piece-requires c =
-    let pieces = map arc_value c.self.inside.pieces.items in
-    let shared : map arc_value c.share_pieces.new.owners.items ≡ pieces =
-    c.in_ok-share_pieces.ensures
-    ∙ (λ i. map arc_value (c.in_ok-pieces.ensures.items i) ++ map arc_value (c.deref.ensures.value i)) in
-    let last : arc_value c.in_ok-last.last ≡ c.args.mount ∷ [] = c.in_ok-last.ensures.ok ∙ c.in_ok-of.ensures in
-    subst AreDistinct (λ i. joined (sym shared i) ++ sym last i)
-    (more-apart pieces c.args.mount c.self.inside.len c.self.invariant
-    (ap (λ mounts. is_mounted mounts c.args.mount) c.self.view_is ∙ c.requires.absent))
+-- the mount is not in the table as its fields tell it, and there is room
+pub with_last-requires : goal.with_last-requires
+with_last-requires c =
+    latest-lacks c.self.inside.older c.self.inside.gone c.self.inside.latest c.self.invariant c.args.mount
+    (ap (λ mounts. is_mounted mounts c.args.mount) c.self.view_is ∙ c.requires.absent)
+
+pub invariant_of-result-then-len-lt-LATEST_LIMIT : goal.invariant_of-result-then-len-lt-LATEST_LIMIT
+invariant_of-result-then-len-lt-LATEST_LIMIT c =
+    subst (λ older. AreListed older c.self.inside.gone c.in_ok-with_last.field-0) (sym c.in_ok-shared.ensures)
+    (subst (AreListed c.self.inside.older c.self.inside.gone) (sym c.in_ok-with_last.ensures)
+    (later-listed c.self.inside.older c.self.inside.gone c.self.inside.latest c.self.invariant c.args.mount
+    (ap (λ mounts. is_mounted mounts c.args.mount) c.self.view_is ∙ c.requires.absent)
+    (subst (λ mounts. length mounts < 65536) (sym c.self.view_is) c.requires.room)))
+
+pub returns-then-len-lt-LATEST_LIMIT : goal.returns-then-len-lt-LATEST_LIMIT
+returns-then-len-lt-LATEST_LIMIT c =
+    (λ i. listed (c.in_ok-shared.ensures i) c.self.inside.gone (c.in_ok-with_last.ensures i))
+    ∙ one-later c.self.inside.older c.self.inside.gone c.self.inside.latest c.self.invariant c.args.mount
+    (ap (λ mounts. is_mounted mounts c.args.mount) c.self.view_is ∙ c.requires.absent)
+    ∙ ap (λ mounts. mounts ++ c.args.mount ∷ []) c.self.view_is
 
 pub invariant_of-result : goal.invariant_of-result
 invariant_of-result c =
-    let pieces = map arc_value c.self.inside.pieces.items in
-    let shared : map arc_value c.share_pieces.new.owners.items ≡ pieces =
-    c.in_ok-share_pieces.ensures
-    ∙ (λ i. map arc_value (c.in_ok-pieces.ensures.items i) ++ map arc_value (c.deref.ensures.value i)) in
-    let last : arc_value c.in_ok-last.last ≡ c.args.mount ∷ [] = c.in_ok-last.ensures.ok ∙ c.in_ok-of.ensures in
-    let room : c.self.inside.len < 65536 =
-    omega (arith, c.self.invariant.counted, ap length c.self.view_is, c.requires.room) in
-    more-held pieces c.args.mount c.self.inside.len c.self.invariant
-    (ap (λ mounts. is_mounted mounts c.args.mount) c.self.view_is ∙ c.requires.absent)
-    (map arc_value c.add_piece.new.pieces.items)
-    (c.in_ok-add_piece.ensures.joined ∙ (λ i. joined (shared i) ++ last i)) room
-    (λ packed. c.in_ok-add_piece.ensures.packed (subst (ArePacked 256) (sym shared) packed))
+    subst (AreListed c.in_ok-in_pieces.field-0 0) (sym c.in_ok-of.ensures)
+    (with-one c.args.self.now (subst (λ mounts. length mounts ≤ 65536) c.self.view_is c.self.invariant.bounded)
+    (subst AreDistinct c.self.view_is c.self.invariant.distinct) c.in_ok-in_pieces.field-0
+    c.in_ok-in_pieces.ensures.joined c.args.mount c.requires.absent c.requires.room)
+
+pub returns : goal.returns
+returns c =
+    ap (listed c.in_ok-in_pieces.field-0 0) c.in_ok-of.ensures
+    ∙ ap (λ mounts. mounts ++ c.args.mount ∷ []) c.in_ok-in_pieces.ensures.joined

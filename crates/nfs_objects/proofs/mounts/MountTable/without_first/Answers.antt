@@ -1,36 +1,32 @@
-use Rattle.std.proofs.Common.{◌≡◌, ◌∷◌, ◌++◌, ap, drop, map, subst, sym, ◌∙◌}
-use Rattle.std.specs.Arc.{arc_value}
-use Rattle.nfs_objects.proofs.MountTableLemmas.{first-held, others-apart}
+use Rattle.std.proofs.Common.{◌+◌, ◌<◌, ◌≤◌, [], ap, arith, drop, length, rules, subst, sym, ◌∙◌}
+use Rattle.nfs_objects.proofs.MountTableLemmas.{first-dropped, gone-listed, one-gone, without-one}
 use Rattle.nfs_objects.proofs.mounts.MountTable.without_first.Goals as goal
-use Rattle.nfs_objects.specs.MountTables.{AreDistinct, AreInPieces, ArePacked, joined}
+use Rattle.nfs_objects.specs.MountTables.{AreDistinct, AreListed, first_piece, listed}
 
-pub add_pieces-requires : goal.add_pieces-requires
-add_pieces-requires c =
-    let first = arc_value c.in-Some.first.now in
-    let others = map arc_value c.in-Some.others.now in
-    let count = c.self.inside.len in
-    let held : AreInPieces (first ∷ others) count =
-    subst (λ l. AreInPieces (map arc_value l) count) (sym c.deref.ensures.value ∙ c.in-Some.ensures.cases.0)
-    c.self.invariant in
-    let start : joined (map arc_value c.add_piece.new.pieces.items) ≡ drop 1 first =
-    c.in_ok-add_piece.ensures.joined
-    ∙ (λ i. joined (map arc_value (c.new-pieces.ensures.items i))
-    ++ (c.in_ok-new.ensures.ok ∙ c.in_ok-without_first.ensures ∙ ap (drop 1) c.deref-2.ensures) i) in
-    subst AreDistinct (ap (λ xs. xs ++ joined others) (sym start)) (others-apart first others count held)
+pub invariant_of-result-then-gone-lt-first_len : goal.invariant_of-result-then-gone-lt-first_len
+invariant_of-result-then-gone-lt-first_len c =
+    let more : c.self.inside.gone < length (first_piece c.self.inside.older) = search (rules, arith) in
+    subst (λ older. AreListed older (c.self.inside.gone + 1) c.in_ok-copied.field-0) (sym c.in_ok-shared.ensures)
+    (subst (AreListed c.self.inside.older (c.self.inside.gone + 1)) (sym c.in_ok-copied.ensures)
+    (gone-listed c.self.inside.older c.self.inside.gone c.self.inside.latest c.self.invariant more))
+
+pub returns-then-gone-lt-first_len : goal.returns-then-gone-lt-first_len
+returns-then-gone-lt-first_len c =
+    let more : c.self.inside.gone < length (first_piece c.self.inside.older) = search (rules, arith) in
+    (λ i. listed (c.in_ok-shared.ensures i) (c.self.inside.gone + 1) (c.in_ok-copied.ensures i))
+    ∙ one-gone c.self.inside.older c.self.inside.gone c.self.inside.latest c.self.invariant more
+    ∙ ap (drop 1) c.self.view_is
 
 pub invariant_of-result : goal.invariant_of-result
 invariant_of-result c =
-    let first = arc_value c.in-Some.first.now in
-    let others = map arc_value c.in-Some.others.now in
-    let count = c.self.inside.len in
-    let held : AreInPieces (first ∷ others) count =
-    subst (λ l. AreInPieces (map arc_value l) count) (sym c.deref.ensures.value ∙ c.in-Some.ensures.cases.0)
-    c.self.invariant in
-    let start : joined (map arc_value c.add_piece.new.pieces.items) ≡ drop 1 first =
-    c.in_ok-add_piece.ensures.joined
-    ∙ (λ i. joined (map arc_value (c.new-pieces.ensures.items i))
-    ++ (c.in_ok-new.ensures.ok ∙ c.in_ok-without_first.ensures ∙ ap (drop 1) c.deref-2.ensures) i) in
-    first-held first others count held (map arc_value c.add_pieces.new.pieces.items)
-    (c.in_ok-add_pieces.ensures.joined ∙ ap (λ xs. xs ++ joined others) start)
-    (c.in_ok-add_pieces.ensures.packed (c.in_ok-add_piece.ensures.packed
-    (subst (λ l. ArePacked 256 (map arc_value l)) (sym c.new-pieces.ensures.items) tt)))
+    subst (AreListed c.in_ok-in_pieces.field-0 1) (sym c.new.ensures)
+    (without-one c.args.self.now (subst (λ mounts. length mounts ≤ 65536) c.self.view_is c.self.invariant.bounded)
+    (subst AreDistinct c.self.view_is c.self.invariant.distinct) c.in_ok-in_pieces.field-0
+    c.in_ok-in_pieces.ensures.joined c.in_ok-in_pieces.ensures.packed c.requires)
+
+pub returns : goal.returns
+returns c =
+    ap (listed c.in_ok-in_pieces.field-0 1) c.new.ensures
+    ∙ first-dropped c.args.self.now (subst (λ mounts. length mounts ≤ 65536) c.self.view_is c.self.invariant.bounded)
+    (subst AreDistinct c.self.view_is c.self.invariant.distinct) c.in_ok-in_pieces.field-0
+    c.in_ok-in_pieces.ensures.joined
