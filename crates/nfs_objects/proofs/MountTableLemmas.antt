@@ -128,16 +128,16 @@ module _ (m : MountBody) where
   apart-from : (front rest : List MountBody) → AreDistinct (front ++ rest) → is_mounted front m ≡ true →
       is_mounted rest m ≡ false
   apart-from [] rest distinct there = absurd (true≢false (sym there))
-  apart-from (x ∷ front) rest distinct there = by (is_same x m) refl
+  apart-from (x ∷ front) rest distinct there =
+      by (is_same x m) refl (apart-from front rest (IsDistinct-tail is_same x (front ++ rest) distinct))
     where
-      by : (b : Bool) → is_same x m ≡ b → is_mounted rest m ≡ false
-      by true is =
+      by : (b : Bool) → is_same x m ≡ b → (is_mounted front m ≡ true → is_mounted rest m ≡ false) →
+          is_mounted rest m ≡ false
+      by true is later =
           none-alike rest (subst (λ (z : MountBody). AllByRecursion (λ y. is_same z y ≡ false) rest)
           ((mount_decides x m).0 is) (all-back (λ y. is_same x y ≡ false) front rest
           (IsDistinct-head is_same x (front ++ rest) distinct)))
-      by false is =
-          apart-from front rest (IsDistinct-tail is_same x (front ++ rest) distinct)
-          (ap (λ b. b || is_mounted front m) (sym is) ∙ there)
+      by false is later = later (ap (λ b. b || is_mounted front m) (sym is) ∙ there)
 
   -- so what is there and not among the first is behind them
   pub behind-front : (k : ℕ) (xs : List MountBody) → AreDistinct xs →
@@ -307,6 +307,11 @@ pub held-none : AreInPieces [] 0
 unfolding IsDistinct
 held-none = record { counted = refl; bounded = omega arith; packed = tt; distinct = tt }
 
+-- so many as there are
+pub held-counted : (pieces : List (List MountBody)) (count : ℕ) → AreInPieces pieces count →
+    AreInPieces pieces (length (joined pieces))
+held-counted pieces count held = subst (AreInPieces pieces) held.counted held
+
 -- the first ones are of the first piece, which keeps the others
 module _ {X : Type 0} (first : List X) (others : List (List X)) (count : ℕ) (within : count ≤ length first) where
   pub others-kept : drop count first ++ joined others ≡ drop count (joined (first ∷ others))
@@ -320,6 +325,11 @@ pub others-apart : (first : List MountBody) (others : List (List MountBody)) (co
 others-apart first others count within distinct =
     subst AreDistinct (sym (others-kept first others count within))
     (distinct-behind is_same count (joined (first ∷ others)) distinct)
+
+pub first-apart : (first : List MountBody) (others : List (List MountBody)) (count : ℕ) →
+    AreDistinct (joined (first ∷ others)) → AreDistinct (drop count first)
+first-apart first others count distinct =
+    distinct-behind is_same count first (distinct-front is_same first (joined others) distinct)
 
 -- ---- tables
 older-few : (gone : ℕ) (older : List (List MountBody)) → gone ≤ length (first_piece older) →

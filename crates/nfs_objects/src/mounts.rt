@@ -470,6 +470,7 @@ impl Pieces {
             host: sought.host,
             path: sought.path,
         };
+        let _ = &self.pieces;
         self.is_listed(sought) && !self.has_in_front(count, leaving)
     }
 
@@ -537,8 +538,9 @@ impl Pieces {
 }
 
 /// The mounts in order of adding, at most `MOUNT_LIMIT`; each is found by its hash. A table is never changed: one more
-/// mount makes another one, which shares all pieces with it, and copies some tens of mounts. It is made of new pieces
-/// where as many of the latest are there as are kept beside them, or where one leaves that is not the first.
+/// mount makes another one, which shares all pieces with it, and copies some tens of mounts. All is put into pieces
+/// where as many of the latest are there as are kept beside them, where one leaves that is not the first, or where all
+/// of the first piece are gone.
 #[derive(Drop)]
 pub struct MountTable {
     older: Pieces,
@@ -561,7 +563,7 @@ impl Model for MountTable {
 
 impl MountTable {
     ghost use Rattle.nfs_machine.specs.MountSteps.{is_mounted, newest};
-    ghost use Rattle.nfs_objects.specs.MountTables.{mounted};
+    ghost use Rattle.nfs_objects.specs.MountTables.{AreInPieces, mounted};
 
     /// A table without mounts.
     pub fn new(alloc: Global) -> MountTable
@@ -694,7 +696,7 @@ impl MountTable {
     /// All mounts in pieces.
     fn in_pieces(&self, alloc: Global) -> Result<Pieces, AllocError>
         ensures joined { IfOk result (λ pieces. joined pieces ≡ self.now) }
-        ensures packed { IfOk result (λ pieces. ArePacked PIECE_LIMIT pieces) }
+        ensures held { IfOk result (λ pieces. AreInPieces pieces (length self.now)) }
     {
         let mut pieces = self.older.pieces_behind(alloc, self.gone)?;
         add_piece(alloc, &mut pieces, Arc::new(alloc, self.latest.copied()?)?)?;

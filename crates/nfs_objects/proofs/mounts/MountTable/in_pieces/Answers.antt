@@ -3,7 +3,7 @@ use Rattle.std.proofs.lemmas.Result.{IfOk-weaker}
 use Rattle.std.specs.Arc.{arc_value}
 use Rattle.nfs_objects.proofs.MountTableLemmas.{all-held, latest-apart}
 use Rattle.nfs_objects.proofs.mounts.MountTable.in_pieces.Goals as goal
-use Rattle.nfs_objects.specs.MountTables.{AreDistinct, ArePacked, joined}
+use Rattle.nfs_objects.specs.MountTables.{AreDistinct, AreInPieces, joined}
 
 pub pieces_behind-requires : goal.pieces_behind-requires
 pieces_behind-requires c = c.self.invariant.within
@@ -35,8 +35,9 @@ returns-clause-joined c =
     (λ made same. ap joined same ∙ c.in_ok-add_piece.ensures.joined
     ∙ (λ i. c.in_ok-pieces.ensures.joined i ++ latest i) ∙ c.self.view_is) c.of.ensures
 
-pub returns-clause-packed : goal.returns-clause-packed
-returns-clause-packed c =
+pub returns-clause-held : goal.returns-clause-held
+returns-clause-held c =
     IfOk-weaker c.of.result _ _
-    (λ made same. subst (ArePacked 256) (sym same)
-    (c.in_ok-add_piece.ensures.packed c.in_ok-pieces.ensures.packed)) c.of.ensures
+    (λ made same. subst (λ pieces. AreInPieces pieces (length c.args.self.now)) (sym same)
+    (subst (AreInPieces (map arc_value c.add_piece.new.pieces.items)) c.len.ensures.len (of-requires c.before)))
+    c.of.ensures

@@ -2,8 +2,8 @@ use Rattle.std.proofs.Common.{ap, arith, length, subst, ◌≤◌}
 use Rattle.nfs_objects.proofs.MountTableLemmas.{gone-few, listed-count}
 use Rattle.nfs_objects.proofs.mounts.MountTable.len.Goals as goal
 
-pub overflow_sub : goal.overflow_sub
-overflow_sub c =
+pub overflow_sub-result : goal.overflow_sub-result
+overflow_sub-result c =
     let few = gone-few c.self.inside.older c.self.inside.gone c.self.inside.latest c.self.invariant in
     omega (arith, few, c.len.ensures.len)
 

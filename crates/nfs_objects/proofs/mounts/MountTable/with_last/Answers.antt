@@ -10,8 +10,8 @@ with_last-requires c =
     latest-lacks c.self.inside.older c.self.inside.gone c.self.inside.latest c.self.invariant c.args.mount
     (ap (λ mounts. is_mounted mounts c.args.mount) c.self.view_is ∙ c.requires.absent)
 
-pub invariant_of-result-then-len-lt-LATEST_LIMIT : goal.invariant_of-result-then-len-lt-LATEST_LIMIT
-invariant_of-result-then-len-lt-LATEST_LIMIT c =
+pub invariant_of-result : goal.invariant_of-result
+invariant_of-result c =
     subst (λ older. AreListed older c.self.inside.gone c.in_ok-with_last.field-0) (sym c.in_ok-shared.ensures)
     (subst (AreListed c.self.inside.older c.self.inside.gone) (sym c.in_ok-with_last.ensures)
     (later-listed c.self.inside.older c.self.inside.gone c.self.inside.latest c.self.invariant c.args.mount
@@ -25,8 +25,8 @@ returns-then-len-lt-LATEST_LIMIT c =
     (ap (λ mounts. is_mounted mounts c.args.mount) c.self.view_is ∙ c.requires.absent)
     ∙ ap (λ mounts. mounts ++ c.args.mount ∷ []) c.self.view_is
 
-pub invariant_of-result : goal.invariant_of-result
-invariant_of-result c =
+pub invariant_of-result-2 : goal.invariant_of-result-2
+invariant_of-result-2 c =
     subst (AreListed c.in_ok-in_pieces.field-0 0) (sym c.in_ok-of.ensures)
     (with-one c.args.self.now (subst (λ mounts. length mounts ≤ 65536) c.self.view_is c.self.invariant.bounded)
     (subst AreDistinct c.self.view_is c.self.invariant.distinct) c.in_ok-in_pieces.field-0

@@ -1,4 +1,4 @@
-use Rattle.std.proofs.Common.{[], ap, filter, length, not, subst, sym, ◌≤◌, ◌∙◌}
+use Rattle.std.proofs.Common.{ap, filter, not, subst, sym, ◌∙◌}
 use Rattle.std.proofs.lemmas.List.{append-nil}
 use Rattle.nfs_objects.proofs.MountTableLemmas.{filter-distinct, filter-few, pieces-listed}
 use Rattle.nfs_objects.proofs.mounts.MountTable.without.Goals as goal
@@ -12,8 +12,9 @@ invariant_of-result c =
     let mounts = c.args.self.now in
     subst (AreListed c.in_ok-without.field-0 0) (sym c.new.ensures)
     (pieces-listed (filter keep mounts)
-    (filter-few keep mounts (subst (λ l. length l ≤ 65536) c.self.view_is c.self.invariant.bounded))
-    (filter-distinct keep mounts (subst AreDistinct c.self.view_is c.self.invariant.distinct))
+    (filter-few keep mounts c.in_ok-in_pieces.ensures.held.bounded)
+    (filter-distinct keep mounts
+    (subst AreDistinct c.in_ok-in_pieces.ensures.joined c.in_ok-in_pieces.ensures.held.distinct))
     c.in_ok-without.field-0 (c.in_ok-without.ensures ∙ ap (filter keep) c.in_ok-in_pieces.ensures.joined))
 
 pub returns : goal.returns

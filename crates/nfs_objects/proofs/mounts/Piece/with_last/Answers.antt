@@ -1,4 +1,4 @@
-use Rattle.std.proofs.Common.{◌∷◌, ◌++◌, [], ap, ◌∙◌}
+use Rattle.std.proofs.Common.{◌∙◌}
 use Rattle.std.specs.List.{each_same}
 use Rattle.nfs_objects.proofs.MountTableLemmas.{pushed-behind}
 use Rattle.nfs_objects.proofs.mounts.Piece.with_last.Goals as goal

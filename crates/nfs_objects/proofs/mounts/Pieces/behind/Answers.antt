@@ -12,6 +12,6 @@ returns-in-Some c =
     sym c.as_slice.ensures.pieces ∙ ap (map arc_value) c.in-Some.ensures.cases.0 in
     let within = subst (λ ps. c.args.count ≤ length (first_piece ps)) cut c.requires in
     ap (λ front. front ++ joined others ++ c.args.others.now)
-    (c.behind-in-Some.ensures ∙ ap (drop c.args.count) c.deref-in-Some.ensures)
+    (c.behind.ensures ∙ ap (drop c.args.count) c.deref.ensures)
     ∙ ap (λ xs. xs ++ c.args.others.now) (others-kept first others c.args.count within)
     ∙ ap (λ ps. drop c.args.count (joined ps) ++ c.args.others.now) (sym cut)

@@ -1,8 +1,21 @@
 use Rattle.std.proofs.Common.{◌≡◌, ◌≤◌, ◌∷◌, ◌++◌, ap, drop, length, map, subst, sym, ◌∙◌}
 use Rattle.std.specs.Arc.{arc_value}
-use Rattle.nfs_objects.proofs.MountTableLemmas.{others-apart, others-kept}
+use Rattle.nfs_objects.proofs.MountTableLemmas.{first-apart, others-apart, others-kept}
 use Rattle.nfs_objects.proofs.mounts.Pieces.pieces_behind.Goals as goal
 use Rattle.nfs_objects.specs.MountTables.{AreDistinct, ArePacked, first_piece, joined}
+
+pub add_piece-requires : goal.add_piece-requires
+add_piece-requires c =
+    let first = arc_value c.in-Some.first.now in
+    let others = map arc_value c.in-Some.others.now in
+    let cut : c.args.self.now ≡ first ∷ others =
+    sym c.as_slice.ensures.pieces ∙ ap (map arc_value) c.in-Some.ensures.cases.0 in
+    let start : joined (map arc_value c.new-pieces.result.items) ++ arc_value c.in_ok-shortened.field-0
+    ≡ drop c.args.count first =
+    λ i. joined (map arc_value (c.new-pieces.ensures.items i)) ++ c.in_ok-shortened.ensures i in
+    subst AreDistinct (sym start)
+    (first-apart first others c.args.count
+    (subst (λ ps. AreDistinct (joined ps)) cut c.as_slice.ensures.held.distinct))
 
 pub add_pieces-requires : goal.add_pieces-requires
 add_pieces-requires c =
