@@ -333,14 +333,17 @@ abbrev added_of : List Seen → Place → Option Handle → List Addr
 added_of es place h =
     elim h [ None ↦ [] | Some x ↦ places_of x.fileid place.name (shown_at es (addresses.Inode x.fileid)) ]
 
-place-stay : (es more : List Seen) (place : Place) (a : Addr) → IsAmong (added_of es place (handle_of place.directory)) a →
+place-stay : (es more : List Seen) (place : Place) (a : Addr)
+    → IsAmong (added_of es place (handle_of place.directory)) a →
     IsAmong (added_of (es ++ more) place (handle_of place.directory)) a
 place-stay es more place a =
-    elim (handle_of place.directory) as (λ h. IsAmong (added_of es place h) a → IsAmong (added_of (es ++ more) place h) a)
+    elim (handle_of place.directory) as (λ h. IsAmong (added_of es place h) a
+    → IsAmong (added_of (es ++ more) place h) a)
     [ None ↦ λ among. among | Some h ↦ next-stay es more h.fileid place.name a ]
 
 added-stay : (view : ViewValue) (more : List Seen) (numbers : List Reserved) (call : NfsCall) (a : Addr) →
-    IsAmong (added_by view call) a → IsAmong (added_by (record { entries = view.entries ++ more; reserved = numbers }) call) a
+    IsAmong (added_by view call) a
+    → IsAmong (added_by (record { entries = view.entries ++ more; reserved = numbers }) call) a
 added-stay view more numbers (nfs.Create x) a = place-stay view.entries more x.place a
 added-stay view more numbers (nfs.Mkdir x) a = place-stay view.entries more x.place a
 added-stay view more numbers (nfs.Symlink x) a = place-stay view.entries more x.place a
@@ -907,7 +910,8 @@ locks-few (nlm.LockRes a) = omega arith
 locks-few (nlm.CancelRes a) = omega arith
 locks-few (nlm.UnlockRes a) = omega arith
 locks-few (nlm.GrantedRes r) =
-    elim (length r.cookie == 8) as (λ (b : Bool). length (cond {A = List Addr} b (locks_at (from_be_bytes w64 r.cookie)) []) ≤ 64)
+    elim (length r.cookie == 8) as (λ (b : Bool). length (cond {A = List Addr} b (locks_at (from_be_bytes w64 r.cookie))
+    []) ≤ 64)
     [ true ↦ omega arith | false ↦ omega arith ]
 locks-few (nlm.Share a) = file-few a.share.file
 locks-few (nlm.Unshare a) = file-few a.share.file

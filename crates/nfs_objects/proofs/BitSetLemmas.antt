@@ -1,6 +1,7 @@
 -- Sets of bits with one number more.
 use Rattle.std.proofs.Common.{◌≡◌, ◌≢◌, ◌==◌, ◌&&◌, ◌||◌, ℕ, ◌<◌, ◌+◌, ◌*◌, ◌/◌, ◌%◌, ◌^◌, Bool, true, false, nat_lt}
-use Rattle.std.proofs.Common.{List, length, replicate, suc, zero, slice_index_or, slice_set, bit_or, refl, sym, ap, ◌∙◌, subst, arith}
+use Rattle.std.proofs.Common.{List, length, replicate, suc, zero, slice_index_or, slice_set, bit_or, refl, sym, ap, ◌∙◌}
+use Rattle.std.proofs.Common.{subst, arith}
 use Rattle.std.proofs.Math.Bool.{or-false}
 use Rattle.std.proofs.Math.Nat.{div-eq_of_lt-le, pow-suc}
 use Rattle.std.proofs.lemmas.Nat.{leading_top, one_shl}

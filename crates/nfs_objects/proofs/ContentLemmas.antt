@@ -4,7 +4,8 @@ use Rattle.std.proofs.Common.{min, max, inl, inr, refl, sym, ap, ◌∙◌, arit
 use Rattle.std.proofs.Math.Seq.{drop-append-add}
 use Rattle.std.proofs.lemmas.Bool.{cases_lt}
 use Rattle.std.proofs.lemmas.List.{append-nil, append_assoc, drop-append-le, drop-replicate, drop_all, length-drop}
-use Rattle.std.proofs.lemmas.List.{length-replicate, length-take, nil_from_length, replicate-append-replicate, take-replicate, take_all}
+use Rattle.std.proofs.lemmas.List.{length-replicate, length-take, nil_from_length, replicate-append-replicate}
+use Rattle.std.proofs.lemmas.List.{take-replicate, take_all}
 use Rattle.nfs_machine.specs.Data.{resized, written}
 use Rattle.nfs_objects.proofs.FilePartLemmas.{part-resized, part-written, resized-length, resized-none}
 use Rattle.nfs_objects.proofs.FilePartLemmas.{resized-take, take-grown, written-length, written-none}
@@ -44,20 +45,22 @@ resized-twice s p m short = elim (cases_lt p m) [
 ]
 
 -- what is left of bytes with zeros behind them
-drop-zeros : (s : List ℕ) (p k : ℕ) → length s ≤ p → drop k (resized s p) ≡ drop k s ++ replicate (p - max (length s) k) 0
-drop-zeros s p k short = ap (λ xs. drop k (xs ++ replicate (p - length s) 0)) (take_all p s short) ∙ elim (cases_lt (length s) k) [
-  | inl past ↦
-      let at : k ≡ length s + (k - length s) = omega arith in
-      let none : drop k s ≡ [] = drop_all k s (omega arith) in
-      let left : p - length s - (k - length s) ≡ p - max (length s) k = omega arith in
-      ap (λ n. drop n (s ++ replicate (p - length s) 0)) at
-      ∙ drop-append-add s (replicate (p - length s) 0) (k - length s)
-      ∙ drop-replicate (k - length s) (p - length s) 0
-      ∙ (λ i. sym none i ++ replicate (left i) 0)
-  | inr within ↦
-      let left : p - length s ≡ p - max (length s) k = omega arith in
-      drop-append-le k s (replicate (p - length s) 0) within ∙ ap (λ n. drop k s ++ replicate n 0) left
-]
+drop-zeros : (s : List ℕ) (p k : ℕ) → length s ≤ p
+    → drop k (resized s p) ≡ drop k s ++ replicate (p - max (length s) k) 0
+drop-zeros s p k short = ap (λ xs. drop k (xs ++ replicate (p - length s) 0)) (take_all p s short)
+    ∙ elim (cases_lt (length s) k) [
+      | inl past ↦
+          let at : k ≡ length s + (k - length s) = omega arith in
+          let none : drop k s ≡ [] = drop_all k s (omega arith) in
+          let left : p - length s - (k - length s) ≡ p - max (length s) k = omega arith in
+          ap (λ n. drop n (s ++ replicate (p - length s) 0)) at
+          ∙ drop-append-add s (replicate (p - length s) 0) (k - length s)
+          ∙ drop-replicate (k - length s) (p - length s) 0
+          ∙ (λ i. sym none i ++ replicate (left i) 0)
+      | inr within ↦
+          let left : p - length s ≡ p - max (length s) k = omega arith in
+          drop-append-le k s (replicate (p - length s) 0) within ∙ ap (λ n. drop k s ++ replicate n 0) left
+    ]
 
 -- written before or behind the zeros are added
 pub written-resized : (s w : List ℕ) (p at : ℕ) → length s ≤ p →
@@ -65,7 +68,8 @@ pub written-resized : (s w : List ℕ) (p at : ℕ) → length s ≤ p →
 written-resized s w p at short =
     let k = at + length w in
     let long = written-length s at w in
-    let all : take (max p k) (written s at w) ≡ written s at w = take_all (max p k) (written s at w) (omega (arith, long)) in
+    let all : take (max p k) (written s at w) ≡ written s at w = take_all (max p k) (written s at w)
+    (omega (arith, long)) in
     let left : p - max (length s) k ≡ max p k - length (written s at w) = omega (arith, long) in
     (λ i. resized-twice s p at short i ++ w ++ drop-zeros s p k short i)
     ∙ sym (append_assoc (resized s at ++ w) (drop k s) (replicate (p - max (length s) k) 0))
@@ -96,13 +100,15 @@ module _ (size : ℕ) (stored : ℕ → List ℕ) (bytes : List ℕ) (is : IsCon
         | inl behind ↦
             let none : drop (i * block_size) (resized bytes new) ≡ [] =
             drop_all (i * block_size) (resized bytes new) (omega (arith, resized-length bytes new)) in
-            let nothing : part_at (resized bytes new) i ≡ [] = ap (take block_size) none ∙ take_all block_size [] (omega arith) in
+            let nothing : part_at (resized bytes new) i ≡ [] = ap (take block_size) none
+            ∙ take_all block_size [] (omega arith) in
             let zero : length (part_at (resized bytes new) i) ≡ 0 = ap length nothing in
             nothing ∙ sym (ap (resized (after i)) zero ∙ empty (after i))
         | inr before ↦
             let c = min block_size (new - i * block_size) in
             let count : length (part_at (resized bytes new) i) ≡ c =
-            part-length (resized bytes new) i ∙ ap (λ n. min block_size (n - i * block_size)) (resized-length bytes new) in
+            part-length (resized bytes new) i
+            ∙ ap (λ n. min block_size (n - i * block_size)) (resized-length bytes new) in
             let short = is.short i in
             let most = part-length bytes i in
             sym (part-resized bytes new i c before refl)

@@ -30,7 +30,8 @@ module _ (s t : Store) (n : ℕ) (pages : (page : ℕ) → t.at (addresses.Page 
         (has.parts bucket part);
   }
 
-  pub holds-frame : (m : Option EntryMap) (entries : List Entry) → HoldsEntries s n m entries → HoldsEntries t n m entries
+  pub holds-frame : (m : Option EntryMap) (entries : List Entry) → HoldsEntries s n m entries
+      → HoldsEntries t n m entries
   holds-frame (Some m) entries holds = entries-frame m entries holds
   holds-frame None entries holds =
       (λ page. pages page ∙ holds.0 page, λ bucket part. parts bucket part ∙ holds.1 bucket part)
@@ -46,7 +47,8 @@ module _ (s t : Store) (n : ℕ) (pages : (page : ℕ) → t.at (addresses.Page 
   }
 
 -- all directories stay, where their inodes, pages and parts do, and the state has the same exports and objects
-pub directories-stay : (s t : Store) (k l : Kept) → ((n page : ℕ) → t.at (addresses.Page n page) ≡ s.at (addresses.Page n page))
+pub directories-stay : (s t : Store) (k l : Kept)
+    → ((n page : ℕ) → t.at (addresses.Page n page) ≡ s.at (addresses.Page n page))
     → ((n bucket part : ℕ) → t.at (addresses.Part n bucket part) ≡ s.at (addresses.Part n bucket part))
     → ((n : ℕ) → t.at (addresses.Inode n) ≡ s.at (addresses.Inode n)) → l.state.exports ≡ k.state.exports
     → ((n : ℕ) → entries_at l.state n ≡ entries_at k.state n) → StandDirectories s k → StandDirectories t l
@@ -108,7 +110,8 @@ module _ (s : Store) (k : Kept) (number : ℕ) (o : Option Object) (last : ℕ �
 
 -- ---- writes to the pages and parts of one directory
 module _ (number : ℕ) (s : Store) (k : Kept) (but : StandDirectoriesBut number s k) where
-  pub page-but : (page : ℕ) (o : Option Object) → StandDirectoriesBut number (with_write s (addresses.Page number page) o) k
+  pub page-but : (page : ℕ) (o : Option Object)
+      → StandDirectoriesBut number (with_write s (addresses.Page number page) o) k
   page-but page o n other =
       let t : Store = with_write s (addresses.Page number page) o in
       stand-frame s t n (λ p. ap (λ b. cond (b && (page == p)) o (s.at (addresses.Page n p))) other)
@@ -122,12 +125,15 @@ module _ (number : ℕ) (s : Store) (k : Kept) (but : StandDirectoriesBut number
       (λ c q. ap (λ b. cond (b && ((bucket == c) && (part == q))) o (s.at (addresses.Part n c q))) other)
       k k refl refl refl (but n other)
 
-  pub map-but : (page : ℕ) (o : Option Object) → StandDirectoriesBut number (with_write s (addresses.Map number page) o) k
+  pub map-but : (page : ℕ) (o : Option Object)
+      → StandDirectoriesBut number (with_write s (addresses.Map number page) o) k
   map-but page o n other =
       stand-frame s (with_write s (addresses.Map number page) o) n (λ p. refl) (λ bucket part. refl) k k refl refl refl
       (but n other)
 
-  pub block-but : (index : ℕ) (o : Option Object) → StandDirectoriesBut number (with_write s (addresses.Block number index) o) k
+  pub block-but : (index : ℕ) (o : Option Object)
+      → StandDirectoriesBut number (with_write s (addresses.Block number index) o) k
   block-but index o n other =
-      stand-frame s (with_write s (addresses.Block number index) o) n (λ p. refl) (λ bucket part. refl) k k refl refl refl
+      stand-frame s (with_write s (addresses.Block number index) o) n (λ p. refl) (λ bucket part. refl) k k refl
+      refl refl
       (but n other)

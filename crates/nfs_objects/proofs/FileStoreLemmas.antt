@@ -14,8 +14,10 @@ use Rattle.nfs_objects.proofs.DirectoryStoreLemmas.{directories-but}
 use Rattle.nfs_objects.specs.Bits.{has}
 use Rattle.nfs_objects.specs.FileMaps.{FileMapValue, IsContent}
 use Rattle.nfs_objects.specs.Stands.{HasBlocks, IsMapped, IsStored, Kept, Represents, StandFiles, bytes_at, file_bytes}
-use Rattle.nfs_objects.specs.Stands.{content_of, inode_in, inode_there, living_alone, living_of_inode, map_in, map_of, pages_of}
-use Rattle.nfs_objects.specs.Stands.{Beside, HoldsEntries, beside_at, directory_entries, entry_map_in, filled, stored_in}
+use Rattle.nfs_objects.specs.Stands.{content_of, inode_in, inode_there, living_alone, living_of_inode, map_in, map_of}
+use Rattle.nfs_objects.specs.Stands.{pages_of}
+use Rattle.nfs_objects.specs.Stands.{Beside, HoldsEntries, beside_at, directory_entries, entry_map_in, filled}
+use Rattle.nfs_objects.specs.Stands.{stored_in}
 use Rattle.nfs_objects.specs.Store.{Store, put_at}
 use Rattle.nfs_objects.specs.Unfiled.{RepresentsBut, StandFilesBut}
 use Rattle.nfs_objects.specs.declared.address.Addr.TheVariants as addresses
@@ -36,7 +38,8 @@ pub living-own : (beside : Beside) (i : Inode) →
     living_of_inode (beside_of (filled beside (content_of i.content))) i ≡ living_of_inode beside i
 living-own beside i = λ j. record (living_of_inode beside i) { content = own i.content j }
   where
-    own : (c : Content) → filled (beside_of (filled beside (content_of c))) (content_of c) ≡ filled beside (content_of c)
+    own : (c : Content) → filled (beside_of (filled beside (content_of c))) (content_of c) ≡ filled beside
+        (content_of c)
     own (contents.Regular map) = refl
     own (contents.Directory directory) = refl
     own (contents.Link text) = refl
@@ -140,7 +143,8 @@ files-stay s t k l same stand = record {
   blocks = λ n. record {
     maps = λ p. subst (λ x. IsMapped (has (pages_of (x.0 n)) p) (x.1 n p)) (sym same) ((stand.blocks n).maps p);
     blocks = λ i.
-        subst (λ x. IsStored (has (map_of (x.1 n (i / 512))) (i % 512)) (x.2 n i)) (sym same) ((stand.blocks n).blocks i);
+        subst (λ x. IsStored (has (map_of (x.1 n (i / 512))) (i % 512)) (x.2 n i)) (sym same)
+        ((stand.blocks n).blocks i);
   };
   bytes = λ n i map there is.
       subst (λ x. IsContent map.size (λ b. stored_in (x.2 n b)) (living_bytes (get x.4 n))) (sym same)

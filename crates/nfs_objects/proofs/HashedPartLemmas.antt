@@ -4,7 +4,8 @@ use Rattle.std.proofs.Common.{◌≡◌, ◌⊎◌, ℕ, zero, suc, ◌+◌, ◌
 use Rattle.std.proofs.Common.{inl, inr, sym, ◌∙◌, ap, subst, pow-suc, mod-lt, Bool, true, false, ◌&&◌, ◌||◌, ◌==◌, List}
 use Rattle.std.specs.Prelude.{nat_lt}
 use Rattle.std.specs.Int.{leading_zeros, w32}
-use Rattle.std.proofs.lemmas.Bool.{and_parts, and_right, cases_eq, cases_order, cond-false, cond-true, cond_both, eq-eqb}
+use Rattle.std.proofs.lemmas.Bool.{and_parts, and_right, cases_eq, cases_order, cond-false, cond-true, cond_both}
+use Rattle.std.proofs.lemmas.Bool.{eq-eqb}
 use Rattle.std.proofs.lemmas.Bool.{eqb-true, le-ltb, lt-ltb, ltb-true, ne_eqb, or_left, or_right}
 use Rattle.std.proofs.lemmas.Nat.{leading_top, pow_pos}
 use lib.Arith.{mod-mul}
@@ -91,7 +92,8 @@ top-more : (width : ℕ) → 0 < width → suc width < 2 ^ 31 → (top_of (suc w
     ((top_of (suc width) ≡ top_of width * 2) × (suc width ≡ top_of width * 2))
 top-more width some small = by (cases_order (suc width) (2 ^ j * 2))
   where
-    t : (j : ℕ) × (top_of width ≡ 2 ^ j) × (2 ^ j ≤ width) × (width < 2 ^ j * 2) × (leading_zeros w32 width + suc j ≡ 32)
+    t : (j : ℕ) × (top_of width ≡ 2 ^ j) × (2 ^ j ≤ width) × (width < 2 ^ j * 2)
+        × (leading_zeros w32 width + suc j ≡ 32)
     t = top-is width some (omega (arith, small))
 
     j : ℕ
@@ -116,7 +118,8 @@ top-more width some small = by (cases_order (suc width) (2 ^ j * 2))
     )
       where
         few : (j ≡ 31) ⊎ ((j < 31) ⊎ (31 < j)) → suc (suc j) ≤ 32
-        few (inl last) = absurd (let least : 2 ^ 31 ≤ width = subst (λ k. 2 ^ k ≤ width) last t.2 in omega (arith, least, small))
+        few (inl last) = absurd (let least : 2 ^ 31 ≤ width = subst (λ k. 2 ^ k ≤ width) last t.2 in omega
+            (arith, least, small))
         few (inr (inl less)) = omega (arith, less)
         few (inr (inr more)) = absurd (omega (arith, more, t.4))
     by (inr (inl less)) = inl (unique j (omega (arith, t.4)) (omega (arith, t.2)) less ∙ sym t.1)

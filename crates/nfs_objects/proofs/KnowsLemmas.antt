@@ -16,7 +16,8 @@ use Rattle.nfs_objects.specs.Asks.{Asks, WantsNumber, WantsNumbers, Lacks, IsThe
 use Rattle.nfs_objects.specs.Attempt.{StopsCall}
 use Rattle.nfs_wire.specs.declared.calls.NfsCall.{NfsCall}
 use Rattle.side_wire.specs.declared.nlm.NlmCall.{NlmCall}
-use Rattle.nfs_objects.specs.Calls.{IsAmong, added_by, addresses_of, data_of, handles_of, named_by, nfs_handles, objects_at}
+use Rattle.nfs_objects.specs.Calls.{IsAmong, added_by, addresses_of, data_of, handles_of, named_by, nfs_handles}
+use Rattle.nfs_objects.specs.Calls.{objects_at}
 use Rattle.nfs_objects.specs.Calls.{locks_lost, locks_named, nlm_handles}
 use Rattle.nfs_objects.specs.Calls.{usages_of}
 use Rattle.nfs_objects.specs.Knows.{Turns}
@@ -222,7 +223,8 @@ names-exports (calls.Replace exports) view = inl refl
 pub names-objects : (call : Call) (view : ViewValue) (a : Addr) → IsAmong (objects_at view (handles_of call)) a →
     IsAmong (named_by call view) a
 names-objects (calls.Nfs call) view a among =
-    inr (among-front (objects_at view (nfs_handles call)) (data_of call ++ (added_by view call ++ locks_lost view call)) a
+    inr (among-front (objects_at view (nfs_handles call))
+    (data_of call ++ (added_by view call ++ locks_lost view call)) a
     among)
 names-objects (calls.Mount call) view a among = absurd among
 names-objects (calls.Nlm call) view a among =
@@ -232,14 +234,16 @@ names-objects (calls.Replace exports) view a among = absurd among
 pub names-data : (call : NfsCall) (view : ViewValue) (a : Addr) → IsAmong (data_of call) a →
     IsAmong (named_by (calls.Nfs call) view) a
 names-data call view a among =
-    inr (among-behind (objects_at view (nfs_handles call)) (data_of call ++ (added_by view call ++ locks_lost view call)) a
+    inr (among-behind (objects_at view (nfs_handles call))
+    (data_of call ++ (added_by view call ++ locks_lost view call)) a
     (among-front (data_of call) (added_by view call ++ locks_lost view call) a among))
 
 -- and where a name goes that it may add
 pub names-added : (call : NfsCall) (view : ViewValue) (a : Addr) → IsAmong (added_by view call) a →
     IsAmong (named_by (calls.Nfs call) view) a
 names-added call view a among =
-    inr (among-behind (objects_at view (nfs_handles call)) (data_of call ++ (added_by view call ++ locks_lost view call)) a
+    inr (among-behind (objects_at view (nfs_handles call))
+    (data_of call ++ (added_by view call ++ locks_lost view call)) a
     (among-behind (data_of call) (added_by view call ++ locks_lost view call) a
     (among-front (added_by view call) (locks_lost view call) a among)))
 
@@ -247,7 +251,8 @@ names-added call view a among =
 pub names-lost : (call : NfsCall) (view : ViewValue) (a : Addr) → IsAmong (locks_lost view call) a →
     IsAmong (named_by (calls.Nfs call) view) a
 names-lost call view a among =
-    inr (among-behind (objects_at view (nfs_handles call)) (data_of call ++ (added_by view call ++ locks_lost view call)) a
+    inr (among-behind (objects_at view (nfs_handles call))
+    (data_of call ++ (added_by view call ++ locks_lost view call)) a
     (among-behind (data_of call) (added_by view call ++ locks_lost view call) a
     (among-behind (added_by view call) (locks_lost view call) a among)))
 

@@ -180,11 +180,14 @@ lays-map number d page o = record {
   modes = refl;
   messages = refl;
   lays = λ s k but. subst (λ (x : Store). RepresentsBut number x k)
-      (sym (writes-append d.writes s (addresses.Map number page) o)) (map-laid number (with_writes s d.writes) k but page o);
+      (sym (writes-append d.writes s (addresses.Map number page) o)) (map-laid number (with_writes s d.writes) k but
+      page o);
   inodes = λ s n. ap (λ (x : Store). x.at (addresses.Inode n)) (writes-append d.writes s (addresses.Map number page) o);
   entries = λ s. record {
-    pages = λ n q. ap (λ (x : Store). x.at (addresses.Page n q)) (writes-append d.writes s (addresses.Map number page) o);
-    parts = λ n c q. ap (λ (x : Store). x.at (addresses.Part n c q)) (writes-append d.writes s (addresses.Map number page) o);
+    pages = λ n q. ap (λ (x : Store). x.at (addresses.Page n q))
+        (writes-append d.writes s (addresses.Map number page) o);
+    parts = λ n c q. ap (λ (x : Store). x.at (addresses.Part n c q))
+        (writes-append d.writes s (addresses.Map number page) o);
   };
   locks = λ s b. ap (λ (x : Store). x.at (addresses.Locks b)) (writes-append d.writes s (addresses.Map number page) o);
 }
@@ -199,12 +202,16 @@ lays-block number d index o = record {
   lays = λ s k but. subst (λ (x : Store). RepresentsBut number x k)
       (sym (writes-append d.writes s (addresses.Block number index) o))
       (block-laid number (with_writes s d.writes) k but index o);
-  inodes = λ s n. ap (λ (x : Store). x.at (addresses.Inode n)) (writes-append d.writes s (addresses.Block number index) o);
+  inodes = λ s n. ap (λ (x : Store). x.at (addresses.Inode n))
+      (writes-append d.writes s (addresses.Block number index) o);
   entries = λ s. record {
-    pages = λ n q. ap (λ (x : Store). x.at (addresses.Page n q)) (writes-append d.writes s (addresses.Block number index) o);
-    parts = λ n c q. ap (λ (x : Store). x.at (addresses.Part n c q)) (writes-append d.writes s (addresses.Block number index) o);
+    pages = λ n q. ap (λ (x : Store). x.at (addresses.Page n q))
+        (writes-append d.writes s (addresses.Block number index) o);
+    parts = λ n c q. ap (λ (x : Store). x.at (addresses.Part n c q))
+        (writes-append d.writes s (addresses.Block number index) o);
   };
-  locks = λ s b. ap (λ (x : Store). x.at (addresses.Locks b)) (writes-append d.writes s (addresses.Block number index) o);
+  locks = λ s b. ap (λ (x : Store). x.at (addresses.Locks b))
+      (writes-append d.writes s (addresses.Block number index) o);
 }
 
 -- the same of pages and parts
@@ -246,10 +253,13 @@ enters-page number d page o = record {
   lays = λ s k but. subst (λ (x : Store). RepresentsBut number x k)
       (sym (writes-append d.writes s (addresses.Page number page) o))
       (page-laid number (with_writes s d.writes) k but page o);
-  inodes = λ s n. ap (λ (x : Store). x.at (addresses.Inode n)) (writes-append d.writes s (addresses.Page number page) o);
+  inodes = λ s n. ap (λ (x : Store). x.at (addresses.Inode n))
+      (writes-append d.writes s (addresses.Page number page) o);
   blocks = λ s. record {
-    maps = λ n q. ap (λ (x : Store). x.at (addresses.Map n q)) (writes-append d.writes s (addresses.Page number page) o);
-    blocks = λ n q. ap (λ (x : Store). x.at (addresses.Block n q)) (writes-append d.writes s (addresses.Page number page) o);
+    maps = λ n q. ap (λ (x : Store). x.at (addresses.Map n q))
+        (writes-append d.writes s (addresses.Page number page) o);
+    blocks = λ n q. ap (λ (x : Store). x.at (addresses.Block n q))
+        (writes-append d.writes s (addresses.Page number page) o);
   };
   locks = λ s b. ap (λ (x : Store). x.at (addresses.Locks b)) (writes-append d.writes s (addresses.Page number page) o);
 }
@@ -272,5 +282,6 @@ enters-part number d bucket part o = record {
     blocks = λ n q.
         ap (λ (x : Store). x.at (addresses.Block n q)) (writes-append d.writes s (addresses.Part number bucket part) o);
   };
-  locks = λ s b. ap (λ (x : Store). x.at (addresses.Locks b)) (writes-append d.writes s (addresses.Part number bucket part) o);
+  locks = λ s b. ap (λ (x : Store). x.at (addresses.Locks b))
+      (writes-append d.writes s (addresses.Part number bucket part) o);
 }

@@ -1,11 +1,13 @@
 -- The addresses of the pages and parts of a directory, one after the other.
-use Rattle.std.proofs.Common.{◌≡◌, ◌⊎◌, ℕ, suc, ◌+◌, ◌-◌, ◌^◌, ◌<◌, ◌≤◌, ◌==◌, ◌&&◌, ◌||◌, Bool, true, false, List, [], ◌∷◌, ◌++◌}
+use Rattle.std.proofs.Common.{◌≡◌, ◌⊎◌, ℕ, suc, ◌+◌, ◌-◌, ◌^◌, ◌<◌, ◌≤◌, ◌==◌, ◌&&◌, ◌||◌, Bool, true, false, List, []}
+use Rattle.std.proofs.Common.{◌∷◌, ◌++◌}
 use Rattle.std.proofs.Common.{Option, Some, None, length, refl, sym, ◌∙◌, ap, subst, arith, inl, inr}
 use Rattle.std.proofs.Math.ListN.{get_or-eq_default}
 use Rattle.std.proofs.lemmas.Bool.{and_from, cases_order, eq-eqb, le-ltb, lt-ltb, ltb-false, ltb-true, ne_eqb, or_left}
 use Rattle.std.proofs.lemmas.List.Folds.{list_any-append}
 use Rattle.std.specs.Prelude.{nat_lt}
-use Rattle.nfs_objects.specs.Directories.{HasBesides, count_in, is_beside, is_listed, is_page_of, is_part_of, width_in, width_of}
+use Rattle.nfs_objects.specs.Directories.{HasBesides, count_in, is_beside, is_listed, is_page_of, is_part_of, width_in}
+use Rattle.nfs_objects.specs.Directories.{width_of}
 use Rattle.nfs_objects.specs.PageRuns.{IsNextPage, lists}
 use Rattle.nfs_objects.specs.Values.{is_addr}
 use Rattle.nfs_objects.specs.declared.address.Addr.{Addr}
@@ -24,12 +26,14 @@ or-assoc true b c = refl
 or-assoc false b c = refl
 
 -- an address more
-pub listed-last : (listed : List Addr) (b a : Addr) → is_listed (listed ++ b ∷ []) a ≡ (is_listed listed a || is_addr b a)
+pub listed-last : (listed : List Addr) (b a : Addr)
+    → is_listed (listed ++ b ∷ []) a ≡ (is_listed listed a || is_addr b a)
 listed-last listed b a =
     list_any-append (λ (x : Addr). is_addr x a) listed (b ∷ [])
     ∙ ap (λ t. is_listed listed a || t) (or-false (is_addr b a))
 
-pub besides-none : (others : Addr → Bool) (listed : List Addr) → ((a : Addr) → others a ≡ false) → HasBesides others listed listed
+pub besides-none : (others : Addr → Bool) (listed : List Addr) → ((a : Addr) → others a ≡ false)
+    → HasBesides others listed listed
 besides-none others listed none a = sym (ap (λ b. is_listed listed a || b) (none a) ∙ or-false (is_listed listed a))
 
 pub besides-last : (others more : Addr → Bool) (old mid : List Addr) (b : Addr) → HasBesides others old mid
@@ -60,7 +64,8 @@ abbrev pub IsNextListed : List PageRun → (next : Option ℕ) → Type 0
 IsNextListed pages None = Unit {0}
 IsNextListed pages (Some next) = lists pages next ≡ true
 
-pub next-listed : (pages : List PageRun) (from : ℕ) (next : Option ℕ) → IsNextPage pages from next → IsNextListed pages next
+pub next-listed : (pages : List PageRun) (from : ℕ) (next : Option ℕ) → IsNextPage pages from next
+    → IsNextListed pages next
 next-listed pages from None is = tt
 next-listed pages from (Some next) is = is.1
 
@@ -80,7 +85,8 @@ fewer pages page (Some next) fits is = omega (arith, fits, is.0)
 
 module _ (pages : List PageRun) (directory : ℕ) where
   -- before the first page from the first number on lies none
-  before-first : (next : Option ℕ) (page : ℕ) → IsNextPage pages 0 next → (lists pages page && is_before next page) ≡ false
+  before-first : (next : Option ℕ) (page : ℕ) → IsNextPage pages 0 next
+      → (lists pages page && is_before next page) ≡ false
   before-first None page is = ap (λ b. b && true) (is page (omega arith))
   before-first (Some next) page is = by (nat_lt page next) refl
     where
@@ -88,7 +94,8 @@ module _ (pages : List PageRun) (directory : ℕ) where
       by true less = ap (λ b. b && nat_lt page next) (is.2 page (omega arith) (ltb-true page next less))
       by false more = ap (λ b. lists pages page && b) more ∙ none-listed (lists pages page)
 
-  pub none-before : (next : Option ℕ) → IsNextPage pages 0 next → (a : Addr) → is_page_before pages directory next a ≡ false
+  pub none-before : (next : Option ℕ) → IsNextPage pages 0 next → (a : Addr)
+      → is_page_before pages directory next a ≡ false
   none-before next is Exports = refl
   none-before next is (Inode n) = refl
   none-before next is (Map n page) = refl
@@ -106,10 +113,11 @@ module _ (pages : List PageRun) (directory : ℕ) where
   all-before (Inode n) = refl
   all-before (Map n page) = refl
   all-before (Block n index) = refl
-  all-before (Page n page) = elim (lists pages page) as (λ b. ((directory == n) && (b && true)) ≡ ((directory == n) && b)) [
-    | true ↦ refl
-    | false ↦ refl
-  ]
+  all-before (Page n page) = elim (lists pages page) as
+      (λ b. ((directory == n) && (b && true)) ≡ ((directory == n) && b)) [
+        | true ↦ refl
+        | false ↦ refl
+      ]
   all-before (Part n bucket part) = refl
   all-before Mounts = refl
   all-before (Usage e g) = refl

@@ -1,8 +1,11 @@
 -- Runs of pages that rise: where a page is in them, and what a page more and a page less make of them.
-use Rattle.std.proofs.Common.{◌≡◌, ◌⊎◌, ℕ, zero, suc, ◌+◌, ◌-◌, ◌<◌, ◌≤◌, ◌^◌, ◌==◌, ◌&&◌, ◌||◌, Bool, true, false, not, cond}
-use Rattle.std.proofs.Common.{List, [], ◌∷◌, ◌++◌, length, take, drop, get_or, refl, sym, ◌∙◌, ap, subst, arith, inl, inr}
+use Rattle.std.proofs.Common.{◌≡◌, ◌⊎◌, ℕ, zero, suc, ◌+◌, ◌-◌, ◌<◌, ◌≤◌, ◌^◌, ◌==◌, ◌&&◌, ◌||◌, Bool, true, false, not}
+use Rattle.std.proofs.Common.{cond}
+use Rattle.std.proofs.Common.{List, [], ◌∷◌, ◌++◌, length, take, drop, get_or, refl, sym, ◌∙◌, ap, subst, arith, inl}
+use Rattle.std.proofs.Common.{inr}
 use Rattle.std.proofs.Common.{Option, Some, None, ltb, ◌≢◌, IfSome, slice_get}
-use Rattle.std.proofs.lemmas.Bool.{and_left, and_right, cases_order, eqb-true, eq-eqb, le-leb, lt-leb, ltb-true, ltb-false, ne_eqb, or_from}
+use Rattle.std.proofs.lemmas.Bool.{and_left, and_right, cases_order, eqb-true, eq-eqb, le-leb, lt-leb, ltb-true}
+use Rattle.std.proofs.lemmas.Bool.{ltb-false, ne_eqb, or_from}
 use Rattle.std.proofs.lemmas.Bool.{or_parts, or_right, true≢false}
 use Rattle.std.proofs.Common.{append_assoc, take-append-drop}
 use Rattle.std.proofs.Math.Bool.{or-false}
@@ -229,7 +232,8 @@ listed-more (run ∷ front) old new page p is =
 
 -- one page less so, where the runs in front end before it
 pub listed-less : (front old new : List PageRun) (page p : ℕ) → EndBefore page front →
-    lists new p ≡ (lists old p && not (p == page)) → lists (front ++ new) p ≡ (lists (front ++ old) p && not (p == page))
+    lists new p ≡ (lists old p && not (p == page))
+    → lists (front ++ new) p ≡ (lists (front ++ old) p && not (p == page))
 listed-less [] old new page p ends is = is
 listed-less (run ∷ front) old new page p ends is =
     ap (λ b. in_run p run || b) (listed-less front old new page p ends.1 is) ∙ by (cases_order p page)
@@ -269,7 +273,8 @@ any-front [] = tt
 any-front (run ∷ runs) = (tt, any-front runs)
 
 -- runs that reach a page and do not list it begin behind it
-not-listed : (page : ℕ) (rest : List PageRun) → RunsRise rest → Reach page rest → lists rest page ≡ false → BeginBehind page rest
+not-listed : (page : ℕ) (rest : List PageRun) → RunsRise rest → Reach page rest → lists rest page ≡ false
+    → BeginBehind page rest
 not-listed page [] rise reach out = tt
 not-listed page (run ∷ rest) rise reach out =
     (by (cases_order page run.first), behind-less (run.last + 1) page rest (omega (arith, reach.0)) rise.2)
@@ -566,7 +571,8 @@ module _ (page : ℕ) (run : PageRun) (others : List PageRun) (rise : RunsRise (
       same-both s t u e f = ap (λ v. (v || t) || lists others p) e ∙ ap (λ v. (u || v) || lists others p) f
           ∙ ap (λ v. v || lists others p) (or-false u)
 
-      kept : (p == page) ≡ false → (in_run p run || lists others p) ≡ ((in_run p run || lists others p) && not (p == page))
+      kept : (p == page) ≡ false
+          → (in_run p run || lists others p) ≡ ((in_run p run || lists others p) && not (p == page))
       kept apart = sym (ap (λ v. (in_run p run || lists others p) && not v) apart
           ∙ elim (in_run p run || lists others p) as (λ v. (v && true) ≡ v) [ true ↦ refl | false ↦ refl ])
 
@@ -633,7 +639,8 @@ not-there page runs out p = by (cases_order p page)
     by (inr (inr more)) = stays (ne_eqb p page (λ same. omega (arith, more, same)))
 
 module _ (page place : ℕ) (runs : List PageRun) (run : PageRun) (rise : RunsRise runs) (within : place < length runs)
-    (is : run ≡ get_or runs place run) (ends : EndBefore page (take place runs)) (reach : Reach page (drop place runs)) where
+    (is : run ≡ get_or runs place run) (ends : EndBefore page (take place runs))
+    (reach : Reach page (drop place runs)) where
   rest-is : drop place runs ≡ run ∷ drop (suc place) runs
   rest-is = drop-cons runs place run within ∙ ap (λ (r : PageRun). r ∷ drop (suc place) runs) (sym is)
 
@@ -663,7 +670,8 @@ module _ (page place : ℕ) (runs : List PageRun) (run : PageRun) (rise : RunsRi
       (taken.0, λ p. taken.1 p ∙ ap (λ l. lists l p && not (p == page)) (sym split-is))
 
 -- runs that rise list a page, if there is any
-pub some-page : (runs : List PageRun) (empty : Bool) → RunsRise runs → empty ≡ (length runs == 0) → TellsEmpty runs empty
+pub some-page : (runs : List PageRun) (empty : Bool) → RunsRise runs → empty ≡ (length runs == 0)
+    → TellsEmpty runs empty
 some-page [] true rise is = λ page. refl
 some-page [] false rise is = cc
 some-page (run ∷ runs) true rise is = absurd (omega (arith, eqb-true (length (run ∷ runs)) 0 (sym is)))

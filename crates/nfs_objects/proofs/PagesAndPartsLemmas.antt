@@ -81,7 +81,8 @@ filter-swap p q (e ∷ es) = by (p e) (q e) refl refl (filter-swap p q es)
         ∙ sym (ap (λ b. filter q (cond b (e ∷ filter p es) (filter p es))) x)
 
 -- a page without a name is the page of the entries without it
-pub page-without : (page : ℕ) (es : List Entry) (name : List ℕ) → in_page page (without es name) ≡ without (in_page page es) name
+pub page-without : (page : ℕ) (es : List Entry) (name : List ℕ)
+    → in_page page (without es name) ≡ without (in_page page es) name
 page-without page es name =
     filter-swap (λ (e : Entry). e.cookie / 64 == page) (λ (e : Entry). not (same_bytes e.name name)) es
 

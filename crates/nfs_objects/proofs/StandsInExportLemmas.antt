@@ -78,14 +78,16 @@ module _ (exports : List LivingExport) where
 pub exported-there : (s : Store) (k : Kept) (n : ℕ) (o : Living) → Represents s k →
     get k.state.objects n ≡ Some o → lives_in k.state.exports o.export ≡ true
 exported-there s k n o stands at =
-    let found = living-stands k.state.exports (beside_at k.state n) (s.at (addresses.Inode n)) o (sym (stands.objects.objects n) ∙ at) in
+    let found = living-stands k.state.exports (beside_at k.state n) (s.at (addresses.Inode n)) o
+    (sym (stands.objects.objects n) ∙ at) in
     subst (λ (x : Living). lives_in k.state.exports x.export ≡ true) found.is found.there.lives
 
 -- something stands where an object lives
 pub object-stands : (s : Store) (k : Kept) (n : ℕ) (o : Living) → Represents s k →
     get k.state.objects n ≡ Some o → IsSome (s.at (addresses.Inode n))
 object-stands s k n o stands at =
-    let found = living-stands k.state.exports (beside_at k.state n) (s.at (addresses.Inode n)) o (sym (stands.objects.objects n) ∙ at) in
+    let found = living-stands k.state.exports (beside_at k.state n) (s.at (addresses.Inode n)) o
+    (sym (stands.objects.objects n) ∙ at) in
     subst (λ (x : Option Object). IsSome x) (sym found.there.stands) refl
 
 -- each store has a table of exports

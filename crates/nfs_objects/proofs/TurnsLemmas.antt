@@ -21,9 +21,11 @@ use Rattle.nfs_objects.proofs.SeenLemmas.{known-stands, writes-append}
 use Rattle.nfs_objects.proofs.BitSetLemmas.{has-none}
 use Rattle.nfs_objects.proofs.ContentLemmas.{content-new}
 use Rattle.nfs_objects.proofs.DirectoryStoreLemmas.{directories-put, directories-stay, no-entries}
-use Rattle.nfs_objects.proofs.FileStoreLemmas.{HasContent, HasListing, alone-is, beside_of, bytes-own, files-put, files-stay}
+use Rattle.nfs_objects.proofs.FileStoreLemmas.{HasContent, HasListing, alone-is, beside_of, bytes-own, files-put}
+use Rattle.nfs_objects.proofs.FileStoreLemmas.{files-stay}
 use Rattle.nfs_objects.proofs.FileStoreLemmas.{living-own, living_beside, living_bytes, living_entries, stands-but}
-use Rattle.nfs_objects.proofs.LocksStandLemmas.{KeepsFile, files-same, keeps-put, keeps-same, locks-gone, locks-stay, none-listed}
+use Rattle.nfs_objects.proofs.LocksStandLemmas.{KeepsFile, files-same, keeps-put, keeps-same, locks-gone, locks-stay}
+use Rattle.nfs_objects.proofs.LocksStandLemmas.{none-listed}
 use Rattle.nfs_objects.specs.Bits.{has, no_bits}
 use Rattle.nfs_objects.specs.Directories.{no_entries}
 use Rattle.nfs_objects.specs.FileMaps.{FileMapValue, IsContent}
@@ -36,7 +38,8 @@ use Rattle.nfs_objects.specs.Edits.{edited, freed, recounted, set_at, with_livin
 use Rattle.nfs_objects.specs.Fits.{Fits}
 use Rattle.nfs_objects.specs.Knows.{ShowsExport, Turns, TurnsWhere}
 use Rattle.nfs_objects.specs.Stands.{IsFitting, Kept, Represents, counts, inode_in, inode_there, links_kept, lives_in}
-use Rattle.nfs_objects.specs.Stands.{HasBlocks, IsMapped, IsStored, StandFiles, bytes_at, file_bytes, content_of, file_of, living_in}
+use Rattle.nfs_objects.specs.Stands.{HasBlocks, IsMapped, IsStored, StandFiles, bytes_at, file_bytes, content_of}
+use Rattle.nfs_objects.specs.Stands.{file_of, living_in}
 use Rattle.nfs_objects.specs.Stands.{map_in, map_of, living_alone, pages_of, stored_in}
 use Rattle.nfs_objects.specs.Stands.{StandLocks, StandObjects, StandTables, bucket_there, export_table_of, exports_of}
 use Rattle.nfs_objects.specs.Stands.{living_of_inode}
@@ -189,7 +192,8 @@ objects_in s k = (
 objects-stay : (s t : Store) (k l : Kept) → objects_in t l ≡ objects_in s k → StandObjects s k → StandObjects t l
 objects-stay s t k l same stand = record {
   objects = λ n.
-      ap (λ x. get x.3 n) same ∙ stand.objects n ∙ ap (λ x. living_in x.2 (living_beside (get x.3 n)) (x.0 n)) (sym same);
+      ap (λ x. get x.3 n) same ∙ stand.objects n ∙ ap (λ x. living_in x.2 (living_beside (get x.3 n)) (x.0 n))
+      (sym same);
   links = λ n.
       ap (λ x. x.4 n) same ∙ stand.links n ∙ ap (λ x. links_kept (inode_in x.2 (x.0 n))) (sym same);
   parents = λ n.
@@ -217,7 +221,8 @@ numbered-put m at number new numbered here n i is =
 
 -- the files of the store where an inode was put
 put-files : (s : Store) (k : Kept) (n : ℕ) (i : Inode) (beside : Beside) (last : ℕ → ℕ) → RepresentsBut n s k
-    → HasBlocks s n (pages_of (Some (objects.Inode i))) → HasContent s n beside.bytes i → lives_in k.state.exports i.export ≡ true
+    → HasBlocks s n (pages_of (Some (objects.Inode i))) → HasContent s n beside.bytes i
+    → lives_in k.state.exports i.export ≡ true
     → (l : Kept) → l.state.exports ≡ k.state.exports
     → l.state.objects ≡ insert k.state.objects n (living_of_inode beside i)
     → StandFiles (record { at = put_at s.at (addresses.Inode n) (Some (objects.Inode i)); last = last }) l
@@ -225,10 +230,12 @@ put-files s k n i beside last stands filed content lives l exports living =
     files-put s k n (Some (objects.Inode i)) last stands.files filed l exports
     (λ q other. ap (λ m. living_bytes (get m q)) living ∙ bytes-there k.state.objects n new q other)
     (λ j there map is.
-    let same : i ≡ j = one (sym (inode-lives l.state.exports i (ap (λ es. lives_in es i.export) exports ∙ lives)) ∙ there) in
+    let same : i ≡ j = one (sym (inode-lives l.state.exports i (ap (λ es. lives_in es i.export) exports ∙ lives))
+    ∙ there) in
     let was : map_in i.content ≡ Some map = ap (λ (x : Inode). map_in x.content) same ∙ is in
     subst (IsContent map.size (λ b. stored_in (s.at (addresses.Block n b))))
-    (sym (ap (λ m. living_bytes (get m n)) living ∙ bytes-here k.state.objects n new ∙ bytes-own beside i.content map was))
+    (sym (ap (λ m. living_bytes (get m n)) living ∙ bytes-here k.state.objects n new
+    ∙ bytes-own beside i.content map was))
     (content map was))
   where
     new : Living
@@ -287,7 +294,8 @@ put-stands s k n i beside stands filed content listing within fits lives keeps =
   directories = put-directories s k n i beside (give s.last (addresses.Inode n) (Some (objects.Inode i))) stands listing
       (with_living k n (living_of_inode beside i) i.links (parent_in i.content)) refl refl;
   usages = record { usage = stands.usages.usage };
-  locks = locks-stay s _ k.state _ refl (keeps-put s n i (give s.last (addresses.Inode n) (Some (objects.Inode i))) keeps)
+  locks = locks-stay s _ k.state _ refl
+      (keeps-put s n i (give s.last (addresses.Inode n) (Some (objects.Inode i))) keeps)
       stands.locks;
 }
 
@@ -321,7 +329,8 @@ free-stands s k n stands filed emptied unlocked = record {
     spent = stands.objects.spent;
   };
   files = files-put s k n None s.last stands.files filed (freed k n) refl
-      (λ q other. ap living_bytes (get-removed k.state.objects n q ∙ ap (λ b. cond b None (get k.state.objects q)) other))
+      (λ q other. ap living_bytes (get-removed k.state.objects n q
+      ∙ ap (λ b. cond b None (get k.state.objects q)) other))
       (λ i there. cc);
   directories = directories-put s k n None s.last stands.directories [] emptied (freed k n) refl
       (λ q other. ap living_entries (get-removed k.state.objects n q
@@ -369,7 +378,8 @@ new-content s n i none map is = by i.content is
         IsContent map.size (λ b. stored_in (s.at (addresses.Block n b))) (file_bytes (content_of c))
     by (contents.Regular own) is =
         let same : own ≡ map = cc in
-        subst (λ (m : FileMapValue). IsContent m.size (λ b. stored_in (s.at (addresses.Block n b))) (replicate own.size 0))
+        subst (λ (m : FileMapValue). IsContent m.size (λ b. stored_in (s.at (addresses.Block n b)))
+        (replicate own.size 0))
         same (content-new own.size (λ b. stored_in (s.at (addresses.Block n b))) none)
     by (contents.Directory directory) is = cc
     by (contents.Link text) is = cc
@@ -412,7 +422,8 @@ pub new-stands : (s : Store) (k : Kept) (n : ℕ) (i : Inode) → Represents s k
     → Represents (with_write s (addresses.Inode n) (Some (objects.Inode i)))
     (with_new k n (living_alone i) i.links (parent_in i.content))
 new-stands s k n i stands vacant none bare fits lives = subst (λ (o : Living).
-    Represents (with_write s (addresses.Inode n) (Some (objects.Inode i))) (with_new k n o i.links (parent_in i.content)))
+    Represents (with_write s (addresses.Inode n) (Some (objects.Inode i)))
+    (with_new k n o i.links (parent_in i.content)))
     (alone-is i) (record {
       tables = tables-stay s _ k.state _ refl stands.tables;
       objects = record {
@@ -484,7 +495,8 @@ mounts-stand s k table stands = record {
 }
 
 -- these are the locks, shares, requests and grants, and which numbers of grants are spent
-abbrev pub locks_with : State → FinMap nat_cmp (List Lock) → FinMap nat_cmp (List Share) → FinMap nat_cmp (List Request) →
+abbrev pub locks_with : State → FinMap nat_cmp (List Lock) → FinMap nat_cmp (List Share)
+    → FinMap nat_cmp (List Request) →
     FinMap nat_cmp PendingGrant → (ℕ → Bool) → State
 locks_with m locks shares waiting granted spent = record m {
   locks = locks;
@@ -682,7 +694,8 @@ pub filed-same : (s : Store) (k : Kept) (n : ℕ) (i j : Inode) → Represents s
     → HasBlocks s n (pages_of (Some (objects.Inode j)))
 filed-same s k n i j stands at same = record {
   maps = λ page. subst (λ b. IsMapped (has b page) (s.at (addresses.Map n page)))
-      (ap pages_of at ∙ ap (λ f. elim f [ None ↦ no_bits | Some map ↦ map.pages ]) (sym same)) ((stands.files.blocks n).maps page);
+      (ap pages_of at ∙ ap (λ f. elim f [ None ↦ no_bits | Some map ↦ map.pages ]) (sym same))
+      ((stands.files.blocks n).maps page);
   blocks = (stands.files.blocks n).blocks;
 }
 
@@ -718,7 +731,8 @@ module _ (d : DraftValue) (n : ℕ) where
       known_at d (addresses.Inode n) ≡ Some (Some (objects.Inode i)) → ShowsExport d i.export
       → j.export ≡ i.export
       → ((beside : Beside) → living_of_inode beside j ≡ object (living_of_inode beside i))
-      → map_in j.content ≡ map_in i.content → entry_map_in j.content ≡ entry_map_in i.content → j.links ≡ links i.links →
+      → map_in j.content ≡ map_in i.content → entry_map_in j.content ≡ entry_map_in i.content
+      → j.links ≡ links i.links →
       parent_in j.content ≡ parent_in i.content → j.generation ≡ i.generation → IsFitting n j
       → Turns d (next (Some (objects.Inode j))) (λ k. edited k n object links)
   edit-turns i j object links known live exported is kept listed linked under generation fitting =
@@ -757,7 +771,8 @@ module _ (d : DraftValue) (n : ℕ) where
   pub free-turns : (i : Option Object) → known_at d (addresses.Inode n) ≡ Some i → file_of i ≡ None →
       entry_map_of i ≡ None → Turns d (next None) (λ k. freed k n)
   free-turns i known other unlisted = turns-next None (λ k. freed k n) (λ s k fits stands.
-      let at : (with_writes s d.writes).at (addresses.Inode n) ≡ i = known-stands d s (addresses.Inode n) i fits known in
+      let at : (with_writes s d.writes).at (addresses.Inode n) ≡ i = known-stands d s (addresses.Inode n) i fits
+      known in
       free-stands (with_writes s d.writes) k n (stands-but n (with_writes s d.writes) k stands) (record {
         maps = λ page. subst (λ b. IsMapped (has b page) ((with_writes s d.writes).at (addresses.Map n page)))
             (ap pages_of at ∙ no-pages i other) ((stands.files.blocks n).maps page);
@@ -791,6 +806,7 @@ module _ (d : DraftValue) (n : ℕ) where
         subst (λ (x : Store). Represents x (with_new (f k) n (living_alone i) i.links (parent_in i.content)))
         (sym (writes-append d.writes s (addresses.Inode n) (Some (objects.Inode i))))
         (new-stands (with_writes s d.writes) (f k) n i (turns.turns s k fits stands)
-        (known-stands d s (addresses.Inode n) None (subst (λ v. Fits v s) (sym turns.view) fits) vacant) none bare fitting
+        (known-stands d s (addresses.Inode n) None (subst (λ v. Fits v s) (sym turns.view) fits) vacant) none bare
+        fitting
         (ap (λ es. lives_in es i.export) (stay k) ∙ live s k fits stands));
   }

@@ -1,5 +1,6 @@
 use Rattle.std.proofs.Common.{◌<◌, List, Some, arith, subst, suc, sym}
-use Rattle.nfs_objects.proofs.PagePartAddressLemmas.{IsNextListed, besides-last, besides-none, fewer, is_page_before, left_from}
+use Rattle.nfs_objects.proofs.PagePartAddressLemmas.{IsNextListed, besides-last, besides-none, fewer, is_page_before}
+use Rattle.nfs_objects.proofs.PagePartAddressLemmas.{left_from}
 use Rattle.nfs_objects.proofs.PagePartAddressLemmas.{next-listed, none-before, page-more}
 use Rattle.nfs_objects.proofs.entry_map.push_pages.Goals as goal
 use Rattle.nfs_objects.specs.Directories.{HasBesides}

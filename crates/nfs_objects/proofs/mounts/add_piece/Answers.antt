@@ -3,7 +3,8 @@ use Rattle.std.specs.Arc.{arc_value}
 use Rattle.nfs_objects.specs.MountTables.{AreDistinct, is_same}
 use Rattle.nfs_objects.proofs.MountTableLemmas.{first-packed, grown-packed, last-apart, more-packed, not-fit}
 use Rattle.nfs_objects.proofs.mounts.add_piece.Goals as goal
-use Rattle.nfs_objects.proofs.mounts.add_piece.Goals.{in_default-via-in-Some+else-fit_together, in_default-via-in_default}
+use Rattle.nfs_objects.proofs.mounts.add_piece.Goals.{in_default-via-in-Some+else-fit_together}
+use Rattle.nfs_objects.proofs.mounts.add_piece.Goals.{in_default-via-in_default}
 
 pub joined_with-requires : goal.joined_with-requires
 joined_with-requires c =

@@ -1,5 +1,6 @@
 use Rattle.std.proofs.Common.{◌+◌, ◌∙◌, ◌||◌, [], List, ap, arith, subst, sym}
-use Rattle.nfs_objects.proofs.PagePartAddressLemmas.{besides-both, bucket-more, buckets-all, is_beside_below, pages-first}
+use Rattle.nfs_objects.proofs.PagePartAddressLemmas.{besides-both, bucket-more, buckets-all, is_beside_below}
+use Rattle.nfs_objects.proofs.PagePartAddressLemmas.{pages-first}
 use Rattle.nfs_objects.proofs.entry_map.EntryMap.addresses.Goals as goal
 use Rattle.nfs_objects.specs.Directories.{HasBesides, is_listed, is_page_of, is_part_of}
 use Rattle.nfs_objects.specs.declared.address.Addr.{Addr}

@@ -21,7 +21,8 @@ invariant_of-result c =
     let found = c.in-Some.ensures.lookup.3 in
     let within = subst (λ l. place < length l) c.runs-old.ensures.value found.0 in
     let is = subst (λ l. run ≡ get_or l place run) c.runs-old.ensures.value (found.1 run) in
-    let whole : c.in_ok-new.field-0.value.items ≡ (take place c.args.self.now ++ rest_of c.args.page run) ++ drop (place + 1) c.args.self.now =
+    let whole : c.in_ok-new.field-0.value.items ≡ (take place c.args.self.now ++ rest_of c.args.page run) ++ drop
+    (place + 1) c.args.self.now =
     grind (arith, common_steps) in
     subst RunsRise (sym whole) (page-left c.args.page place c.args.self.now run c.runs-old.ensures.rise within is
     c.place_of-place.ensures.before c.place_of-place.ensures.behind c.if-page-run.false).0
@@ -33,7 +34,8 @@ returns c =
     let found = c.in-Some.ensures.lookup.3 in
     let within = subst (λ l. place < length l) c.runs-old.ensures.value found.0 in
     let is = subst (λ l. run ≡ get_or l place run) c.runs-old.ensures.value (found.1 run) in
-    let whole : c.in_ok-new.field-0.value.items ≡ (take place c.args.self.now ++ rest_of c.args.page run) ++ drop (place + 1) c.args.self.now =
+    let whole : c.in_ok-new.field-0.value.items ≡ (take place c.args.self.now ++ rest_of c.args.page run) ++ drop
+    (place + 1) c.args.self.now =
     grind (arith, common_steps) in
     subst (λ l. (p : ℕ) → lists l p ≡ (lists c.args.self.now p && not (p == c.args.page))) (sym whole)
     (page-left c.args.page place c.args.self.now run c.runs-old.ensures.rise within is
