@@ -1,6 +1,7 @@
 pub mod AddEntryLemmas
 pub mod DirectoryMapLemmas
 pub mod BucketPutLemmas
+pub mod BuriedFileLemmas
 pub mod ClearDirectoryLemmas
 pub mod ClimbLemmas
 pub mod MakerChainLemmas

@@ -1,6 +1,7 @@
 pub mod Asked
 pub mod Asking
 pub mod Blocks
+pub mod Burying
 pub mod Counts
 pub mod Cuts
 pub mod Entered

@@ -17,6 +17,7 @@ ghost use Rattle.nfs_inodes.specs.Kinds.{IsShown};
 ghost use Rattle.nfs_inodes.specs.Makes.{IsFree, link_lost, made_under, removed};
 ghost use Rattle.nfs_inodes.specs.Stops.{StillStands, StopsAt, StopsMaking, counted_at};
 
+use crate::burying::buried;
 use crate::content::asking::Asking;
 use crate::content::clearing::clear_entries;
 use crate::content::file::clear;
@@ -49,7 +50,8 @@ pub fn lose_link(draft: &mut Draft<'_>, number: u64, links: u32) -> Result<(), H
     }
 }
 
-/// What stands at a number goes, with all that stands beside it, and with what it has of locks.
+/// What stands at a number goes, with what it has of locks. A large file is buried, and of all else goes what stands
+/// beside it.
 fn free(draft: &mut Draft<'_>, number: u64) -> Result<(), Halt>
     requires alone { MayChange draft.old (Addr.Inode number) }
     requires locks { draft.old.modes.locks ≡ Mode.Exclusive }
@@ -59,6 +61,9 @@ fn free(draft: &mut Draft<'_>, number: u64) -> Result<(), Halt>
 {
     uncount(draft, number)?;
     forget_locks(draft, number)?;
+    if let Some(left) = buried(draft, number)? {
+        return Ok(draft.put(number, left)?);
+    }
     clear(draft, number)?;
     clear_entries(draft, number)?;
     Ok(draft.free(number)?)

@@ -8,6 +8,7 @@ ghost use Rattle.nfs_objects.specs.Asks.{Asks, IsThere};
 ghost use Rattle.nfs_objects.specs.Modes.{led_at};
 ghost use Rattle.nfs_inodes.specs.Gathers.{MayWish};
 
+use crate::burying::is_large;
 use crate::content::cut::ask_data;
 use crate::content::listing::ask_pages;
 use crate::content::taking::leaf_of;
@@ -162,7 +163,7 @@ fn count_behind(page: &EntryPage, cookie: u64) -> usize {
 }
 
 /// The data, which the draft lacks, of a file at a number that goes with its last name: its map pages, and once the
-/// draft has them the blocks that they tell of.
+/// draft has them the blocks that they tell of. That of a large file stays.
 pub fn data_wish(draft: &Draft<'_>, number: u64) -> Option<Vec<Wish>>
     requires { draft.now.writes ≡ [] }
     ensures { IfSome result (λ asked. Asks draft.now.modes [] draft.now.view asked.items) }
@@ -173,7 +174,7 @@ pub fn data_wish(draft: &Draft<'_>, number: u64) -> Option<Vec<Wish>>
     let Content::Regular(map) = &inode.content else {
         return None;
     };
-    if inode.links > 1 {
+    if inode.links > 1 || is_large(&inode.content) {
         return None;
     }
     match ask_data(draft, number, map.pages()) {

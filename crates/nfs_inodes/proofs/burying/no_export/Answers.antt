@@ -1,0 +1,19 @@
+use Rattle.std.proofs.Common.{refl}
+use Rattle.std.specs.Prelude.{option_copied}
+use Rattle.std.proofs.lemmas.Result.{err_from_is_err_and}
+use Rattle.nfs_objects.specs.declared.address.Addr.TheVariants as addresses
+use Rattle.nfs_inodes.proofs.BuriedFileLemmas.{none-has}
+use Rattle.nfs_inodes.proofs.ReaderHaltLemmas.{lacking-stops}
+use Rattle.nfs_inodes.proofs.burying.no_export.Goals as goal
+
+pub returns-in_err-_table : goal.returns-in_err-_table
+returns-in_err-_table c =
+    let p = err_from_is_err_and c.from_residual.result c.from_residual.ensures.1 in
+    rw (p.1, p.2) (lacking-stops c.args.draft.now addresses.Exports _ c.in_err-_table.ensures.known)
+
+pub returns : goal.returns
+returns c = (
+  refl,
+  none-has c.args.draft.now (option_copied c.in_ok-_table._table) c.in_ok-_table.ensures.known
+      c.in_ok-_table.ensures.table,
+)
