@@ -3,7 +3,7 @@
 //! What belongs to no export that lives stands for nothing. So a large file is gone with one write, which does not grow
 //! with it, and its number is not given again while its inode is there. What is left of it can be taken away later.
 
-ghost use Rattle.std.specs.Prelude.{◌≡◌, ◌∷◌, ◌×◌, [], IfSome, MatchResult};
+ghost use Rattle.std.specs.Prelude.{◌≡◌, ◌∷◌, [], IfSome, MatchResult, false};
 ghost use Rattle.std.specs.Bool.{Decides};
 ghost use Rattle.nfs_objects.specs.Calls.{addresses_of};
 ghost use Rattle.nfs_objects.specs.Knows.{Shows};
