@@ -31,7 +31,7 @@ use Rattle.nfs_objects.specs.declared.object.Inode.{Inode}
 use Rattle.nfs_objects.specs.declared.object.Object.{Object}
 use Rattle.nfs_objects.specs.declared.object.Object.TheVariants as objects
 use Rattle.nfs_inodes.proofs.PutObjectLemmas.{known-inode}
-use Rattle.nfs_inodes.specs.Burying.{IsBuried}
+use Rattle.nfs_inodes.specs.Burying.{IsBuried, IsLarge}
 use Rattle.nfs_inodes.specs.Known.{HasInode}
 use Rattle.nfs_inodes.specs.Locks.{HasNone}
 
@@ -169,6 +169,18 @@ module _ (s : Store) (k : Kept) (n : ℕ) (i j : Inode) (stands : Represents s k
           ∙ ap (λ b. cond b None (get k.state.objects q)) (nat_eq_equiv.symm q n)
 
 -- ---- the draft
+-- what is left of it, made of a copy
+pub buried-copy : (d : DraftValue) (n : ℕ) (copy was : Inode) (export : ℕ) → HasInode d n (Some was) →
+    IsLarge was.content → copy ≡ was → export ≡ 0 → Shows d (λ k. lives_in k.state.exports export ≡ false) →
+    IsBuried d n (record copy { export = export })
+buried-copy d n copy was export has large same zero none = record {
+  was = was;
+  stands = has;
+  large = large;
+  is = ap (λ e. record copy { export = e }) zero ∙ ap (λ (x : Inode). record x { export = 0 }) same;
+  none = subst (λ e. Shows d (λ k. lives_in k.state.exports e ≡ false)) zero none;
+}
+
 module _ (d : DraftValue) (n : ℕ) (j : Inode) (buried : IsBuried d n j) where
   pub buried-turns : (new : DraftValue) → HasNone d n
       → new ≡ with_written d (addresses.Inode n) (Some (objects.Inode j)) → Turns d new (λ k. freed k n)

@@ -51,8 +51,8 @@ fn no_export(draft: &Draft<'_>) -> Result<u32, Halt>
         (λ export. (export ≡ 0) × Shows draft.now (λ k. lives_in k.state.exports export ≡ false))
         (StopsAt draft.now (Addr.Exports ∷ [])) }
 {
-    // The table brings how exports are numbered.
-    let _table = draft.export_table()?;
+    // It brings how exports are numbered.
+    draft.export_table()?;
     Ok(NO_EXPORT)
 }
 

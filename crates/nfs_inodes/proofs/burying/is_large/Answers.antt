@@ -1,4 +1,4 @@
-use Rattle.std.proofs.Common.{◌≡◌, Bool, false, None, Some, refl, subst, ap}
+use Rattle.std.proofs.Common.{◌≡◌, ◌∙◌, Bool, false, None, Some, ap, refl, subst, sym}
 use Rattle.std.specs.Bool.{Decides}
 use Rattle.nfs_objects.specs.FileMaps.{FileMapValue}
 use Rattle.nfs_objects.specs.Stands.{map_in}
@@ -29,3 +29,11 @@ none-told content none = (
   λ e. absurd cc,
   λ large. (let both : None ≡ Some large.map = sym none ∙ large.is in cc),
 )
+
+pub returns-in-Regular : goal.returns-in-Regular
+returns-in-Regular c =
+    file-told c.args.content.now c.in-Regular.map c.has_two.result (ap map_in c.in-Regular.is)
+    (rw c.pages.ensures at c.has_two.ensures)
+
+pub returns-in_default : goal.returns-in_default
+returns-in_default c = none-told c.args.content.now (no-map c.args.content.now c.in_default.not-Regular)

@@ -6,14 +6,14 @@ use Rattle.nfs_inodes.proofs.BuriedFileLemmas.{none-has}
 use Rattle.nfs_inodes.proofs.ReaderHaltLemmas.{lacking-stops}
 use Rattle.nfs_inodes.proofs.burying.no_export.Goals as goal
 
-pub returns-in_err-_table : goal.returns-in_err-_table
-returns-in_err-_table c =
+pub returns-in_err-export_table : goal.returns-in_err-export_table
+returns-in_err-export_table c =
     let p = err_from_is_err_and c.from_residual.result c.from_residual.ensures.1 in
-    rw (p.1, p.2) (lacking-stops c.args.draft.now addresses.Exports _ c.in_err-_table.ensures.known)
+    rw (p.1, p.2) (lacking-stops c.args.draft.now addresses.Exports _ c.in_err-export_table.ensures.known)
 
 pub returns : goal.returns
 returns c = (
   refl,
-  none-has c.args.draft.now (option_copied c.in_ok-_table._table) c.in_ok-_table.ensures.known
-      c.in_ok-_table.ensures.table,
+  none-has c.args.draft.now (option_copied c.in_ok-export_table.field-0) c.in_ok-export_table.ensures.known
+      c.in_ok-export_table.ensures.table,
 )

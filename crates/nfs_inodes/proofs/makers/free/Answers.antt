@@ -57,14 +57,14 @@ returns-in_err-forget_locks c =
       | inr lock ↦ among-behind (counted_at c.args.draft.now c.args.number) (locks_at c.args.number) a lock
     ])) before)
 
-pub returns-in_err-buried : goal.returns-in_err-buried
-returns-in_err-buried c =
-    let p = err_from_is_err_and c.from_residual-in_err-buried.result c.from_residual-in_err-buried.ensures.1 in
+pub returns-in_err-left : goal.returns-in_err-left
+returns-in_err-left c =
+    let p = err_from_is_err_and c.from_residual-in_err-left.result c.from_residual-in_err-left.ensures.1 in
     rw (p.1, p.2) (locked-stops c.args.draft.now c.args.number _ (object-stops c.args.draft.now c.args.number _
     (stops-before c.args.draft.now c.forget_locks.new.draft (forgot c.args.number)
     (λ v. addresses_of v c.args.number) _
     (turned c.args.number _ _ _ c.in_ok-uncount.ensures.turns c.in_ok-forget_locks.ensures.turns)
-    c.in_err-buried.ensures)))
+    c.in_err-left.ensures)))
 
 pub put-requires-clause-alone : goal.put-requires-clause-alone
 put-requires-clause-alone c =
@@ -74,18 +74,18 @@ put-requires-clause-alone c =
 
 pub put-requires-clause-known : goal.put-requires-clause-known
 put-requires-clause-known c =
-    buried-known c.forget_locks.new.draft c.args.number c.in-Some.left (rw c.in-Some.is at c.in_ok-buried.ensures)
+    buried-known c.forget_locks.new.draft c.args.number c.in-Some.left (rw c.in-Some.is at c.in_ok-left.ensures)
 
 pub put-requires-clause-given : goal.put-requires-clause-given
 put-requires-clause-given c =
     buried-generation c.forget_locks.new.draft c.args.number c.in-Some.left
-    (rw c.in-Some.is at c.in_ok-buried.ensures)
+    (rw c.in-Some.is at c.in_ok-left.ensures)
 
 pub returns-in-Some : goal.returns-in-Some
 returns-in-Some c =
     forgotten-removed c.args.number c.args.draft.now c.uncount.new.draft c.forget_locks.new.draft c.put.new.self
     c.in_ok-uncount.ensures.turns c.in_ok-forget_locks.ensures.turns
-    (buried-turns c.forget_locks.new.draft c.args.number c.in-Some.left (rw c.in-Some.is at c.in_ok-buried.ensures)
+    (buried-turns c.forget_locks.new.draft c.args.number c.in-Some.left (rw c.in-Some.is at c.in_ok-left.ensures)
     c.put.new.self c.in_ok-forget_locks.ensures.none c.in_ok-put.ensures.ok)
 
 pub clear-requires-clause-alone : goal.clear-requires-clause-alone
