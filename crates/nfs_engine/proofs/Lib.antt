@@ -48,3 +48,12 @@ pub mod NoReplyKeptLemmas
 pub mod HeldCountLemmas
 pub mod StoreWriteLemmas
 pub mod TidySlotLemmas
+pub mod SweptBookLemmas
+pub mod DeadInodeLemmas
+pub mod SweepShardLemmas
+pub mod SweepStoreStepLemmas
+pub mod SweptEngineLemmas
+pub mod SweptStoreLemmas
+pub mod SweepStepLemmas
+pub mod SlotReplacedLemmas
+pub mod SlotWriteLemmas

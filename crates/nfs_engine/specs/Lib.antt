@@ -26,5 +26,7 @@ pub mod Running
 pub mod Settling
 pub mod Shards
 pub mod Standing
+pub mod Sweeps
+pub mod SweptShards
 pub mod Tables
 pub mod Taking

@@ -16,6 +16,7 @@ ghost use Rattle.nfs_engine.specs.Opening.{IsStartError, Opens, no_store};
 ghost use Rattle.nfs_engine.specs.Repeats.{Keeps, NoneIsKept, origin_of};
 ghost use Rattle.nfs_engine.specs.Running.{living_count, running_at};
 ghost use Rattle.nfs_engine.specs.Standing.{HasObjects};
+ghost use Rattle.nfs_engine.specs.Sweeps.{MaySweep, Sweeps};
 ghost use Rattle.nfs_engine.specs.Tables.{Stands};
 ghost use Rattle.nfs_objects.specs.Store.{with_writes};
 ghost use Rattle.nfs_objects.specs.Values.{write_value};
@@ -37,6 +38,7 @@ use crate::opening::{Config, StartError, is_limit, opening_writes};
 use crate::outbox::Posted;
 use crate::records::Era;
 use crate::running::{AdmitError, Calls, Place};
+use crate::sweeping::Sweep;
 use bytes::Bytes;
 use nfs_machine::laws::side_replies_have_forms;
 use nfs_machine::{Ctx, Limits};
@@ -405,6 +407,16 @@ impl Book {
         ensures rebases { Rebases self.old self.new }
     {
         self.journal.new_era(alloc)
+    }
+
+    /// Makes a sweep: nothing that the store stands for changes. It takes no memory.
+    pub fn sweep(&mut self, sweep: Sweep)
+        requires { MaySweep (store_in self.old) sweep }
+        ensures sweeps { Sweeps (store_in self.old) (store_in self.new) sweep }
+        ensures rest { self.new ≡ record self.old { objects = self.new.objects } }
+        ensures leads { LeadsBook self.old self.new }
+    {
+        self.journal.sweep(sweep);
     }
 
     /// How many records the era has, and what they are counted as: for each the bytes that came in, of exports those

@@ -1,6 +1,6 @@
 //! The book and the sixteen shards as one, for one thread.
 
-ghost use Rattle.std.specs.Prelude.{◌≡◌, ◌<◌, ◌+◌, ℕ, None, IfErr, IfOk, OnErr, OnOk};
+ghost use Rattle.std.specs.Prelude.{◌≡◌, ◌<◌, ◌+◌, ℕ, None, IfErr, IfOk, OnErr, OnOk, false, true};
 ghost use Rattle.std.specs.Prelude.{length, map};
 ghost use Rattle.std.specs.Bool.{Decides};
 ghost use Rattle.std.specs.List.{AllByRecursion};
@@ -18,6 +18,8 @@ ghost use Rattle.nfs_engine.specs.Repeats.{Keeps, origin_of};
 ghost use Rattle.nfs_engine.specs.Running.{living_count};
 ghost use Rattle.nfs_engine.specs.Settling.{IsSettled};
 ghost use Rattle.nfs_engine.specs.Standing.{HasObjects};
+ghost use Rattle.nfs_engine.specs.Sweeps.{IsSweptAt};
+ghost use Rattle.nfs_engine.specs.SweptShards.{SweepsAmong};
 ghost use Rattle.nfs_machine.specs.RpcReplies.{success_message};
 
 use crate::admission::{Admission, Refused};
@@ -32,10 +34,12 @@ use crate::release::{Next, Release};
 use crate::running::AdmitError;
 use crate::shard::{ReserveError, SHARDS, Shard, shard_index};
 use crate::starting::{new_shards, open_all};
+use crate::sweeping::Sweep;
 use crate::taking::Got;
-use nfs_objects::{Addr, Mode, View, Write};
+use nfs_objects::{Addr, Mode, Object, View, Write};
 use std::alloc::{AllocError, Global};
 use std::marker::Model;
+use std::sync::Arc;
 
 /// The book, and who holds what of its store.
 #[derive(Drop)]
@@ -307,6 +311,40 @@ impl Engine {
         self.book.new_era(alloc)
     }
 
+    /// Sweeps the last map page of the file at a number, if that is dead: whether nothing is left of the file then. None
+    /// where nothing is swept: no such file stands there, somebody holds what would go, or something of locks stands
+    /// for it. What stood is handed out, so that it can be dropped apart.
+    ///
+    /// # Errors
+    ///
+    /// There is no memory for what is left of the inode; or no room for `SWEPT` objects more in what is handed out, and
+    /// no memory for it. Nothing is changed.
+    pub fn sweep(
+        &mut self,
+        alloc: Global,
+        number: u64,
+        swept: &mut Vec<Arc<Object>>,
+    ) -> Result<Option<bool>, AllocError>
+        ensures sweeps { IfOk result
+            (λ last. IsSweptAt (store_in self.old.book) (store_in self.new.book) number last) }
+        ensures others { KeepsAll self.old self.new }
+        ensures counters { KeepsCounters self.old self.new }
+        ensures leads { LeadsBook self.old.book self.new.book }
+        ensures rest { self.new.book ≡ record self.old.book { objects = self.new.book.objects } }
+        ensures err { OnErr result (self.new ≡ self.old) }
+    {
+        let Some(sweep) = self.book.sweep_of(alloc, number)? else {
+            return Ok(None);
+        };
+        let is_free = sweep_in(&mut self.shards, &sweep, swept)?;
+        if !is_free {
+            return Ok(None);
+        }
+        let is_last = sweep.is_last();
+        self.book.sweep(sweep);
+        Ok(Some(is_last))
+    }
+
     /// How many records the era has, and what they are counted as: for each the bytes that came in, those of its
     /// answer, and those of its messages.
     pub fn era_size(&self) -> (u64, u64)
@@ -404,6 +442,25 @@ fn settle_all(
             shards[index].settle(id, view, writes);
         }
     }
+}
+
+/// Makes a sweep in the shard that has all of its addresses, where nobody holds any of them: whether it is made.
+///
+/// # Errors
+///
+/// As `Shard::sweep`. Nothing is changed.
+fn sweep_in(
+    shards: &mut [Shard; SHARDS],
+    sweep: &Sweep,
+    swept: &mut Vec<Arc<Object>>,
+) -> Result<bool, AllocError>
+    ensures done { IfOk result (λ done. done ≡ true → SweepsAmong shards.old shards.new sweep.now) }
+    ensures refused { IfOk result (λ done. done ≡ false → shards.new ≡ shards.old) }
+    ensures err { OnErr result (shards.new ≡ shards.old) }
+{
+    let index = shard_index(Addr::Inode(sweep.file()));
+    let is_free = shards[index].sweep(sweep, swept)?;
+    Ok(is_free)
 }
 
 /// Lets go all that a call has read in these shards.

@@ -1,11 +1,16 @@
 //! The present store with the records that led to it, and commits of calls: first room, which may want memory, then
 //! what cannot fail.
 
-ghost use Rattle.std.specs.Prelude.{◌≡◌, ◌+◌, ◌-◌, ◌^◌, [], map, min, IfSome, IsOk, OnOk};
+ghost use Rattle.std.specs.Prelude.{◌≡◌, ◌+◌, ◌-◌, ◌^◌, [], map, min, ℕ, IfSome, IsOk, IsSome, OnOk};
 ghost use Rattle.nfs_engine.specs.Commits.{HasRoom, IsCommitted, IsReady, SameJournal};
 ghost use Rattle.nfs_engine.specs.Commits.{TakesEra, TakesMessage, Writes};
 ghost use Rattle.nfs_engine.specs.Forms.{HasForm};
 ghost use Rattle.nfs_engine.specs.Posting.{HaveForms};
+ghost use Rattle.nfs_engine.specs.Sweeps.{swept_at};
+ghost use Rattle.nfs_engine.specs.Tables.{store_of};
+ghost use Rattle.nfs_objects.specs.Store.{give};
+ghost use Rattle.nfs_objects.specs.declared.address.Addr.{Addr as Address};
+ghost use Rattle.nfs_objects.specs.declared.address.Addr.TheVariants as addresses;
 ghost use Rattle.nfs_objects.specs.Values.{write_value};
 
 use crate::arrival::Executed;
@@ -17,6 +22,7 @@ use crate::records::{Era, Records};
 use crate::release::{Release, Then};
 use crate::request::Request;
 use crate::shard::SHARDS;
+use crate::sweeping::Sweep;
 use bytes::Bytes;
 use nfs_objects::Write;
 use std::alloc::{AllocError, Global};
@@ -189,6 +195,19 @@ impl Journal {
             writes: own,
             spent: Spent { request },
         }
+    }
+
+    /// Makes a sweep. It takes no memory.
+    pub(crate) fn sweep(&mut self, sweep: Sweep)
+        requires { IsSome sweep.inode
+            → IsSome ((store_of self.old.objects.slots).at (addresses.Inode sweep.file)) }
+        ensures at { (a : Address) → (store_of self.new.objects.slots).at a
+            ≡ swept_at sweep (store_of self.old.objects.slots).at a }
+        ensures last { (n : ℕ) → (store_of self.new.objects.slots).last n
+            ≡ give (store_of self.old.objects.slots).last (addresses.Inode sweep.file) sweep.inode n }
+        ensures rest { self.new ≡ record self.old { objects = self.new.objects } }
+    {
+        self.objects.sweep(sweep);
     }
 
     /// Takes the oldest message.

@@ -40,6 +40,7 @@ pub mod shard;
 pub mod sharers;
 mod slot;
 mod starting;
+pub mod sweeping;
 pub mod taking;
 
 pub use admission::{Admission, Faulted, Refused};
@@ -61,4 +62,5 @@ pub use release::{Next, Release, Then};
 pub use running::AdmitError;
 pub use shard::{Had, ReserveError, SHARDS, Shard, shard_index};
 pub use sharers::Sharers;
+pub use sweeping::{SWEPT, Sweep};
 pub use taking::Got;

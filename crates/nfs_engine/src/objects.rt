@@ -1,6 +1,6 @@
 //! The objects of the present store, by address: first room for what is written, then writes, which cannot fail.
 
-ghost use Rattle.std.specs.Prelude.{◌≡◌, ◌+◌, ◌<◌, ◌≤◌, [], is_some, map, option_map, true, if◌then◌else◌, IfOk};
+ghost use Rattle.std.specs.Prelude.{◌≡◌, ◌+◌, ◌<◌, ◌≤◌, [], is_some, map, option_map, false, true, if◌then◌else◌, IfOk};
 ghost use Rattle.std.specs.Prelude.{IfSome, IsOk};
 ghost use Rattle.std.specs.Prelude.{OnOk};
 ghost use Rattle.std.specs.Prelude.{option_copied, slice_get};
@@ -8,7 +8,7 @@ ghost use Rattle.std.specs.Arc.{arc_value};
 ghost use Rattle.std.specs.Bool.{Decides};
 ghost use Rattle.std.specs.List.{AllByRecursion};
 ghost use Rattle.nfs_objects.specs.Fits.{Fits};
-ghost use Rattle.nfs_objects.specs.Store.{with_writes};
+ghost use Rattle.nfs_objects.specs.Store.{with_write, with_writes};
 ghost use Rattle.nfs_objects.specs.Values.{write_value};
 ghost use Rattle.nfs_engine.specs.Opening.{no_store};
 ghost use Rattle.indexmap.specs.IndexMap.{spare};
@@ -191,6 +191,16 @@ impl Objects {
         self.standing = put_all(&mut self.slots, self.standing, writes);
         remove_idle(&mut self.slots, same);
     }
+
+    /// Puts an object where a slot is, or takes away what stands at an address; then a slot that it left with nothing
+    /// in it goes. It takes no memory.
+    pub(crate) fn write(&mut self, address: Addr, object: Option<Arc<Object>>)
+        requires { needs_slot self.old.slots (address, option_map arc_value object) ≡ false }
+        ensures { store_of self.new.slots
+            ≡ with_write (store_of self.old.slots) address (option_map arc_value object) }
+    {
+        self.standing = write(&mut self.slots, self.standing, address, object);
+    }
 }
 
 /// How many addresses there are at which something stands, once something stands at one or not, where something stood
@@ -238,6 +248,31 @@ fn make(slots: &mut IndexMap<Addr, Kept>, standing: u64, write: Write) -> u64
     // The number of slots brings the bound of the count.
     let _slots = slots.len();
     count_after(standing, stood, stands)
+}
+
+/// Makes a write for which a slot is there: at how many addresses something stands then. A slot that it leaves with
+/// nothing in it goes.
+fn write(
+    slots: &mut IndexMap<Addr, Kept>,
+    standing: u64,
+    address: Addr,
+    object: Option<Arc<Object>>,
+) -> u64
+    requires slot { needs_slot (kept_slots slots.old.entries) (address, option_map arc_value object) ≡ false }
+    requires count { HasObjects (store_of (kept_slots slots.old.entries)) standing }
+    requires tidy { IsTidy (kept_slots slots.old.entries) }
+    ensures store { store_of (kept_slots slots.new.entries)
+        ≡ with_write (store_of (kept_slots slots.old.entries)) address (option_map arc_value object) }
+    ensures count { HasObjects (store_of (kept_slots slots.new.entries)) result }
+    ensures tidy { IsTidy (kept_slots slots.new.entries) }
+{
+    let standing = make(slots, standing, Write { address, object });
+    let taken = Write {
+        address,
+        object: None,
+    };
+    take_out_idle(slots, &taken);
+    standing
 }
 
 /// Puts an object at an address, or takes away what stands there: whether something stood there. Only something that is

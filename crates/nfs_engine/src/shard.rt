@@ -325,6 +325,26 @@ impl Shard {
         slot.object = object;
     }
 
+    /// Puts an object where one stands, or takes that away: what stood there comes in its place. It takes no memory.
+    pub(crate) fn replace(&mut self, address: Addr, object: &mut Option<Arc<Object>>)
+        requires { IsSome (option_map arc_value object.old) → IsSome (slot_at self.old address).object }
+        ensures fills { Fills self.old self.new address (option_map arc_value object.old) }
+        ensures stood { option_map arc_value object.new ≡ (slot_at self.old address).object }
+    {
+        if let Some(key) = self.key_of(address) {
+            if self.numbers[key].replace(object) {
+                remove_number(&mut self.numbers, key);
+            }
+            return;
+        }
+        let Some(slot) = self.others.get_mut(&address) else {
+            return;
+        };
+        if slot.replace(object) {
+            remove_other(&mut self.others, address);
+        }
+    }
+
     /// Whether something stands at an address.
     pub(crate) fn stands_at(&self, address: Addr) -> bool
         ensures { Decides result (IsSome (slot_at self.now address).object) }

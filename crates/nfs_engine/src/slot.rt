@@ -1,6 +1,7 @@
 //! What stands at an address, and who holds it.
 
-ghost use Rattle.std.specs.Prelude.{◌≡◌, ◌-◌, ◌^◌, IsSome, count_by, min};
+ghost use Rattle.std.specs.Prelude.{◌≡◌, ◌-◌, ◌^◌, IsSome, count_by, min, option_map};
+ghost use Rattle.std.specs.Arc.{arc_value};
 ghost use Rattle.std.specs.Bool.{Decides};
 ghost use Rattle.std.specs.List.{IsDistinct};
 ghost use Rattle.indexmap.specs.IndexMap.{keys};
@@ -15,6 +16,7 @@ use indexmap::IndexMap;
 use nfs_objects::{Addr, Mode, Object, share};
 use slab::Slab;
 use std::alloc::{AllocError, Global};
+use std::mem::swap;
 use std::sync::Arc;
 
 /// What stands at an address, and who holds it.
@@ -57,6 +59,20 @@ impl Slot {
         ensures idle { Decides result (slot_value self.new ≡ empty_slot) }
     {
         self.holders.remove(id);
+        self.is_idle()
+    }
+}
+
+impl Slot {
+    /// Puts an object, or nothing, in the place of what stands there, which comes in its place. Answers whether the slot
+    /// is idle then.
+    pub(crate) fn replace(&mut self, object: &mut Option<Arc<Object>>) -> bool
+        ensures put { slot_value self.new
+            ≡ record (slot_value self.old) { object = option_map arc_value object.old } }
+        ensures stood { option_map arc_value object.new ≡ (slot_value self.old).object }
+        ensures idle { Decides result (slot_value self.new ≡ empty_slot) }
+    {
+        swap(&mut self.object, object);
         self.is_idle()
     }
 }
