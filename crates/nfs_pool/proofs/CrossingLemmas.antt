@@ -19,6 +19,7 @@ use Rattle.nfs_engine.proofs.running.Calls.TheSendSync as calls
 use Rattle.nfs_engine.specs.contracts.book.Book as Book
 use Rattle.nfs_engine.specs.contracts.journal.Journal as Journal
 use Rattle.nfs_pool.proofs.counting.Count.TheSendSync as counting
+use Rattle.nfs_pool.proofs.dead.Dead.TheSendSync as dead
 use Rattle.nfs_pool.proofs.locking.Place.TheSendSync as place
 use Rattle.nfs_pool.specs.contracts.counting.Count as Count
 use Rattle.nfs_pool.specs.contracts.desk.Desk as Desk
@@ -33,7 +34,15 @@ book_send = search (sendable, crosses, journal_send, replies.the_send, calls.the
 
 module _ (L : RattleType) (g : Ghosts L.Denot) (n : naming.Ghosts L.Denot) (s : IsSend L) (y : IsSync L) where
   desk_send : IsSend (Desk.the_row L n g)
-  desk_send = search (sendable, crosses, book_send, marks.the_send, total.the_send, share.the_send) depth 20
+  desk_send = search (
+    sendable,
+    crosses,
+    book_send,
+    marks.the_send,
+    dead.the_send,
+    total.the_send,
+    share.the_send,
+  ) depth 20
 
   desk_mutex_send : IsSend (Mutex.the_row (Desk.the_row L n g))
   desk_mutex_send = let desk = desk_send in search (sendable, crosses) depth 20

@@ -11,3 +11,4 @@ pub mod SeatLemmas
 pub mod ShownEntryLemmas
 pub mod OpeningMarksLemmas
 pub mod TakenReceiptsLemmas
+pub mod UnmarkedLemmas

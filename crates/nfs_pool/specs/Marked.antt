@@ -1,9 +1,9 @@
 -- Marks of the objects of a shard, and what a commit makes of them.
-use Rattle.std.specs.Prelude.{◌≡◌, ◌==◌, ◌&&◌, ℕ, Bool, true, Option, Some, None, IfSome, if◌then◌else◌}
+use Rattle.std.specs.Prelude.{◌≡◌, ◌==◌, ◌&&◌, ◌<◌, ◌≤◌, ℕ, Bool, true, Option, Some, None, IfSome, if◌then◌else◌}
 use Rattle.nfs_objects.specs.Values.{is_addr, written_at}
 use Rattle.nfs_objects.specs.Store.{Store}
 use Rattle.nfs_objects.specs.declared.address.Addr.{Addr}
-use Rattle.nfs_objects.specs.declared.address.Addr.TheVariants.{Exports, Mounts}
+use Rattle.nfs_objects.specs.declared.address.Addr.TheVariants.{Block, Exports, Inode, Map, Mounts}
 use Rattle.nfs_objects.specs.declared.object.Object.{Object}
 use Rattle.nfs_engine.specs.Shards.{ShardValue, shard_of, slot_at}
 use Rattle.nfs_stamps.specs.Marking.{AreMarks, MarksValue, Writes, stamp_at}
@@ -47,3 +47,15 @@ opening_mark exports mounts a = None
 abbrev pub OpensMarked : MarksValue → (exports mounts : Option Writes) → Type 0
 OpensMarked marks exports mounts = (a : Addr) (s : Writes) → stamp_at marks a ≡ Some s →
     opening_mark exports mounts a ≡ Some s
+
+-- ---- sweeps
+-- an address has no mark
+abbrev pub NoMark : MarksValue → Addr → Type 0
+NoMark marks a = (s : Writes) → stamp_at marks a ≡ Some s → ⊥
+
+-- the marks of a file's inode, of a map page of it and of its blocks from one to another went, and none came
+pub record Unmarks (old new : MarksValue) (file page first end : ℕ) : Type 0 where
+  pub kept : (a : Addr) (s : Writes) → stamp_at new a ≡ Some s → stamp_at old a ≡ Some s
+  pub inode : NoMark new (Inode file)
+  pub map : NoMark new (Map file page)
+  pub blocks : (i : ℕ) → first ≤ i → i < end → NoMark new (Block file i)

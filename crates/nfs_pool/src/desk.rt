@@ -5,6 +5,7 @@ ghost use Rattle.std.specs.Prelude.{slice_get};
 ghost use Rattle.std.specs.Bool.{Decides};
 ghost use Rattle.nfs_engine.specs.Book.{Commits, GivesUp, MayCommit, TakesMessage, store_in};
 ghost use Rattle.nfs_engine.specs.Commits.{Leaves};
+ghost use Rattle.nfs_engine.specs.Sweeps.{MaySweep, Sweeps};
 ghost use Rattle.nfs_engine.specs.Tables.{Stands};
 ghost use Rattle.nfs_engine.specs.declared.release.Then.TheVariants as then;
 ghost use Rattle.nfs_stamps.specs.Marking.{AreMarks, AreNotes};
@@ -12,13 +13,15 @@ ghost use Rattle.nfs_pool.specs.Eras.{LeavesEra};
 ghost use Rattle.nfs_pool.specs.Seats.{Counts};
 ghost use Rattle.nfs_pool.specs.Steps.{AdmitsUnlessFull, IsMadeAbove};
 
+use crate::dead::Dead;
 use crate::marking::mark_written;
 use crate::sent::{Reason, Unadmitted, Uncommitted};
+use crate::sweeping::unmark;
 use nfs_engine::{
-    Admission, Arrival, Book, Candidate, Committed, Era, Finished, Pending, Posted, Refused,
+    Admission, Arrival, Book, Candidate, Committed, Era, Finished, Pending, Posted, Refused, Sweep,
 };
 use nfs_stamps::{Marks, Naming, Notes, Stamp, is_large};
-use std::alloc::Global;
+use std::alloc::{AllocError, Global};
 use std::sync::atomic::{AtomicU64, Ordering};
 use std::sync::ledger;
 use std::sync::ledger::{Ledger, Share};
@@ -31,6 +34,8 @@ use std::sync::ledger::{Ledger, Share};
 pub struct Desk<L: Ledger + Naming> {
     pub(crate) book: Book,
     marks: Marks<L>,
+    /// The files that may be dead and not yet swept.
+    dead: Dead,
     /// How many large objects were compared by value.
     compared: AtomicU64,
     /// How many records of eras that are over are counted.
@@ -48,6 +53,7 @@ pub struct Desk<L: Ledger + Naming> {
 impl<L: Ledger + Naming> Desk<L> {
     /// The book of an engine without records, with these marks.
     pub(crate) fn new(
+        alloc: Global,
         book: Book,
         counted: ledger::Book<L>,
         nothing: Share<L>,
@@ -62,6 +68,7 @@ impl<L: Ledger + Naming> Desk<L> {
         Desk {
             book,
             marks,
+            dead: Dead::new(alloc),
             compared: AtomicU64::new(0),
             past: 0,
             counted,
@@ -164,9 +171,13 @@ impl<L: Ledger + Naming> Desk<L> {
         if number <= last || !self.fits(&finished, notes) {
             return Err(handed_back(finished, Reason::Stale));
         }
+        if self.dead.make_room(finished.writes()).is_err() {
+            return Err(handed_back(finished, Reason::Memory));
+        }
         let Desk {
             book,
             marks,
+            dead,
             compared: _,
             past: _,
             counted,
@@ -175,6 +186,7 @@ impl<L: Ledger + Naming> Desk<L> {
         match book.commit(alloc, finished) {
             Ok(committed) => {
                 mark_written(marks, None, &committed.writes, stamp);
+                dead.note(&committed.writes);
                 counted.add(mine, u64::MAX);
                 counted.add(mine, 1);
                 Ok(committed)
@@ -243,6 +255,7 @@ impl<L: Ledger + Naming> Desk<L> {
         let Desk {
             book,
             marks: _,
+            dead: _,
             compared: _,
             past,
             counted,
@@ -255,6 +268,54 @@ impl<L: Ledger + Naming> Desk<L> {
             *past += count;
         }
         book.new_era(alloc)
+    }
+
+    /// Whether there are files that may be dead and not yet swept.
+    pub(crate) fn has_dead(&self) -> bool {
+        !self.dead.is_empty()
+    }
+
+    /// The number of the one that is to be swept next.
+    pub(crate) fn next_dead(&self) -> Option<u64> {
+        self.dead.next()
+    }
+
+    /// Goes on behind that one, of which nothing is left to be swept.
+    pub(crate) fn go_on(&mut self)
+        ensures { self.new.book ≡ self.old.book }
+    {
+        self.dead.go_on();
+    }
+
+    /// What the next sweep of the file at a number takes away, if it is dead.
+    ///
+    /// # Errors
+    ///
+    /// There is no memory for what is left of its inode.
+    pub(crate) fn sweep_of(&self, alloc: Global, number: u64) -> Result<Option<Sweep>, AllocError>
+        ensures { IfOk result (λ s. IfSome s (MaySweep (store_in self.now.book))) }
+    {
+        self.book.sweep_of(alloc, number)
+    }
+
+    /// Sweeps a page of the file that is to be swept next.
+    pub(crate) fn sweep(&mut self, sweep: Sweep)
+        requires { MaySweep (store_in self.old.book) sweep }
+        ensures sweeps { Sweeps (store_in self.old.book) (store_in self.new.book) sweep }
+        ensures rest { self.new.book ≡ record self.old.book { objects = self.new.book.objects } }
+    {
+        let Desk {
+            book,
+            marks,
+            dead,
+            compared: _,
+            past: _,
+            counted: _,
+            nothing: _,
+        } = self;
+        unmark(marks, &sweep);
+        dead.swept(sweep.is_last());
+        book.sweep(sweep);
     }
 
     /// The book alone.

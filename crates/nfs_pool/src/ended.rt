@@ -6,16 +6,25 @@ ghost use Rattle.nfs_engine.specs.Book.{BookValue};
 ghost use Rattle.nfs_pool.specs.Eras.{EndsSome, LeavesEra, TellAll, told_in};
 
 use crate::comparing::take_all_told;
+use crate::pool::Pool;
 use crate::room::EraRoom;
 use nfs_engine::{Era, Receipt};
+use nfs_objects::Object;
+use nfs_stamps::Naming;
+use std::alloc::Global;
 use std::marker::Model;
+use std::sync::Arc;
+use std::sync::ledger::Ledger;
 
-/// An era that is over, whose receipts are as many as its records and not yet compared with them. A clause sees what
-/// they tell. It has to be spent, and nobody outside of this crate can but compare it.
+/// An era that is over, whose receipts are as many as its records and not yet compared with them, and what was swept at
+/// its end. A clause sees what the receipts tell. It has to be spent, and nobody outside of this crate can but compare
+/// it.
 pub struct Ended {
     era: Era,
     /// The receipts of each seat.
     lists: Vec<Vec<Receipt>>,
+    /// What was swept, which is let go with the era.
+    gone: Vec<Arc<Object>>,
 }
 
 impl Model for Ended {
@@ -31,12 +40,24 @@ impl Model for Ended {
 }
 
 impl Ended {
-    /// The era that a book came from, and the receipts of each seat.
-    pub(crate) fn new(era: Era, lists: Vec<Vec<Receipt>>) -> Ended
+    /// The era that a book came from, and the receipts of each seat; and room for what is swept.
+    pub(crate) fn new(era: Era, lists: Vec<Vec<Receipt>>, gone: Vec<Arc<Object>>) -> Ended
         requires { (old : BookValue) × (new : BookValue) × LeavesEra old new (length (told_in lists.items)) era }
         ensures { result ≡ record { era = era; receipts = told_in lists.items; room = vec_capacity lists } }
     {
-        Ended { era, lists }
+        Ended { era, lists, gone }
+    }
+
+    /// Sweeps a few pages of dead files in a pool. What stood there is let go with the era.
+    pub(crate) fn sweep<L: Ledger + Naming>(&mut self, alloc: Global, pool: &mut Pool<L>)
+        ensures { self.new ≡ self.old }
+    {
+        pool.sweep(alloc, &mut self.gone);
+    }
+
+    /// Whether something was swept at the era's end.
+    pub fn has_swept(&self) -> bool {
+        !self.gone.is_empty()
     }
 
     /// The records, where the receipts of all seats are they, each once; and the room in which the era ended. It takes
@@ -53,10 +74,10 @@ impl Ended {
             (λ _. TellAll self.era.before (map shared_value self.era.records.items) self.receipts → ⊥) }
         ensures back { IfErr result (λ e. (e.0 ≡ self.era) × (e.1 ≡ self.room)) }
     {
-        let Ended { era, lists } = self;
+        let Ended { era, lists, gone } = self;
         let mut lists = lists;
         let are_told = take_all_told(era.before, &era.records, &mut lists);
-        let room = EraRoom::without(lists);
+        let room = EraRoom::without(lists, gone);
         if are_told {
             Ok((era, room))
         } else {
@@ -69,7 +90,7 @@ impl Ended {
         ensures era { result.0 ≡ self.era }
         ensures room { result.1 ≡ self.room }
     {
-        let Ended { era, lists } = self;
-        (era, EraRoom::without(lists))
+        let Ended { era, lists, gone } = self;
+        (era, EraRoom::without(lists, gone))
     }
 }

@@ -82,8 +82,9 @@ impl<L: Ledger + Naming> Pool<L> {
     }
 
     /// Ends the era, and begins the next, with as many new seats. That the receipts of these seats are its records is
-    /// left to be compared, so that callers need not wait for it. Its time goes by the number of seats, and it takes no
-    /// memory: what they leave stands in this room, which the era that is over gives back.
+    /// left to be compared, so that callers need not wait for it. What they leave stands in this room, which the era
+    /// that is over gives back. Of dead files a few pages are swept, where there is memory for that: what stood there
+    /// goes with the era. Its time goes by the number of seats and of these pages, and for no want of memory it fails.
     ///
     /// # Errors
     ///
@@ -101,7 +102,10 @@ impl<L: Ledger + Naming> Pool<L> {
         ensures missing { IfErr result (λ _. length seats.items ≡ L.parts → length seats.items ≤ room → ⊥) }
         ensures back { IfErr result (λ e. (e.0.items ≡ seats.items) × (e.1 ≡ room)) }
     {
-        leave_era(alloc, self.desk.get_mut(), &self.count, seats, room)
+        let desk = self.desk.get_mut();
+        let (mut ended, seats) = leave_era(alloc, desk, &self.count, seats, room)?;
+        ended.sweep(alloc, self);
+        Ok((ended, seats))
     }
 
     /// Ends the pool: its book is handed out. It takes no memory.
@@ -188,8 +192,9 @@ fn leave_era<L: Ledger + Naming>(
         return Err((seats, room));
     }
     let mut all = desk.no_share();
-    let (lists, emptied) = leave_all(seats, room.into_lists(), &mut all);
+    let (places, gone) = room.into_parts();
+    let (lists, emptied) = leave_all(seats, places, &mut all);
     let era = desk.new_era(alloc, &mut all);
     let seats = new_seats(alloc, emptied, all, number);
-    Ok((Ended::new(era, lists), seats))
+    Ok((Ended::new(era, lists, gone), seats))
 }

@@ -11,6 +11,7 @@ mod carrying;
 mod committing;
 mod comparing;
 mod counting;
+mod dead;
 pub mod desk;
 mod ended;
 mod ending;
@@ -25,6 +26,7 @@ mod room;
 pub mod seat;
 pub mod sent;
 pub mod steps;
+mod sweeping;
 mod waiting;
 
 pub use carrying::run_call;

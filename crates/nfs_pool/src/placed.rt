@@ -1,21 +1,24 @@
 //! A shard with the marks of what stands in it, as it lies under a lock.
 
-ghost use Rattle.std.specs.Prelude.{◌≡◌, ◌==◌, IfSome, OnErr, map, option_copied};
+ghost use Rattle.std.specs.Prelude.{◌≡◌, ◌==◌, IfSome, OnErr, false, map, option_copied, true};
 ghost use Rattle.nfs_objects.specs.Values.{seen_at, write_value, written_at};
 ghost use Rattle.nfs_objects.specs.declared.address.Addr.{Addr};
 ghost use Rattle.nfs_engine.specs.Apart.{GetsNumber};
 ghost use Rattle.nfs_engine.specs.Engine.{freed_more};
 ghost use Rattle.nfs_engine.specs.Settling.{AreHeldIn, ReplacesWritten, spent_in};
 ghost use Rattle.nfs_engine.specs.Shards.{shard_of, slot_at};
+ghost use Rattle.nfs_engine.specs.Sweeps.{SweepsShard};
 ghost use Rattle.nfs_engine.specs.Taking.{IsGot};
 ghost use Rattle.nfs_stamps.specs.Marking.{AreMarks, Puts};
 ghost use Rattle.nfs_pool.specs.Marked.{AreMarksIn, AreStampsOf};
 
 use crate::marking::mark_written;
-use nfs_engine::{Committed, Finished, Got, Release, ReserveError, Shard, Txn};
-use nfs_objects::{Addr, Mode};
+use crate::sweeping::unmark;
+use nfs_engine::{Committed, Finished, Got, Release, ReserveError, Shard, Sweep, Txn};
+use nfs_objects::{Addr, Mode, Object};
 use nfs_stamps::{Marks, Naming, Stamp};
 use std::alloc::{AllocError, Global};
+use std::sync::Arc;
 
 /// A shard, and by which commits its large objects were put.
 #[derive(Drop)]
@@ -107,5 +110,22 @@ impl<L: Naming> Placed<L> {
         ensures { result ≡ freed_more release self.old.shard.index }
     {
         release.let_go_in(&mut self.shard)
+    }
+
+    /// Sweeps a page of a dead file, and hands out what stood there. Not where somebody holds it, or where there is no
+    /// memory for it: nothing is changed then.
+    pub(crate) fn sweep(&mut self, sweep: &Sweep, gone: &mut Vec<Arc<Object>>) -> bool
+        ensures swept { result ≡ true → SweepsShard self.old.shard self.new.shard sweep.now }
+        ensures same { result ≡ false → self.new.shard ≡ self.old.shard }
+    {
+        let Placed { shard, marks } = self;
+        let Ok(is_swept) = shard.sweep(sweep, gone) else {
+            return false;
+        };
+        if !is_swept {
+            return false;
+        }
+        unmark(marks, sweep);
+        true
     }
 }

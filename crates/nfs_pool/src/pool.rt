@@ -67,7 +67,7 @@ impl<L: Ledger + Naming> Pool<L> {
         let (book, shards) = engine.into_parts();
         let (marks, first) = mark_opening(alloc, &log, &book, &shards[0]);
         let pool = Pool {
-            desk: Mutex::new(Desk::new(book, counted, nothing, marks)),
+            desk: Mutex::new(Desk::new(alloc, book, counted, nothing, marks)),
             places: lock_all(alloc, shards, first),
             count: Count::new(count),
             log,

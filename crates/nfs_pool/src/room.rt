@@ -3,15 +3,19 @@
 ghost use Rattle.std.specs.Prelude.{◌≡◌, ◌≤◌, [], IfOk, vec_capacity};
 ghost use Rattle.std.specs.Bool.{Decides};
 
+use crate::sweeping::MOST_GONE;
 use nfs_engine::Receipt;
+use nfs_objects::Object;
 use std::alloc::{AllocError, Global};
 use std::marker::Model;
+use std::sync::Arc;
 
-/// Room to end an era in, so that its end takes no memory: a place for what each seat leaves. A clause sees how many
-/// places there are.
+/// Room to end an era in, so that its end takes no memory: a place for what each seat leaves, and places for what is
+/// swept then. A clause sees how many places for seats there are.
 #[derive(Drop)]
 pub struct EraRoom {
     lists: Vec<Vec<Receipt>>,
+    gone: Vec<Arc<Object>>,
 }
 
 impl Model for EraRoom {
@@ -35,6 +39,7 @@ impl EraRoom {
     {
         Ok(EraRoom {
             lists: Vec::with_capacity(alloc, count)?,
+            gone: Vec::with_capacity(alloc, MOST_GONE)?,
         })
     }
 
@@ -45,20 +50,23 @@ impl EraRoom {
         count <= self.lists.capacity()
     }
 
-    /// The places, in which nothing stands.
-    pub(crate) fn into_lists(self) -> Vec<Vec<Receipt>>
-        ensures empty { result.items ≡ [] }
-        ensures room { vec_capacity result ≡ self }
+    /// The places for seats, in which nothing stands, and those for what is swept.
+    pub(crate) fn into_parts(self) -> (Vec<Vec<Receipt>>, Vec<Arc<Object>>)
+        ensures empty { result.0.items ≡ [] }
+        ensures room { vec_capacity result.0 ≡ self }
     {
-        self.lists
+        let EraRoom { lists, gone } = self;
+        (lists, gone)
     }
 
-    /// The room that is left where these are let go.
-    pub(crate) fn without(lists: Vec<Vec<Receipt>>) -> EraRoom
+    /// The room that is left where these are let go, and what was swept.
+    pub(crate) fn without(lists: Vec<Vec<Receipt>>, gone: Vec<Arc<Object>>) -> EraRoom
         ensures { result ≡ vec_capacity lists }
     {
         let mut lists = lists;
         lists.clear();
-        EraRoom { lists }
+        let mut gone = gone;
+        gone.clear();
+        EraRoom { lists, gone }
     }
 }

@@ -1,0 +1,98 @@
+//! Which files may be dead and not yet swept.
+
+use nfs_objects::{Addr, Object, Write};
+use std::alloc::{AllocError, Global};
+
+/// The numbers of files that may be dead: their last link went, or their export was replaced, and their blocks stand. A
+/// sweep tests whether it is so, and nothing is proved of these numbers.
+#[derive(Drop)]
+pub(crate) struct Dead {
+    /// Files whose last link went.
+    buried: Vec<u64>,
+    /// The next one that is looked at since exports were replaced, each up to `end`.
+    next: u64,
+    end: u64,
+    /// Above each number that was written.
+    above: u64,
+}
+
+impl Dead {
+    /// None.
+    pub(crate) fn new(alloc: Global) -> Dead {
+        Dead {
+            buried: Vec::new(alloc),
+            next: 0,
+            end: 0,
+            above: 0,
+        }
+    }
+
+    /// Whether there is none.
+    pub(crate) fn is_empty(&self) -> bool {
+        self.buried.is_empty() && self.next >= self.end
+    }
+
+    /// Makes room to note these writes.
+    ///
+    /// # Errors
+    ///
+    /// There is no memory for it.
+    pub(crate) fn make_room(&mut self, writes: &[Write]) -> Result<(), AllocError> {
+        if writes.iter().any(|write| is_burial(write)) {
+            self.buried.reserve(1)?;
+        }
+        Ok(())
+    }
+
+    /// Notes what these writes leave of files, once room is made. It takes no memory.
+    pub(crate) fn note(&mut self, writes: &[Write]) {
+        for write in writes {
+            match write.address {
+                Addr::Inode(number) => self.note_number(number, is_burial(write)),
+                Addr::Exports => {
+                    self.next = 0;
+                    self.end = self.above;
+                }
+                _ => {}
+            }
+        }
+    }
+
+    /// Notes that an inode was written, and whether it was buried.
+    fn note_number(&mut self, number: u64, is_buried: bool) {
+        self.above = self.above.max(number.saturating_add(1));
+        if is_buried && self.buried.len() < self.buried.capacity() {
+            self.buried.push_reserved(number);
+        }
+    }
+
+    /// The one that is to be swept next.
+    pub(crate) fn next(&self) -> Option<u64> {
+        if let Some(number) = self.buried.last() {
+            return Some(*number);
+        }
+        (self.next < self.end).then_some(self.next)
+    }
+
+    /// A page of that one was swept: where it was the last one the next file comes.
+    pub(crate) fn swept(&mut self, is_last: bool) {
+        if is_last {
+            self.go_on();
+        }
+    }
+
+    /// Goes on behind that one, of which nothing is left.
+    pub(crate) fn go_on(&mut self) {
+        if self.buried.pop().is_none() {
+            self.next = self.next.saturating_add(1);
+        }
+    }
+}
+
+/// Whether a write puts an inode that has no export: its last link went, and its blocks stand.
+fn is_burial(write: &Write) -> bool {
+    match write.object.as_deref() {
+        Some(Object::Inode(inode)) => inode.export == 0,
+        _ => false,
+    }
+}
