@@ -287,7 +287,7 @@ fn open_places<L: Ledger + Naming, R: Wait>(
     let (full, filled) = bounded(alloc, count)?;
     let room = EraRoom::new(alloc, count)?;
     let pool = Arc::new(alloc, pool)?;
-    let seats = hand_out(rt, &back, pool, seats, 0);
+    let seats = hand_out(rt, &back, pool, seats, 0, false);
     let gathering = Arc::new(alloc, Gathering::new())?;
     let keeper = Keeper {
         free: free.clone()?,

@@ -32,6 +32,9 @@ use std::sync::{Arc, Wait};
 /// How many records are answered on one place, so that no connection has others wait for long.
 const MOST_RECORDS: usize = 64;
 
+/// How often the era is ended for one call where memory is wanting, while each end gives memory of dead files back.
+const MOST_TURNS: usize = 64;
+
 /// Why a peer can't be served any more.
 #[derive(Clone, Copy)]
 pub(crate) enum Closed {
@@ -238,7 +241,8 @@ impl<L: Ledger + Naming, C: Clock> Clerk<L, C> {
     }
 
     /// Submits what came in. Where the era is full it is ended first, and where memory is wanting too, once: what was
-    /// recorded in it is let go. What was executed is told by the last receipt of the place's seat.
+    /// recorded in it is let go; and again while ends give memory of dead files back. What was executed is told by the
+    /// last receipt of the place's seat.
     ///
     /// # Errors
     ///
@@ -255,24 +259,30 @@ impl<L: Ledger + Naming, C: Clock> Clerk<L, C> {
     {
         let mut place = place;
         let mut arrival = arrival;
-        let mut is_anew = false;
+        let mut turns: usize = 0;
         'eras: for _ in rt.forever() {
             let back = match submit(rt, alloc, &mut place, self.last, arrival) {
                 Ok(sent) => return (place, Ok(sent)),
                 Err(PoolError::EraFull(back)) => back,
                 Err(PoolError::Memory(back)) => {
-                    if is_anew {
+                    if !gives_more(turns, place.is_sweeping) {
                         return (place, Err(back));
                     }
                     back
                 }
             };
             place = self.places.turn(rt, place);
-            is_anew = true;
+            turns = turns.saturating_add(1);
             arrival = back;
         }
         unreachable!()
     }
+}
+
+/// Whether one more end of an era may give memory, behind so many: the first one lets go what was recorded, and others
+/// what dead files leave.
+fn gives_more(turns: usize, is_sweeping: bool) -> bool {
+    turns == 0 || (is_sweeping && turns < MOST_TURNS)
 }
 
 /// Whether a call may have been executed that put a message. Where there was no memory for its answer that is not told.

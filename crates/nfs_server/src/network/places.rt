@@ -5,12 +5,21 @@
 
 use crate::exit::Exit;
 use crate::network::counters::{Counters, Event};
-use crossbeam_channel::{Receiver, Sender};
+use crossbeam_channel::{Receiver, RecvTimeoutError, Sender};
 use nfs_pool::{Ended, EraRoom, Naming, Pool, Seat};
 use std::alloc::{AllocError, Global};
+use std::rt::Clock;
 use std::sync::atomic::{AtomicBool, Ordering};
 use std::sync::ledger::Ledger;
 use std::sync::{Arc, Wait};
+use std::time::Duration;
+
+/// So often the keeper looks whether dead files are left, in milliseconds.
+const LOOK: u64 = 1000;
+
+/// So soon behind the end of an era it ends the next one while some are left, in milliseconds: an end takes a part of
+/// that, in which nobody is served.
+const HURRY: u64 = 20;
 
 /// A seat with its pool: the leave to execute calls.
 #[derive(Drop)]
@@ -19,6 +28,8 @@ pub(crate) struct Place<L: Ledger + Naming> {
     pub(crate) seat: Seat<L>,
     /// How many eras had ended when it was handed out.
     pub(crate) turns: u64,
+    /// Whether the end before it swept something of dead files, or left something: then memory comes with the next end.
+    pub(crate) is_sweeping: bool,
     /// Whether nobody calls any more: when it is handed in the last era ends.
     pub(crate) is_last: bool,
 }
@@ -144,6 +155,19 @@ impl<L: Ledger + Naming> Places<L> {
     }
 }
 
+/// What is left of an era that was ended.
+#[derive(Drop)]
+struct Left<L: Ledger> {
+    /// The room of the seats.
+    seats: Vec<Seat<L>>,
+    /// That of the era.
+    room: EraRoom,
+    /// Whether it was the last one, behind which no place is handed out.
+    is_last: bool,
+    /// Whether dead files are left to be swept.
+    has_dead: bool,
+}
+
 /// What ends eras.
 #[derive(Drop)]
 pub(crate) struct Keeper<L: Ledger + Naming> {
@@ -164,7 +188,7 @@ impl<L: Ledger + Naming> Keeper<L> {
     /// # Errors
     ///
     /// A record has no receipt (`Receipts`). A place that was lost is waited for, for good.
-    pub(crate) fn work<R: Wait>(
+    pub(crate) fn work<R: Wait + Clock>(
         &self,
         rt: &R,
         alloc: Global,
@@ -173,22 +197,54 @@ impl<L: Ledger + Naming> Keeper<L> {
     ) -> Result<(), Exit> {
         let mut seats = seats;
         let mut room = room;
-        for first in self.full.iter(rt) {
-            let Some((left, given, is_last)) = self.end_era(rt, alloc, first, seats, room) else {
+        let mut has_dead = false;
+        for _ in rt.forever() {
+            let Some(first) = self.first(rt, has_dead) else {
+                return Ok(());
+            };
+            let Some(left) = self.end_era(rt, alloc, first, seats, room) else {
                 return Err(Exit::Receipts);
             };
-            if is_last {
+            if left.is_last {
                 return Ok(());
             }
-            seats = left;
-            room = given;
+            seats = left.seats;
+            room = left.room;
+            has_dead = left.has_dead;
         }
-        Ok(())
+        unreachable!()
     }
 
-    /// Ends the era, hands out the places of the next one, and compares what is over. The room of the seats is left,
-    /// that of the era, and whether it was the last one, behind which no place is handed out. None where a seat is
-    /// missing, or a record has no receipt.
+    /// The first place of those whose era is to be ended, once one is handed in. While dead files are left a free one is
+    /// taken after a while. None where nobody has a place any more.
+    fn first<R: Wait + Clock>(&self, rt: &R, has_dead: bool) -> Option<Place<L>> {
+        let pause = Duration::from_millis(if has_dead { HURRY } else { LOOK });
+        for _ in rt.forever() {
+            match self.full.recv_timeout(rt, pause) {
+                Ok(place) => return Some(place),
+                Err(RecvTimeoutError::Disconnected) => return None,
+                Err(RecvTimeoutError::Timeout) => {
+                    if let Some(place) = self.unswept(rt) {
+                        return Some(place);
+                    }
+                }
+            }
+        }
+        unreachable!()
+    }
+
+    /// A free place of a pool in which dead files are left.
+    fn unswept<R: Wait>(&self, rt: &R) -> Option<Place<L>> {
+        let place = self.free.try_recv(rt).ok()?;
+        if place.pool.has_dead(rt) {
+            return Some(place);
+        }
+        drop(self.back.send(rt, place));
+        None
+    }
+
+    /// Ends the era, hands out the places of the next one, and compares what is over. None where a seat is missing, or
+    /// a record has no receipt.
     fn end_era<R: Wait>(
         &self,
         rt: &R,
@@ -196,23 +252,30 @@ impl<L: Ledger + Naming> Keeper<L> {
         first: Place<L>,
         seats: Vec<Seat<L>>,
         room: EraRoom,
-    ) -> Option<(Vec<Seat<L>>, EraRoom, bool)> {
+    ) -> Option<Left<L>> {
         self.gathering.begin();
         let turns = first.turns.saturating_add(1);
         let mut seats = seats;
         let (pool, is_last) = self.gather(rt, first, &mut seats)?;
         let mut pool = pool;
         let (ended, seats) = next_era(alloc, &mut pool, seats, room)?;
+        let has_dead = pool.has_dead(rt);
+        let is_sweeping = has_dead || ended.has_swept();
         self.counters.happened(Event::Era);
         let seats = if is_last {
             drop(pool);
             seats
         } else {
-            self.hand_out(rt, pool, seats, turns)
+            self.hand_out(rt, pool, seats, turns, is_sweeping)
         };
         let (era, room) = ended.compare().ok()?;
         drop(era);
-        Some((seats, room, is_last))
+        Some(Left {
+            seats,
+            room,
+            is_last,
+            has_dead,
+        })
     }
 
     /// All seats, and the pool, which nobody else has then; and whether nobody calls any more. It takes no memory.
@@ -250,14 +313,15 @@ impl<L: Ledger + Naming> Keeper<L> {
         pool: Arc<Pool<L>>,
         seats: Vec<Seat<L>>,
         turns: u64,
+        is_sweeping: bool,
     ) -> Vec<Seat<L>> {
         self.gathering.end();
-        hand_out(rt, &self.back, pool, seats, turns)
+        hand_out(rt, &self.back, pool, seats, turns, is_sweeping)
     }
 }
 
-/// Ends the era of a pool that nobody else has, and begins the next: what is left of it, and the next seats. It takes
-/// no memory. None where somebody else has the pool, or a seat is missing.
+/// Ends the era of a pool that nobody else has, and begins the next: what is left of it, and the next seats. It fails
+/// for no want of memory. None where somebody else has the pool, or a seat is missing.
 fn next_era<L: Ledger + Naming>(
     alloc: Global,
     pool: &mut Arc<Pool<L>>,
@@ -275,6 +339,7 @@ pub(crate) fn hand_out<R: Wait, L: Ledger + Naming>(
     pool: Arc<Pool<L>>,
     seats: Vec<Seat<L>>,
     turns: u64,
+    is_sweeping: bool,
 ) -> Vec<Seat<L>> {
     let mut seats = seats;
     for _ in 0..seats.len() {
@@ -283,6 +348,7 @@ pub(crate) fn hand_out<R: Wait, L: Ledger + Naming>(
                 pool,
                 seat,
                 turns,
+                is_sweeping,
                 is_last: false,
             };
             drop(back.send(rt, place));
