@@ -54,6 +54,7 @@ LOADED, LOADERS = 48, 2  # the connections that load the server, and the process
 PIECE = 16  # calls that are sent at once while they are measured
 FEW = 50  # the last of those that wait, which are counted
 SHORT = 100  # the records of an era where one call is long, so that an era ends meanwhile
+GOING = 5  # seconds in which 1 GiB goes
 LATE = 12  # a client that is not let in by then gives up
 ARENAS = "MALLOC_ARENA_MAX"  # for how many threads the C library keeps memory apart
 CALL, WAIT = 20.0, 25.0  # the bounds of a call, and of the longest wait beside it, in milliseconds
@@ -446,6 +447,22 @@ def loses(blocks, ends):
     return play
 
 
+def goes(blocks):
+    """What a file of so many blocks of four bytes left goes, once it is removed: what that takes in all, and how long
+    others wait meanwhile."""
+
+    def play(peer):
+        file = peer.connection.make(b"file")
+        peer.prepare(data.write(file, next(peer.xids), BLOCK * block, b"xxxx") for block in range(blocks))
+        peer.prepare([nfsd.remove(next(peer.xids), b"file")])
+        with peer.counted() as tally:
+            time.sleep(GOING)
+            tally.calls += 1
+        return [tally]
+
+    return play
+
+
 def removes(xid, _):
     return nfsd.remove(xid, b"file")
 
@@ -736,6 +753,8 @@ def uses_of_data(part):
         for told, ends in (("REMOVE", removes), ("cut", cuts)):
             line = f"{told} of {blocks * BLOCK >> 20:,} MiB in {blocks:,} blocks"
             yield Use([line], loses(blocks, ends), era=SHORT, bounds=bounds)
+        line = f"what a file of {blocks * BLOCK >> 20:,} MiB in {blocks:,} blocks left goes"
+        yield Use([line], goes(blocks), bounds=(math.inf, WAIT))
     blocks = 65_536 // part
     lines = ["REMOVE of empty files, memory is full", f"REMOVE of {blocks:,} blocks, memory is full"]
     yield Use(lines, removed_when_full(blocks), era=SHORT, arenas="1")
