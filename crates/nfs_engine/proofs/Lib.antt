@@ -57,3 +57,4 @@ pub mod SweptStoreLemmas
 pub mod SweepStepLemmas
 pub mod SlotReplacedLemmas
 pub mod SlotWriteLemmas
+pub mod ClearingLemmas

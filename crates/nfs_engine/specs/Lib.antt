@@ -7,6 +7,7 @@ pub mod Bounds
 pub mod Built
 pub mod Calls
 pub mod Candidates
+pub mod Clearing
 pub mod Commits
 pub mod Engine
 pub mod EngineLaws

@@ -26,6 +26,7 @@ use crate::admission::{Admission, Refused};
 use crate::arrival::Arrival;
 use crate::book::Book;
 use crate::calls::{Finished, Pending, Txn};
+use crate::dead::Dead;
 use crate::journal::{Committed, Receipt};
 use crate::opening::{Config, StartError};
 use crate::outbox::Posted;
@@ -46,6 +47,8 @@ use std::sync::Arc;
 pub struct Engine {
     book: Book,
     shards: [Shard; SHARDS],
+    /// The files that may be dead and not yet swept.
+    pub(crate) dead: Dead,
 }
 
 impl Model for Engine {
@@ -75,7 +78,11 @@ impl Engine {
         };
         let mut shards = new_shards(alloc);
         match open_all(&mut shards, alloc, writes) {
-            Ok(()) => Ok(Engine { book, shards }),
+            Ok(()) => Ok(Engine {
+                book,
+                shards,
+                dead: Dead::new(alloc),
+            }),
             Err(AllocError) => Err(StartError::Memory),
         }
     }
@@ -189,6 +196,9 @@ impl Engine {
         if make_room(&mut self.shards, &finished).is_err() {
             return Err(finished);
         }
+        if self.dead.make_room(finished.writes()).is_err() {
+            return Err(finished);
+        }
         let Committed {
             receipt,
             release,
@@ -199,6 +209,7 @@ impl Engine {
             Err(back) => return Err(back),
         };
         drop(spent);
+        self.dead.note(&writes);
         let Release {
             id,
             view,

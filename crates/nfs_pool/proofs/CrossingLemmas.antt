@@ -12,6 +12,7 @@ use Rattle.nfs_stamps.specs.declared.log.Naming as naming
 use Rattle.nfs_stamps.specs.contracts.log.Log as Log
 use Rattle.std.specs.contracts.sync.Mutex as Mutex
 use Rattle.nfs_replies.proofs.replies.Replies.TheSendSync as replies
+use Rattle.nfs_engine.proofs.dead.Dead.TheSendSync as dead
 use Rattle.nfs_engine.proofs.objects.Objects.TheSendSync as objects
 use Rattle.nfs_engine.proofs.outbox.Outbox.TheSendSync as outbox
 use Rattle.nfs_engine.proofs.records.Records.TheSendSync as records
@@ -19,7 +20,6 @@ use Rattle.nfs_engine.proofs.running.Calls.TheSendSync as calls
 use Rattle.nfs_engine.specs.contracts.book.Book as Book
 use Rattle.nfs_engine.specs.contracts.journal.Journal as Journal
 use Rattle.nfs_pool.proofs.counting.Count.TheSendSync as counting
-use Rattle.nfs_pool.proofs.dead.Dead.TheSendSync as dead
 use Rattle.nfs_pool.proofs.locking.Place.TheSendSync as place
 use Rattle.nfs_pool.specs.contracts.counting.Count as Count
 use Rattle.nfs_pool.specs.contracts.desk.Desk as Desk

@@ -13,12 +13,12 @@ ghost use Rattle.nfs_pool.specs.Eras.{LeavesEra};
 ghost use Rattle.nfs_pool.specs.Seats.{Counts};
 ghost use Rattle.nfs_pool.specs.Steps.{AdmitsUnlessFull, IsMadeAbove};
 
-use crate::dead::Dead;
 use crate::marking::mark_written;
 use crate::sent::{Reason, Unadmitted, Uncommitted};
 use crate::sweeping::unmark;
 use nfs_engine::{
-    Admission, Arrival, Book, Candidate, Committed, Era, Finished, Pending, Posted, Refused, Sweep,
+    Admission, Arrival, Book, Candidate, Committed, Dead, Era, Finished, Pending, Posted, Refused,
+    Sweep,
 };
 use nfs_stamps::{Marks, Naming, Notes, Stamp, is_large};
 use std::alloc::{AllocError, Global};

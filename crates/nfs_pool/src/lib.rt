@@ -11,7 +11,6 @@ mod carrying;
 mod committing;
 mod comparing;
 mod counting;
-mod dead;
 pub mod desk;
 mod ended;
 mod ending;

@@ -8,3 +8,4 @@ pub mod ServingLoopLemmas
 pub mod StreamPieceLemmas
 pub mod OneRecordLemmas
 pub mod AllWrittenLemmas
+pub mod ClearedLemmas

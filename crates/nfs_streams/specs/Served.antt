@@ -44,6 +44,11 @@ pub record ExecutesNothing (old new : EngineValue) : Type 0 where
   pub replies : new.book.replies ≡ old.book.replies
   pub count : new.book.before + length new.book.records ≡ old.book.before + length old.book.records
 
+-- what the engine stood for it stands for, and keeps the same replies
+pub record StandsOn (old new : EngineValue) : Type 0 where
+  pub keeps : KeepsSetting old new
+  pub each : (s : Standing) → StandsAt old s → StandsAt new s
+
 -- the messages that wait are dropped, and all else is as it was
 abbrev pub DropsMessages : EngineValue → EngineValue → Type 0
 DropsMessages old new =

@@ -6,7 +6,7 @@ ghost use Rattle.nfs_engine.specs.Book.{is_full};
 ghost use Rattle.nfs_machine.specs.Run.{FromHost, bytes_in};
 ghost use Rattle.nfs_schedule.specs.Worlds.{IsAtRest};
 ghost use Rattle.nfs_streams.specs.Connections.{bytes_of};
-ghost use Rattle.nfs_streams.specs.Served.{AreAnswered, ExecutesNothing, HasEraRoom, HasNoAnswer, IsAnswered, IsRecord};
+ghost use Rattle.nfs_streams.specs.Served.{AreAnswered, ExecutesNothing, HasEraRoom, HasNoAnswer, IsAnswered, IsRecord, StandsOn};
 
 use nfs_engine::{Arrival, Engine, Host};
 use nfs_machine::{Moment, Moments};
@@ -39,20 +39,35 @@ pub fn answer_record<C: Moments>(
         (HasNoAnswer C.gives (message ∷ []) clock.old clock.new engine.old engine.new) }
 {
     let moment = clock.moment();
-    begin_era(alloc, engine);
-    answer(alloc, engine, host, message, moment)
+    let is_begun = begin_era(alloc, engine);
+    let answered = answer(alloc, engine, host, message, moment)?;
+    clear_at(alloc, engine, is_begun);
+    Ok(answered)
 }
 
-/// Begins a new era where the present one is full. What was recorded in that one is dropped.
-fn begin_era(alloc: Global, engine: &mut Engine)
+/// Begins a new era where the present one is full: whether it did. What was recorded in that one is dropped.
+fn begin_era(alloc: Global, engine: &mut Engine) -> bool
     requires rest { IsAtRest engine.old }
     ensures rest { IsAtRest engine.new }
     ensures nothing { ExecutesNothing engine.old engine.new }
     ensures room { HasEraRoom engine.new }
     ensures stays { is_full engine.old.book ≡ false → engine.new ≡ engine.old }
 {
-    if engine.era_is_full() {
+    let is_full = engine.era_is_full();
+    if is_full {
         drop(engine.new_era(alloc));
+    }
+    is_full
+}
+
+/// Behind the first record of an era that is answered some of what dead files left goes.
+fn clear_at(alloc: Global, engine: &mut Engine, is_begun: bool)
+    requires rest { IsAtRest engine.old }
+    ensures rest { IsAtRest engine.new }
+    ensures on { StandsOn engine.old engine.new }
+{
+    if is_begun {
+        engine.clear_dead(alloc);
     }
 }
 

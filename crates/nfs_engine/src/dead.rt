@@ -1,4 +1,4 @@
-//! Which files may be dead and not yet swept.
+//! Which files may be dead and not yet swept. Who commits notes it.
 
 use nfs_objects::{Addr, Object, Write};
 use std::alloc::{AllocError, Global};
@@ -6,7 +6,7 @@ use std::alloc::{AllocError, Global};
 /// The numbers of files that may be dead: their last link went, or their export was replaced, and their blocks stand. A
 /// sweep tests whether it is so, and nothing is proved of these numbers.
 #[derive(Drop)]
-pub(crate) struct Dead {
+pub struct Dead {
     /// Files whose last link went.
     buried: Vec<u64>,
     /// The next one that is looked at since exports were replaced, each up to `end`.
@@ -18,7 +18,7 @@ pub(crate) struct Dead {
 
 impl Dead {
     /// None.
-    pub(crate) fn new(alloc: Global) -> Dead {
+    pub fn new(alloc: Global) -> Dead {
         Dead {
             buried: Vec::new(alloc),
             next: 0,
@@ -28,7 +28,7 @@ impl Dead {
     }
 
     /// Whether there is none.
-    pub(crate) fn is_empty(&self) -> bool {
+    pub fn is_empty(&self) -> bool {
         self.buried.is_empty() && self.next >= self.end
     }
 
@@ -37,7 +37,7 @@ impl Dead {
     /// # Errors
     ///
     /// There is no memory for it.
-    pub(crate) fn make_room(&mut self, writes: &[Write]) -> Result<(), AllocError> {
+    pub fn make_room(&mut self, writes: &[Write]) -> Result<(), AllocError> {
         if writes.iter().any(|write| is_burial(write)) {
             self.buried.reserve(1)?;
         }
@@ -45,7 +45,7 @@ impl Dead {
     }
 
     /// Notes what these writes leave of files, once room is made. It takes no memory.
-    pub(crate) fn note(&mut self, writes: &[Write]) {
+    pub fn note(&mut self, writes: &[Write]) {
         for write in writes {
             match write.address {
                 Addr::Inode(number) => self.note_number(number, is_burial(write)),
@@ -67,7 +67,7 @@ impl Dead {
     }
 
     /// The one that is to be swept next.
-    pub(crate) fn next(&self) -> Option<u64> {
+    pub fn next(&self) -> Option<u64> {
         if let Some(number) = self.buried.last() {
             return Some(*number);
         }
@@ -75,14 +75,14 @@ impl Dead {
     }
 
     /// A page of that one was swept: where it was the last one the next file comes.
-    pub(crate) fn swept(&mut self, is_last: bool) {
+    pub fn swept(&mut self, is_last: bool) {
         if is_last {
             self.go_on();
         }
     }
 
     /// Goes on behind that one, of which nothing is left.
-    pub(crate) fn go_on(&mut self) {
+    pub fn go_on(&mut self) {
         if self.buried.pop().is_none() {
             self.next = self.next.saturating_add(1);
         }
