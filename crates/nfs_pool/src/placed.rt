@@ -119,12 +119,9 @@ impl<L: Naming> Placed<L> {
         ensures same { result ≡ false → self.new.shard ≡ self.old.shard }
     {
         let Placed { shard, marks } = self;
-        let Ok(is_swept) = shard.sweep(sweep, gone) else {
+        let Ok(true) = shard.sweep(sweep, gone) else {
             return false;
         };
-        if !is_swept {
-            return false;
-        }
         unmark(marks, sweep);
         true
     }
