@@ -174,7 +174,7 @@ module _ {H : Type 0} (index next : ℕ) (numbers : Slab Slot) (others : IndexMa
     other_here = ap (λ x. option_or x (found (slots_seen others.entries) a)) none
         ∙ found-lookup slot_value a others.entries
 
-    other_turns : (m : IndexMap Addr Slot H) (o : Option Slot) → UpdatesBy same_address (same_address a) others m o
+    pub other_turns : (m : IndexMap Addr Slot H) (o : Option Slot) → UpdatesBy same_address (same_address a) others m o
         → Becomes before (shard_value index numbers.slots m.entries next) a (option_map slot_value o)
     other_turns m o updates =
         other_becomes index next numbers.slots others.entries m.entries a (option_map slot_value o)

@@ -42,4 +42,6 @@ needs-none slots a (Some x) stands = by (found slots a) refl
   where
     by : (k : Option KeptValue) → found slots a ≡ k → not (is_some (found slots a)) ≡ false
     by (Some k) is = ap (λ (y : Option KeptValue). not (is_some y)) is
-    by None is = absurd (subst (λ (y : Option KeptValue). IsSome (unwrap_or y empty_kept).object) is (stands refl))
+    by None is =
+        (let no : false ≡ true = subst (λ (y : Option KeptValue). IsSome (unwrap_or y empty_kept).object) is (stands refl) in
+        cc)

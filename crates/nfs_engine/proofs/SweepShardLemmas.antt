@@ -63,10 +63,12 @@ abbrev pub IsFree : ShardValue → Addr → Type 0
 IsFree s a = (j : ℕ) → hold_at s a j ≡ None
 
 pub decides-free : (v : HoldersValue) (r : Option ℕ) → IsExcluder Exclusive v r → (none : Bool) →
-    none ≡ not (is_some r) → Decides none ((j : ℕ) → hold_of v j ≡ None)
-decides-free v None excludes none same = (λ e. excludes, λ free. same)
-decides-free v (Some h) excludes none same = (
-  λ e. (let no : true ≡ false = sym e ∙ same in cc),
+    is_some r ≡ not none → Decides none ((j : ℕ) → hold_of v j ≡ None)
+decides-free v None excludes true same = (λ e. excludes, λ free. refl)
+decides-free v None excludes false same = cc
+decides-free v (Some h) excludes true same = cc
+decides-free v (Some h) excludes false same = (
+  λ e. cc,
   λ free. absurd (held (hold_of v h) (free h) excludes),
 )
   where
@@ -100,7 +102,7 @@ HasLeft s w = IsSome w.inode → IsSome (slot_at s (Inode w.file)).object
 
 pub none-left : (s : ShardValue) (w : SweepValue) → w.inode ≡ None → Decides true (HasLeft s w)
 none-left s w none = (
-  λ e some. absurd (subst (λ (o : Option Object). IsSome o) none some),
+  λ e some. (let no : false ≡ true = subst (λ (o : Option Object). IsSome o) none some in cc),
   λ stands. refl,
 )
 
@@ -135,10 +137,10 @@ not-free s w n same free decides nay = (
 pub free-decides : (s : ShardValue) (w : SweepValue) (left : Bool) → Decides left (HasLeft s w) → left ≡ true →
     (n : ℕ) → n ≡ w.file → (free : Bool) → Decides free (IsFree s (Inode n)) → free ≡ true → (page : Bool) →
     Decides page (IsPageFree s w.file w.page) → Decides page (IsFreeOf s w)
-free-decides s w left has so n same free unheld yes page decides = (
+free-decides s w left has so n same free unheld said page decides = (
   λ e. record {
     stands = has.0 so;
-    inode = subst (λ (m : ℕ). IsFree s (Inode m)) same (unheld.0 yes);
+    inode = subst (λ (m : ℕ). IsFree s (Inode m)) same (unheld.0 said);
     page = decides.0 e;
   },
   λ is. decides.1 is.page,

@@ -291,7 +291,7 @@ module _ (old new : Store) (w : SweepValue) (sweeps : Sweeps old new w) where
 
         behind : (b : Bool) → b ≡ false → cond b (Some f) (find (λ (g : LockedValue). g.number == n) fs) ≡ None →
             find (λ (g : LockedValue). g.number == n) fs ≡ None
-        behind true no e = cc
+        behind true nay e = cc
         behind false is e = e
 
     swept-locks : StandLocks new k.state

@@ -4,8 +4,8 @@ use Rattle.nfs_engine.proofs.SlotWriteLemmas.{one-count, one-store, one-tidy}
 use Rattle.nfs_engine.specs.Tables.{kept_slots}
 use Rattle.nfs_engine.proofs.objects.write.Goals as goal
 
-pub make-requires-clause-room : goal.make-requires-clause-room
-make-requires-clause-room c = λ needs. absurd (true≢false (sym needs ∙ c.requires.slot))
+pub make-standing-requires-clause-room : goal.make-standing-requires-clause-room
+make-standing-requires-clause-room c = λ needs. absurd (true≢false (sym needs ∙ c.requires.slot))
 
 pub returns-clause-store : goal.returns-clause-store
 returns-clause-store c =

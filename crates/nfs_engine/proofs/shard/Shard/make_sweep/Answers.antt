@@ -4,7 +4,7 @@ use Rattle.nfs_objects.specs.declared.address.Addr.{Addr}
 use Rattle.nfs_objects.specs.declared.address.Addr.TheVariants.{Inode}
 use Rattle.nfs_engine.proofs.SweepShardLemmas.{ShardGoneTo, inode-still, shard-all, shard-first, shard-next}
 use Rattle.nfs_engine.specs.Shards.{Fills}
-use Rattle.nfs_engine.proofs.sweeping.Shard.make_sweep.Goals as goal
+use Rattle.nfs_engine.proofs.shard.Shard.make_sweep.Goals as goal
 
 pub loop-place-init : goal.loop-place-init
 loop-place-init c =
@@ -13,19 +13,19 @@ loop-place-init c =
 
 pub loop-place-preserved : goal.loop-place-preserved
 loop-place-preserved c =
-    shard-next c.args.self.now c.loop-place.self c.replace-2.new.self c.args.sweep.now.file c.args.sweep.now.page
-    c.loop-place.place c.block.result c.block.ensures c.loop-place.invariant c.replace-2.ensures.fills
+    shard-next c.args.self.now c.loop-place.self c.replace-in-loop-place.new.self c.args.sweep.now.file c.args.sweep.now.page
+    c.loop-place.place c.block.result c.block.ensures c.loop-place.invariant c.replace-in-loop-place.ensures.fills
 
-pub replace-requires-3 : goal.replace-requires-3
-replace-requires-3 c =
+pub replace-requires-2 : goal.replace-requires-2
+replace-requires-2 c =
     inode-still c.args.self.now c.loop-place.self c.args.sweep.now (option_map arc_value c.args.left)
     c.loop-place.place c.file.result c.file.ensures c.requires.left c.requires.free c.loop-place.invariant
 
 pub returns : goal.returns
 returns c =
     let whole : c.loop-place.place ≡ 512 = omega arith in
-    shard-all c.args.self.now c.loop-place.self c.replace-3.new.self c.args.sweep.now (option_map arc_value c.args.left)
+    shard-all c.args.self.now c.loop-place.self c.replace-2.new.self c.args.sweep.now (option_map arc_value c.args.left)
     c.requires.left (subst (λ (n : ℕ). ShardGoneTo c.args.self.now c.loop-place.self c.args.sweep.now.file
     c.args.sweep.now.page n) whole c.loop-place.invariant)
-    (subst (λ (n : ℕ). Fills c.loop-place.self c.replace-3.new.self (Inode n) (option_map arc_value c.args.left))
-    c.file.ensures c.replace-3.ensures.fills)
+    (subst (λ (n : ℕ). Fills c.loop-place.self c.replace-2.new.self (Inode n) (option_map arc_value c.args.left))
+    c.file.ensures c.replace-2.ensures.fills)

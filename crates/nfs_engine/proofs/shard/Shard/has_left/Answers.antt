@@ -1,5 +1,5 @@
 use Rattle.nfs_engine.proofs.SweepShardLemmas.{left-stands, none-left}
-use Rattle.nfs_engine.proofs.sweeping.Shard.has_left.Goals as goal
+use Rattle.nfs_engine.proofs.shard.Shard.has_left.Goals as goal
 
 pub returns-then-is_last : goal.returns-then-is_last
 returns-then-is_last c =

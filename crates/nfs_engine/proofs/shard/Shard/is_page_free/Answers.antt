@@ -3,7 +3,7 @@ use Rattle.std.specs.Bool.{Decides}
 use Rattle.nfs_objects.specs.declared.address.Addr.{Addr}
 use Rattle.nfs_engine.proofs.SweepShardLemmas.{IsFree, block-held, page-decides}
 use Rattle.nfs_engine.proofs.SweepStepLemmas.{AllBlocks, blocks-next, blocks-none}
-use Rattle.nfs_engine.proofs.sweeping.Shard.is_page_free.Goals as goal
+use Rattle.nfs_engine.proofs.shard.Shard.is_page_free.Goals as goal
 
 pub loop-place-init : goal.loop-place-init
 loop-place-init c = blocks-none (IsFree c.args.self.now) c.args.sweep.now.file c.args.sweep.now.page

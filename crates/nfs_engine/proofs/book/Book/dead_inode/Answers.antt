@@ -1,7 +1,7 @@
 use Rattle.std.proofs.Common.{sym}
 use Rattle.nfs_engine.proofs.DeadInodeLemmas.{is-dead, not-inode, not-living, not-locked}
 use Rattle.nfs_engine.specs.Book.{store_in}
-use Rattle.nfs_engine.proofs.sweeping.Book.dead_inode.Goals as goal
+use Rattle.nfs_engine.proofs.book.Book.dead_inode.Goals as goal
 
 pub returns-in_err-inode : goal.returns-in_err-inode
 returns-in_err-inode c =

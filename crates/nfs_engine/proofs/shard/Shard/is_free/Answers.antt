@@ -1,6 +1,6 @@
 use Rattle.nfs_engine.proofs.SweepShardLemmas.{decides-free}
 use Rattle.nfs_engine.specs.Shards.{slot_at}
-use Rattle.nfs_engine.proofs.sweeping.Shard.is_free.Goals as goal
+use Rattle.nfs_engine.proofs.shard.Shard.is_free.Goals as goal
 
 pub returns : goal.returns
 returns c =

@@ -1,5 +1,5 @@
 use Rattle.nfs_engine.proofs.SweepShardLemmas.{free-decides, not-free, not-left}
-use Rattle.nfs_engine.proofs.sweeping.Shard.is_free_of.Goals as goal
+use Rattle.nfs_engine.proofs.shard.Shard.is_free_of.Goals as goal
 
 pub returns-then-not-has_left : goal.returns-then-not-has_left
 returns-then-not-has_left c =
