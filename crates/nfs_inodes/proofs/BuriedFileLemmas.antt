@@ -1,11 +1,10 @@
 -- A large file that goes leaves its inode, of no export, and all that stands beside it: the store stands for the state
 -- without the file.
-use Rattle.std.proofs.Common.{◌≡◌, ◌==◌, ◌⊎◌, ◌<◌, ◌≤◌, ◌%◌, ◌∙◌, ℕ, Bool, true, false, cond, max, nat_le, option_map}
+use Rattle.std.proofs.Common.{◌≡◌, ◌==◌, ◌⊎◌, ◌≤◌, ◌%◌, ◌∙◌, ℕ, true, false, cond, max, nat_le, option_map}
 use Rattle.std.proofs.Common.{List, [], ◌∷◌, Option, Some, None, IsSome, inl, inr, is_some, refl, sym, ap, subst, arith}
 use Rattle.std.specs.Cmp.{nat_eq_equiv, unsigned_Decides}
 use Rattle.std.specs.FinMap.{get}
 use Rattle.std.specs.List.{AllByRecursion}
-use Rattle.std.specs.Prelude.{option_copied}
 use Rattle.nfs_machine.specs.Exports.{LivingExport, export_at}
 use Rattle.nfs_machine.specs.WellFormed.{IsNumbered}
 use Rattle.nlm_ranges.specs.Buckets.{bucket_count, file_in}
@@ -20,12 +19,11 @@ use Rattle.nfs_objects.specs.ExportTables.{ExportTableValue, IsExportTable, tabl
 use Rattle.nfs_objects.specs.Knows.{Shows, Turns}
 use Rattle.nfs_objects.specs.Bits.{no_bits}
 use Rattle.nfs_objects.specs.declared.object.Content.{Content}
-use Rattle.nfs_objects.specs.Stands.{HasBlocks, HoldsEntries, IsFitting, Kept, Represents, bucket_there, entry_map_in, entry_map_of, export_table_of}
-use Rattle.nfs_objects.specs.Stands.{exports_of, inode_in, links_kept, lives_in, living_in, living_of_inode, map_in, pages_of}
-use Rattle.nfs_objects.specs.Stands.{parent_kept}
-use Rattle.nfs_objects.specs.Store.{Store, put_at, with_write, with_writes}
+use Rattle.nfs_objects.specs.Stands.{HasBlocks, HoldsEntries, IsFitting, Kept, Represents, bucket_there, entry_map_in}
+use Rattle.nfs_objects.specs.Stands.{entry_map_of, export_table_of, exports_of, inode_in, links_kept, lives_in}
+use Rattle.nfs_objects.specs.Stands.{living_in, living_of_inode, map_in, pages_of, parent_kept}
+use Rattle.nfs_objects.specs.Store.{Store, with_write, with_writes}
 use Rattle.nfs_objects.specs.Values.{DraftValue, known_at, with_written}
-use Rattle.nfs_objects.specs.declared.address.Addr.{Addr}
 use Rattle.nfs_objects.specs.declared.address.Addr.TheVariants as addresses
 use Rattle.nfs_objects.specs.declared.object.Inode.{Inode}
 use Rattle.nfs_objects.specs.declared.object.Object.{Object}
@@ -79,7 +77,8 @@ module _ (s : Store) (k : Kept) (n : ℕ) (i j : Inode) (stands : Represents s k
       ∙ ap (λ b. cond b (Some (record i { export = 0 })) None) none
 
   -- what was said of what stands at each number is so of it, where it is said of the inode that stood there
-  each : (P : ℕ → Inode → Type 0) → P n j → ((q : ℕ) (x : Inode) → s.at (addresses.Inode q) ≡ Some (objects.Inode x) → P q x)
+  each : (P : ℕ → Inode → Type 0) → P n j
+      → ((q : ℕ) (x : Inode) → s.at (addresses.Inode q) ≡ Some (objects.Inode x) → P q x)
       → (q : ℕ) (x : Inode) → left.at (addresses.Inode q) ≡ Some (objects.Inode x) → P q x
   each P here there q x stood =
       elim (n == q) as (λ b. (n == q) ≡ b →
@@ -128,7 +127,8 @@ module _ (s : Store) (k : Kept) (n : ℕ) (i j : Inode) (stands : Represents s k
     };
     objects = record {
       objects = λ q. subst
-          (λ g. g ≡ living_in k.state.exports (living_beside g) (cond (n == q) (Some (objects.Inode j)) (s.at (addresses.Inode q))))
+          (λ g. g ≡ living_in k.state.exports (living_beside g)
+          (cond (n == q) (Some (objects.Inode j)) (s.at (addresses.Inode q))))
           (sym (removed q))
           (elim (n == q) as (λ b. cond b None (get k.state.objects q) ≡ living_in k.state.exports
           (living_beside (cond b None (get k.state.objects q)))

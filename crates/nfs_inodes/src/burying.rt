@@ -16,7 +16,7 @@ use crate::found::inode;
 use nfs_objects::{Bits, Content, Draft, Halt, Inode};
 
 /// The number of no export, which stands in the inode of a file that is buried.
-pub const NO_EXPORT: u32 = 0;
+const NO_EXPORT: u32 = 0;
 
 /// The inode that a large file leaves where it goes, with all that stands beside it; None where no large file lives at
 /// the number.

@@ -7,7 +7,7 @@
 #![tactic(auto)]
 
 pub mod asked;
-pub mod burying;
+mod burying;
 pub mod checks;
 pub mod content;
 pub mod data;
@@ -29,7 +29,6 @@ mod usage;
 pub mod wishes;
 
 pub use asked::{directory_wanted, file_wanted, link_wanted, special_wanted};
-pub use burying::NO_EXPORT;
 pub use checks::{changeable, directory, is_writable, no_directory, permitted, regular};
 pub use content::asking::Asking;
 pub use content::entries::{entry, is_empty, leads_to, new_cookie};
