@@ -13,7 +13,8 @@ use Rattle.nfs_objects.proofs.OtherObjectsLemmas.{enters-page}
 use Rattle.nfs_objects.proofs.SeenLemmas.{known-stands}
 use Rattle.nfs_objects.specs.Asks.{IsThere, Lacks}
 use Rattle.nfs_objects.specs.Calls.{IsAmong, places_for}
-use Rattle.nfs_objects.specs.Directories.{bucket_of, count_in, counted_up, in_page, is_beside, is_in_part, led_in_part, many}
+use Rattle.nfs_objects.specs.Directories.{bucket_of, count_in, counted_up, in_page, is_beside, is_in_part, led_in_part}
+use Rattle.nfs_objects.specs.Directories.{many}
 use Rattle.nfs_objects.specs.Directories.{part_among, source_of, width_in, width_of, with_count}
 use Rattle.nfs_objects.specs.Fits.{Fits}
 use Rattle.nfs_objects.specs.PageRuns.{lists}
@@ -29,8 +30,10 @@ use Rattle.nfs_objects.specs.declared.object.Object.{Object}
 use Rattle.nfs_objects.specs.declared.object.Object.TheVariants as objects
 use Rattle.nfs_objects.specs.declared.page_list.PageRun.{PageRun}
 use Rattle.nfs_inodes.proofs.DividePartLemmas.{divided}
-use Rattle.nfs_inodes.proofs.AsksAfterWritesLemmas.{AsksThese, lacked-among, other-part, these-may, these-more, these-must, these-none}
-use Rattle.nfs_inodes.proofs.AsksAfterWritesLemmas.{is-part, keeps-both, keeps-none, keeps-part, lacked-stops, lacked-stops-back}
+use Rattle.nfs_inodes.proofs.AsksAfterWritesLemmas.{AsksThese, lacked-among, other-part, these-may, these-more}
+use Rattle.nfs_inodes.proofs.AsksAfterWritesLemmas.{these-must, these-none}
+use Rattle.nfs_inodes.proofs.AsksAfterWritesLemmas.{is-part, keeps-both, keeps-none, keeps-part, lacked-stops}
+use Rattle.nfs_inodes.proofs.AsksAfterWritesLemmas.{lacked-stops-back}
 use Rattle.nfs_inodes.proofs.AsksAfterWritesLemmas.{lives-stops, other-page, part-here, parts-live-on, stops-back}
 use Rattle.nfs_inodes.proofs.AsksAfterWritesLemmas.{part-there, told}
 use Rattle.nfs_inodes.proofs.PageEntryLemmas.{pages-gained}
@@ -40,7 +43,8 @@ use Rattle.nfs_inodes.proofs.WishesLemmas.{asking-all, differs}
 use Rattle.nfs_inodes.proofs.WrittenBlocksLemmas.{stands-here, stands-written}
 use Rattle.nfs_inodes.specs.Asking.{IsAsking, with_wish}
 use Rattle.nfs_inodes.specs.Entered.{AsksToAdd, lacked_of}
-use Rattle.nfs_inodes.specs.Entered.{DirectoryLives, Divides, HasPages, HasParts, KeepsButBucket, PagesGain, PartsGain, PartsLive}
+use Rattle.nfs_inodes.specs.Entered.{DirectoryLives, Divides, HasPages, HasParts, KeepsButBucket, PagesGain, PartsGain}
+use Rattle.nfs_inodes.specs.Entered.{PartsLive}
 use Rattle.nfs_inodes.specs.Stops.{StopsAt}
 
 -- ---- what is asked for
@@ -124,7 +128,8 @@ module _ (d : DraftValue) (n : ℕ) (m : EntryMap) (name : List ℕ) (cookie : �
 
         pub asks-divided : AsksToAdd d n m name cookie old third
         asks-divided =
-            ends (part source ∷ part width ∷ page ∷ []) third (may-part source below, (may-new, (may-page, tt))) with-source
+            ends (part source ∷ part width ∷ page ∷ []) third (may-part source below, (may-new, (may-page, tt)))
+            with-source
 
         pub asks-own : (p : ℕ) (new : List (Addr × Mode)) → p < width → (p ≡ source → ⊥) →
             new ≡ with_wish d (part p) third → AsksToAdd d n m name cookie old new
@@ -138,7 +143,8 @@ module _ (d : DraftValue) (n : ℕ) (m : EntryMap) (name : List ℕ) (cookie : �
 
 -- ---- its page
 -- what stood in a page, as the draft knows it
-page-was : (o : Option Object) (was : Option (List Entry)) (page : List Entry) → o ≡ stored_page page → page_of o ≡ was →
+page-was : (o : Option Object) (was : Option (List Entry)) (page : List Entry) → o ≡ stored_page page
+    → page_of o ≡ was →
     unwrap_or was [] ≡ page
 page-was o was page at is = ap (λ w. unwrap_or w []) (sym is ∙ ap page_of at) ∙ own page
   where
@@ -163,7 +169,8 @@ module _ (d new : DraftValue) (n : ℕ) (before after : List PageRun) (e : Entry
       let stood : unwrap_or was [] ≡ in_page (e.cookie / 64) entries =
       page-was known.0 was (in_page (e.cookie / 64) entries)
       (sym (known-stands d s own_page known.0 fits known.1) ∙ has.stand (e.cookie / 64)) known.2 in
-      pages-gained (with_writes s d.writes) (with_writes s (with_written d own_page new_page).writes) n before after entries e
+      pages-gained (with_writes s d.writes) (with_writes s (with_written d own_page new_page).writes) n before after
+      entries e
       (stands-here d s own_page new_page ∙ ap (λ es. stored_page (es ++ e ∷ [])) stood)
       (λ page apart.
       stands-written d s own_page new_page (addresses.Page n page)
@@ -228,7 +235,8 @@ none-divides key d n bucket width some small tells = record {
       (lt-ltb (source_of width) width (source-below width some (omega (arith, small)))) (has (source_of width)) in
       absurd (let clash : None ≡ Some stands.0 =
       sym known.2
-      ∙ ap part_of (sym (known-stands d s (addresses.Part n bucket (source_of width)) known.0 fits known.1) ∙ stands.1) in
+      ∙ ap part_of (sym (known-stands d s (addresses.Part n bucket (source_of width)) known.0 fits known.1)
+      ∙ stands.1) in
       cc);
 }
 
@@ -286,11 +294,13 @@ part-stops d mid n bucket width part halt keeps lives less lacks = by (cases_eq 
     by : (part ≡ width) ⊎ (part ≡ width → ⊥) → StopsAt d (lacked_of d named) halt
     by (inl last) =
         lacked-stops-back n d mid named (lacked_of d named) halt keeps.enters keeps.knows (λ a among. among)
-        (lacked-stops mid named (addresses.Part n bucket part) halt (inl (ap (addresses.Part n bucket) (sym last))) lacks)
+        (lacked-stops mid named (addresses.Part n bucket part) halt
+        (inl (ap (addresses.Part n bucket) (sym last))) lacks)
     by (inr other) =
         stops-back n d mid keeps.enters (lacked_of d named) halt
         (lives-stops mid (lacked_of d named) (addresses.Part n bucket part) halt
-        (inr (parts-live-on n d mid keeps.enters n bucket width keeps.knows lives part (omega (arith, less, other)))) lacks)
+        (inr (parts-live-on n d mid keeps.enters n bucket width keeps.knows lives part (omega (arith, less, other))))
+        lacks)
 
 pub may-divide-keeps : (key : List ℕ) (d mid : DraftValue) (n bucket before after : ℕ) → MayDivide key d mid n bucket
     before after →
@@ -342,7 +352,8 @@ module _ (key : List ℕ) (d mid new : DraftValue) (n : ℕ) (counts wider : Lis
     was-there : was ≡ part_of (old-at part)
     was-there =
         sym known.2
-        ∙ ap part_of (sym (known-stands mid s own_part known.0 (subst (λ v. Fits v s) (sym first.enters.view) fits) known.1))
+        ∙ ap part_of (sym (known-stands mid s own_part known.0 (subst (λ v. Fits v s) (sym first.enters.view) fits)
+        known.1))
 
     -- the entry comes behind what was there
     gained : (old : List Entry) → unwrap_or was [] ≡ old →

@@ -69,7 +69,8 @@ module _ (n : ℕ) (old new : DraftValue) (enters : Enters n old new) where
     | inr there ↦ inr (subst (λ v. IsThere v a) (sym enters.view) there)
   ]
 
-  pub parts-live-on : (q bucket width : ℕ) → KeepsKnown old new → PartsLive old q bucket width → PartsLive new q bucket width
+  pub parts-live-on : (q bucket width : ℕ) → KeepsKnown old new → PartsLive old q bucket width
+      → PartsLive new q bucket width
   parts-live-on q bucket width knows live part less =
       lives-on (addresses.Part q bucket part) knows (live part less)
 
@@ -87,7 +88,8 @@ keeps-none d n bucket = record {
   others = λ s other part apart. refl;
 }
 
-pub keeps-both : (d mid new : DraftValue) (n bucket : ℕ) → KeepsButBucket d mid n bucket → KeepsButBucket mid new n bucket →
+pub keeps-both : (d mid new : DraftValue) (n bucket : ℕ) → KeepsButBucket d mid n bucket
+    → KeepsButBucket mid new n bucket →
     KeepsButBucket d new n bucket
 keeps-both d mid new n bucket first second = record {
   enters = enters-both n d mid new first.enters second.enters;
@@ -174,7 +176,8 @@ lacked-from d (b ∷ named) a among = by (known_at d b) refl among (lacked-from 
     by (Some object) known others rest = (let r = rest others in (inr r.0, r.1))
 
 -- so of more addresses no fewer are lacking
-pub lacked-more : (d : DraftValue) (few named : List Addr) → ((a : Addr) → IsAmong few a → IsAmong named a) → (a : Addr) →
+pub lacked-more : (d : DraftValue) (few named : List Addr) → ((a : Addr) → IsAmong few a → IsAmong named a)
+    → (a : Addr) →
     IsAmong (lacked_of d few) a → IsAmong (lacked_of d named) a
 lacked-more d few named more a among =
     let is = lacked-from d few a among in lacked-among d named a (more a is.0) is.1
@@ -226,7 +229,8 @@ module _ (d : DraftValue) (old : List (Addr × Mode)) where
 
   -- one that the draft knows then, and one more of which nothing is said
   module _ (xs : List Addr) (Must : Addr → Type 0) (a : Addr) (mid new : List (Addr × Mode))
-      (asks : AsksThese xs Must mid) (apart : AllByRecursion (λ b. is_addr b a ≡ false) xs) (is : new ≡ with_wish d a mid)
+      (asks : AsksThese xs Must mid) (apart : AllByRecursion (λ b. is_addr b a ≡ false) xs)
+      (is : new ≡ with_wish d a mid)
     where
       both : AsksFor d (λ b. IsAmong xs b ⊎ (a ≡ b)) (λ b. Must b ⊎ (a ≡ b)) old new
       both = asks-more d (IsAmong xs) Must a old mid asks (all-among (λ b. is_addr b a ≡ false) xs apart) new is
@@ -236,7 +240,8 @@ module _ (d : DraftValue) (old : List (Addr × Mode)) where
       swapped b (inr same) = inl same
 
       pub these-must : AsksThese (a ∷ xs) (λ b. Must b ⊎ (a ≡ b)) new
-      these-must = asks-as d (λ b. IsAmong xs b ⊎ (a ≡ b)) (IsAmong (a ∷ xs)) (λ b. Must b ⊎ (a ≡ b)) (λ b. Must b ⊎ (a ≡ b))
+      these-must = asks-as d (λ b. IsAmong xs b ⊎ (a ≡ b)) (IsAmong (a ∷ xs)) (λ b. Must b ⊎ (a ≡ b))
+          (λ b. Must b ⊎ (a ≡ b))
           old new swapped (λ b must. must) both
 
       pub these-more : AsksThese (a ∷ xs) Must new

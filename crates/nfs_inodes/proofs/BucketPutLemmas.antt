@@ -41,7 +41,8 @@ use Rattle.nfs_inodes.specs.Locks.{without_locks}
 -- ---- what is known
 module _ (d : DraftValue) where
   -- the bucket that a draft knows stands there once it is written
-  pub bucket-stands : (index : ℕ) (b : BucketValue) → option_map bucket_at (known_at d (addresses.Locks index)) ≡ Some b →
+  pub bucket-stands : (index : ℕ) (b : BucketValue)
+      → option_map bucket_at (known_at d (addresses.Locks index)) ≡ Some b →
       (s : Store) → Fits d.view s → bucket_there (with_writes s d.writes) index ≡ b
   bucket-stands index b known s fits = by (known_at d (addresses.Locks index)) refl known
     where
@@ -334,7 +335,11 @@ forget-turns d number old bucket known is whole =
     locks-put t k m.locks m.shares m.waiting m.granted m.spent_grants stands (number % bucket_count)
     (stored_bucket bucket)
     (set-stands t k.state file bucket stands.locks here (λ some. cc) whole (λ some. cc)
-    (record { once = λ r q there also same. absurd (never r there); own = λ r there other q at. absurd (never r there) })))
+    (record {
+      once = λ r q there also same. absurd (never r there);
+      own = λ r there other q at. absurd
+          (never r there);
+    })))
   where
     never : (r : Request) → Contains [] r → ⊥
     never r there = let within = there.1 in omega (arith, within)

@@ -356,7 +356,8 @@ module _ (s : Store) (m : State) (file : LockedValue) (bucket : BucketValue) (st
     placed-after i = elim (index == i) as (λ b. (index == i) ≡ b →
         AllByRecursion (IsPlaced put i) (bucket_there put i).files) [
           | true ↦ λ same.
-              subst (λ x. AllByRecursion (IsPlaced put x) (bucket_there put x).files) ((unsigned_Decides index i).0 same)
+              subst (λ x. AllByRecursion (IsPlaced put x) (bucket_there put x).files)
+              ((unsigned_Decides index i).0 same)
               (subst (λ (b : BucketValue). AllByRecursion (IsPlaced put index) b.files)
               (sym (here s m index bucket stand))
               (all-mapped (IsFound bucket.files) (IsPlaced put index) bucket.files
@@ -416,7 +417,8 @@ module _ (s : Store) (m : State) (index : ℕ) (stand : StandLocks s m) (within 
       ap (λ fs. exported_file m.exports (find (λ (f : LockedValue). f.number == q) fs)) (files-stay (q % bucket_count))
 
   -- a number of the bucket is this one, or it was given where it is smaller
-  one-more : (n given : ℕ) → n % bucket_count ≡ index → ((n == number_given index given) || nat_lt (n / bucket_count) given)
+  one-more : (n given : ℕ) → n % bucket_count ≡ index
+      → ((n == number_given index given) || nat_lt (n / bucket_count) given)
       ≡ nat_lt (n / bucket_count) (given + 1)
   one-more n given is = grind (arith, nat_tests)
 

@@ -11,7 +11,8 @@ use Rattle.nfs_objects.specs.Asks.{IsThere}
 use Rattle.nfs_objects.specs.Directories.{AreBeside, is_listed}
 use Rattle.nfs_objects.specs.Drafts.{MayChange}
 use Rattle.nfs_objects.specs.Fits.{Fits}
-use Rattle.nfs_objects.specs.Stands.{HasEntries, HoldsEntries, Kept, StandEntries, content_of, entry_map_in, entry_map_of}
+use Rattle.nfs_objects.specs.Stands.{HasEntries, HoldsEntries, Kept, StandEntries, content_of, entry_map_in}
+use Rattle.nfs_objects.specs.Stands.{entry_map_of}
 use Rattle.nfs_objects.specs.Stands.{inode_of}
 use Rattle.nfs_objects.specs.Store.{Store, with_writes}
 use Rattle.nfs_objects.specs.Values.{DraftValue, is_addr, known_at, with_written}
@@ -114,7 +115,8 @@ both-freed false true o = refl
 both-freed false false o = refl
 
 -- what is freed twice over
-freed-next : (listed : List Addr) (b a : Addr) (old mid new : Option Object) → mid ≡ cond (is_listed listed a) None old →
+freed-next : (listed : List Addr) (b a : Addr) (old mid new : Option Object)
+    → mid ≡ cond (is_listed listed a) None old →
     new ≡ cond (is_listed (b ∷ []) a) None mid → new ≡ cond (is_listed (listed ++ b ∷ []) a) None old
 freed-next listed b a old mid new first second =
     second ∙ ap (cond (is_listed (b ∷ []) a) None) first ∙ both-freed (is_listed listed a) (is_addr b a) old

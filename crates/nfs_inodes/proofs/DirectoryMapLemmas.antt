@@ -1,5 +1,6 @@
 -- What a directory's map tells of is known to a draft, or stands in each store that the draft's view fits.
-use Rattle.std.proofs.Common.{◌≡◌, ◌⊎◌, ℕ, ◌==◌, Bool, true, false, List, [], ◌∷◌, Option, Some, None, IsSome, inl, inr, refl}
+use Rattle.std.proofs.Common.{◌≡◌, ◌⊎◌, ℕ, ◌==◌, Bool, true, false, List, [], ◌∷◌, Option, Some, None, IsSome, inl, inr}
+use Rattle.std.proofs.Common.{refl}
 use Rattle.std.proofs.Common.{sym, ◌∙◌, ap, subst, cond, ◌&&◌}
 use Rattle.std.specs.Prelude.{nat_lt}
 use Rattle.std.proofs.lemmas.Bool.{and_parts, eq-eqb, eqb-true}
@@ -76,7 +77,8 @@ directory-lives d n i m found is still a told = by (known_at d a) refl
     by None unknown = inr (was-there d a still unknown (λ s k fits stands. holds s k fits (stands.directories n)))
 
 -- ---- all of it goes
-module _ (s t : Store) (n : ℕ) (m : EntryMap) (entries : List Entry) (listed : List Addr) (has : HasEntries s n m entries)
+module _ (s t : Store) (n : ℕ) (m : EntryMap) (entries : List Entry) (listed : List Addr)
+    (has : HasEntries s n m entries)
     (beside : AreBeside m n listed)
     (pages : (page : ℕ) → t.at (addresses.Page n page)
     ≡ cond (is_listed listed (addresses.Page n page)) None (s.at (addresses.Page n page)))

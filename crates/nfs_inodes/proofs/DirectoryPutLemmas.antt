@@ -9,7 +9,8 @@ use Rattle.nfs_objects.specs.Bits.{has, no_bits}
 use Rattle.nfs_objects.specs.Edits.{with_living}
 use Rattle.nfs_objects.specs.Fits.{Fits}
 use Rattle.nfs_objects.specs.Knows.{Turns}
-use Rattle.nfs_objects.specs.Stands.{Beside, HasBlocks, HasEntries, HoldsEntries, IsFitting, IsMapped, IsStored, Kept, Represents}
+use Rattle.nfs_objects.specs.Stands.{Beside, HasBlocks, HasEntries, HoldsEntries, IsFitting, IsMapped, IsStored, Kept}
+use Rattle.nfs_objects.specs.Stands.{Represents}
 use Rattle.nfs_objects.specs.Stands.{beside_at, entries_at, entry_map_in}
 use Rattle.nfs_objects.specs.Stands.{lives_in, living_of_inode, map_in, map_of, pages_of, parent_in}
 use Rattle.nfs_objects.specs.Store.{Store, with_write, with_writes}
@@ -99,7 +100,8 @@ module _ (d laid : DraftValue) (n : ℕ) (i j : Inode) (before after : EntryMap)
         (λ some. (let no = subst (λ o. IsSome o) (no-map i.content before was) some in absurd cc))) in
         subst (λ (x : Store). Represents x (op k))
         (sym (writes-append laid.writes s (addresses.Inode n) (Some (objects.Inode j))))
-        (subst (Represents (with_write t (addresses.Inode n) (Some (objects.Inode j)))) (sym (same s k fits stands)) put);
+        (subst (Represents (with_write t (addresses.Inode n) (Some (objects.Inode j))))
+        (sym (same s k fits stands)) put);
   }
 
   -- so it is with a change of what lives there that is the inode with its new entries
@@ -116,5 +118,6 @@ module _ (d laid : DraftValue) (n : ℕ) (i j : Inode) (before after : EntryMap)
       let o : Living = living_of_inode (beside_then k) j in
       changed-is k n (links (k.links n)) f (living_of_inode (beside_at k.state n) i) o
       (lives-there d n (Some i) found s k fits stands) (becomes (beside_at k.state n) (asked s k fits stands))
-      ∙ ap (λ l. with_living k n o l (k.parents n)) (ap links (links-there d n (Some i) found s k fits stands) ∙ sym linked)
+      ∙ ap (λ l. with_living k n o l (k.parents n)) (ap links (links-there d n (Some i) found s k fits stands)
+      ∙ sym linked)
       ∙ ap (λ p. with_living k n o j.links p) (parent-there d n (Some i) found s k fits stands ∙ sym under))

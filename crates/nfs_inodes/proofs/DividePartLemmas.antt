@@ -76,7 +76,8 @@ module _ (key : List ℕ) (n bucket width : ℕ) (entries : List Entry) (some : 
       let was : IsPart true (led_in_part key count bucket part entries) (s.at (addresses.Part n bucket part)) =
       subst (λ b. IsPart b (led_in_part key count bucket part entries) (s.at (addresses.Part n bucket part)))
       (lt-ltb part count less) (has part) in
-      let same : names ≡ was.0 = (let e : Some (objects.Part names) ≡ Some (objects.Part was.0) = sym at ∙ was.1 in cc) in
+      let same : names ≡ was.0 = (let e : Some (objects.Part names) ≡ Some (objects.Part was.0) = sym at
+      ∙ was.1 in cc) in
       ap (λ es. entry_of es name) same ∙ was.2 name
 
   -- names that are kept of a part by where they are next

@@ -14,7 +14,8 @@ use Rattle.nfs_objects.proofs.HashedPartLemmas.{source-below}
 use Rattle.nfs_objects.proofs.OtherObjectsLemmas.{enters-none, enters-page}
 use Rattle.nfs_objects.proofs.SeenLemmas.{known-stands}
 use Rattle.nfs_objects.specs.Directories.{AreApart, bucket_of, count_in, counted_down, has_some, in_page}
-use Rattle.nfs_objects.specs.Directories.{is_in_part, led_in_part, many, part_among, source_of, width_in, width_of, with_count}
+use Rattle.nfs_objects.specs.Directories.{is_in_part, led_in_part, many, part_among, source_of, width_in, width_of}
+use Rattle.nfs_objects.specs.Directories.{with_count}
 use Rattle.nfs_objects.specs.Entries.{leaf_of, without_entry}
 use Rattle.nfs_objects.specs.Fits.{Fits}
 use Rattle.nfs_objects.specs.PageRuns.{lists}
@@ -29,7 +30,8 @@ use Rattle.nfs_objects.specs.declared.object.Object.{Object}
 use Rattle.nfs_objects.specs.declared.object.Object.TheVariants as objects
 use Rattle.nfs_objects.specs.declared.page_list.PageRun.{PageRun}
 use Rattle.nfs_inodes.proofs.DividePartLemmas.{joined, parts-apart}
-use Rattle.nfs_inodes.proofs.AsksAfterWritesLemmas.{keeps-both, keeps-none, keeps-part, other-page, part-here, part-there, told}
+use Rattle.nfs_inodes.proofs.AsksAfterWritesLemmas.{keeps-both, keeps-none, keeps-part, other-page, part-here}
+use Rattle.nfs_inodes.proofs.AsksAfterWritesLemmas.{part-there, told}
 use Rattle.nfs_inodes.proofs.PageEntryLemmas.{entry-gone, pages-lost}
 use Rattle.nfs_inodes.proofs.PartEntryLemmas.{part-lost}
 use Rattle.nfs_inodes.proofs.StillKnownLemmas.{keeps-written, knows-none}
@@ -175,7 +177,8 @@ module _ (d : DraftValue) (n : ℕ) (before after : List PageRun) (leaf : Leaf) 
         enters = enters-page n d page (stored_page rest);
         knows = keeps-written d (addresses.Page n page) (stored_page rest) refl;
         less = λ p told. fewer p told (cases_eq p page);
-        pages = λ s es fits once leads has. lost s es fits once (leads-there es name leaf leads) (page-some es leads) has;
+        pages = λ s es fits once leads has. lost s es fits once (leads-there es name leaf leads)
+            (page-some es leads) has;
         parts = λ s bucket part. stands-written d s (addresses.Page n page) (stored_page rest)
             (addresses.Part n bucket part);
       })
@@ -245,7 +248,8 @@ module _ (d : DraftValue) (n bucket width : ℕ) (some : 0 < width) (small : wid
   under = source-below width some roomy
 
   -- both are there
-  pub absent-last : option_map part_of (known_at d (addresses.Part n bucket width)) ≡ Some None → Joins d d n bucket width
+  pub absent-last : option_map part_of (known_at d (addresses.Part n bucket width)) ≡ Some None
+      → Joins d d n bucket width
   absent-last none = record {
     keeps = keeps-none d n bucket;
     joins = λ key s es fits has. absurd (let told = part-told key d s n bucket width (suc width) es None fits

@@ -40,7 +40,8 @@ module _ (object : Living → Living) (links : ℕ → ℕ) where
         → Turns d new (λ k. edited k n object links)
     edited-turns new i j has is kept listed linked under generation exported put-is fits =
         subst (λ (x : DraftValue). Turns d x (λ k. edited k n object links)) (sym put-is)
-        (edit-turns d n i j object links (known-inode d n i has) (shows-export d n i has) exported is kept listed linked under
+        (edit-turns d n i j object links (known-inode d n i has) (shows-export d n i has) exported is kept listed
+        linked under
         generation fits)
 
 -- an inode with so many links and another time of change, made of a copy

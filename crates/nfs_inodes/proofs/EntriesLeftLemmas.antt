@@ -37,7 +37,8 @@ use Rattle.nfs_objects.specs.declared.object.Object.TheVariants as objects
 use Rattle.nfs_inodes.proofs.PageFrontLemmas.{back, front, front-all, front-back, front-first, front-more, next-behind}
 use Rattle.nfs_inodes.proofs.PageFrontLemmas.{none-between}
 use Rattle.nfs_inodes.proofs.NameLeadsLemmas.{entries-own, map_there}
-use Rattle.nfs_inodes.proofs.StandsLemmas.{contains-as, content_in, directory-kind, entries-there, kind-is, parent-there}
+use Rattle.nfs_inodes.proofs.StandsLemmas.{contains-as, content_in, directory-kind, entries-there, kind-is}
+use Rattle.nfs_inodes.proofs.StandsLemmas.{parent-there}
 use Rattle.nfs_inodes.specs.Entered.{ShowsPage}
 use Rattle.nfs_inodes.specs.Gathers.{EachLives}
 use Rattle.nfs_inodes.specs.Known.{HasInode, IsKnown, content_at, object_at}

@@ -1,5 +1,6 @@
 -- What a directory asks for to get a name or to lose one, and what an object's group uses besides.
-use Rattle.std.proofs.Common.{◌≡◌, ◌⊎◌, ◌/◌, ℕ, Bool, true, false, cond, List, [], ◌∷◌, ◌++◌, Option, Some, None, IsSome}
+use Rattle.std.proofs.Common.{◌≡◌, ◌⊎◌, ◌/◌, ℕ, Bool, true, false, cond, List, [], ◌∷◌, ◌++◌, Option, Some, None}
+use Rattle.std.proofs.Common.{IsSome}
 use Rattle.std.proofs.Common.{inl, inr, refl, sym, ◌∙◌, ap, subst}
 use Rattle.nfs_objects.proofs.KnowsLemmas.{among-behind, among-front, among-groups}
 use Rattle.nfs_objects.proofs.SeenLemmas.{is_addr-same}
@@ -42,7 +43,8 @@ beside-entries m n (addresses.Usage export group) told = cc
 beside-entries m n (addresses.Locks index) told = cc
 
 -- and so is where a name goes
-places-entries : (m : EntryMap) (n : ℕ) (name : List ℕ) (cookie : ℕ) (a : Addr) → IsAmong (places_for m n name cookie) a →
+places-entries : (m : EntryMap) (n : ℕ) (name : List ℕ) (cookie : ℕ) (a : Addr)
+    → IsAmong (places_for m n name cookie) a →
     is_entries a ≡ true
 places-entries m n name cookie a (inl same) = ap is_entries (sym same)
 places-entries m n name cookie a (inr (inl same)) = ap is_entries (sym same)

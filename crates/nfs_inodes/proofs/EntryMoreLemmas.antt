@@ -1,6 +1,7 @@
 -- Pages and parts together: a directory has one entry more, or one less.
 use Rattle.std.proofs.Common.{◌≡◌, ◌⊎◌, ℕ, ◌+◌, ◌-◌, ◌<◌, ◌==◌, ◌&&◌, Bool, true, false, not, cond, List, [], ◌∷◌, ◌++◌}
-use Rattle.std.proofs.Common.{Option, Some, None, option_map, arith, inl, inr, length, mod-lt, refl, sym, ◌∙◌, ap, subst}
+use Rattle.std.proofs.Common.{Option, Some, None, option_map, arith, inl, inr, length, mod-lt, refl, sym, ◌∙◌, ap}
+use Rattle.std.proofs.Common.{subst}
 use Rattle.std.specs.Cmp.Lexicographic.{bytes_decides}
 use Rattle.std.specs.List.{AllByRecursion, count_by}
 use Rattle.std.specs.Prelude.{nat_lt}
@@ -74,11 +75,13 @@ none-of bucket [] name all is = refl
 none-of bucket (e ∷ es) name all is = by (same_bytes e.name name) refl (none-of bucket es name all.1 is)
   where
     by : (b : Bool) → same_bytes e.name name ≡ b → entry_of es name ≡ None → cond b (Some e) (entry_of es name) ≡ None
-    by true same rest = absurd (let here : bucket_of e.name ≡ bucket = ap bucket_of ((bytes_decides e.name name).0 same) ∙ is in
+    by true same rest = absurd (let here : bucket_of e.name ≡ bucket = ap bucket_of ((bytes_decides e.name name).0 same)
+        ∙ is in
         let clash : true ≡ false = sym (eq-eqb (bucket_of e.name) bucket here) ∙ all.0 in cc)
     by false other rest = rest
 
-pub none-there : (bucket count : ℕ) (es : List Entry) → IsCount count (count_by (is_of bucket) es) → width_of count ≡ 0 →
+pub none-there : (bucket count : ℕ) (es : List Entry) → IsCount count (count_by (is_of bucket) es)
+    → width_of count ≡ 0 →
     (name : List ℕ) → bucket_of name ≡ bucket → entry_of es name ≡ None
 none-there bucket count es counted none name is =
     none-of bucket es name
@@ -102,7 +105,8 @@ differs : (bucket : ℕ) (e : Entry) (name : List ℕ) → is_of bucket e ≡ fa
 differs bucket e name away is = by (same_bytes e.name name) refl
   where
     by : (b : Bool) → same_bytes e.name name ≡ b → same_bytes e.name name ≡ false
-    by true same = absurd (let here : bucket_of e.name ≡ bucket = ap bucket_of ((bytes_decides e.name name).0 same) ∙ is in
+    by true same = absurd (let here : bucket_of e.name ≡ bucket = ap bucket_of ((bytes_decides e.name name).0 same)
+        ∙ is in
         let clash : true ≡ false = sym (eq-eqb (bucket_of e.name) bucket here) ∙ away in cc)
     by false other = other
 
@@ -150,7 +154,8 @@ found-named (x ∷ es) name e found = by (same_bytes x.name name) refl found (fo
   where
     by : (b : Bool) → same_bytes x.name name ≡ b → cond b (Some x) (entry_of es name) ≡ Some e →
         (entry_of es name ≡ Some e → e.name ≡ name) → e.name ≡ name
-    by true same is rest = let one : x ≡ e = cc in ap (λ (y : Entry). y.name) (sym one) ∙ (bytes_decides x.name name).0 same
+    by true same is rest = let one : x ≡ e = cc in ap (λ (y : Entry). y.name) (sym one)
+        ∙ (bytes_decides x.name name).0 same
     by false other is rest = rest is
 
 module _ (old mid new : DraftValue) (n : ℕ) (before : EntryMap) (pages : List PageRun) (counts : List ℕ) where
@@ -192,7 +197,8 @@ module _ (old mid new : DraftValue) (n : ℕ) (before : EntryMap) (pages : List 
 
       counted : (s : Store) (es : List Entry) → HasEntries (with_writes s old.writes) n before es → (b : ℕ) →
           (b ≡ bucket) ⊎ (b ≡ bucket → ⊥) → IsCount (count_in counts b) (count_by (is_of b) (es ++ e ∷ []))
-      counted s es has b (inl same) = subst (λ q. IsCount (count_in counts q) (count_by (is_of q) (es ++ e ∷ []))) (sym same)
+      counted s es has b (inl same) = subst (λ q. IsCount (count_in counts q) (count_by (is_of q) (es ++ e ∷ [])))
+          (sym same)
           (subst (IsCount (count_in counts bucket))
           (sym (count-last (is_of bucket) es e
           ∙ ap (λ t. count_by (is_of bucket) es + cond {A = ℕ} t 1 0) (eq-eqb bucket bucket refl)))

@@ -24,7 +24,8 @@ use Rattle.nfs_objects.specs.FileMaps.{FileMapValue, IsContent, block_size}
 use Rattle.nfs_objects.specs.Drafts.{MayChange, MayGive}
 use Rattle.nfs_objects.specs.Fits.{Fits}
 use Rattle.nfs_objects.specs.Knows.{Turns}
-use Rattle.nfs_objects.specs.Stands.{Beside, HasBlocks, HoldsEntries, IsFitting, Kept, Represents, StandDirectories, beside_at}
+use Rattle.nfs_objects.specs.Stands.{Beside, HasBlocks, HoldsEntries, IsFitting, Kept, Represents, StandDirectories}
+use Rattle.nfs_objects.specs.Stands.{beside_at}
 use Rattle.nfs_objects.specs.Stands.{bytes_at, entry_map_in, entry_map_of, lives_in, living_of_inode}
 use Rattle.nfs_objects.specs.Stands.{map_in, parent_in, stored_in}
 use Rattle.nfs_objects.specs.Modes.{held_mode}
@@ -38,7 +39,8 @@ use Rattle.nfs_objects.specs.declared.object.Content.TheVariants as contents
 use Rattle.nfs_objects.specs.declared.object.Inode.{Inode}
 use Rattle.nfs_objects.specs.declared.object.Object.TheVariants as objects
 use Rattle.nfs_inodes.proofs.KeptBesideLemmas.{changed-is, put-there}
-use Rattle.nfs_inodes.proofs.PutObjectLemmas.{counted, has-kept, known-inode, same-shares, share-stands, turns-as, with-bytes}
+use Rattle.nfs_inodes.proofs.PutObjectLemmas.{counted, has-kept, known-inode, same-shares, share-stands, turns-as}
+use Rattle.nfs_inodes.proofs.PutObjectLemmas.{with-bytes}
 use Rattle.nfs_inodes.proofs.StandsLemmas.{links-there, lives-there, parent-there, shows-export}
 use Rattle.nfs_inodes.proofs.ReadBlocksLemmas.{content-there}
 use Rattle.nfs_inodes.specs.Blocks.{HasMap, WritesRange, end_of, first_of}
@@ -91,7 +93,8 @@ module _ (d laid : DraftValue) (n : ℕ) (i : Inode) (has : HasInode d n (Some i
         let at : t.at (addresses.Inode n) ≡ Some (objects.Inode i) = lays.inodes s n ∙ stood in
         let lives : lives_in k.state.exports i.export ≡ true = shows-export d n i has s k fits stands in
         let has-content : HasContent t n changed.bytes j =
-        λ m is. subst (λ (x : FileMapValue). IsContent x.size (λ b. stored_in (t.at (addresses.Block n b))) changed.bytes)
+        λ m is. subst (λ (x : FileMapValue). IsContent x.size (λ b. stored_in (t.at (addresses.Block n b)))
+        changed.bytes)
         (let e : after ≡ m = cc in e) (content s k fits stands) in
         let put = put-stands t k n j changed but (blocks s k fits stands) has-content
         (file-bare (with_writes s d.writes) t k n i map (lays.entries s) stood was stands.directories changed.entries)
@@ -165,7 +168,8 @@ module _ (d mid laid : DraftValue) (n : ℕ) (i : Inode) (map after : FileMapVal
       let length-is : length (change beside.bytes) ≡ after.size =
       (content s (counted n share.export share.usage uses k) (subst (λ v. Fits v s) (sym counts.view) stand)
       (counts.turns s k stand represents)).counted in
-      changed-is (counted n share.export share.usage uses k) n (k.links n) (with_bytes now change) (living_of_inode beside i)
+      changed-is (counted n share.export share.usage uses k) n (k.links n) (with_bytes now change)
+      (living_of_inode beside i)
       file lives changed
       ∙ ap (λ u. record (with_living k n file (k.links n) (k.parents n)) { usage = u })
       (same-shares n k.usage (in_export share.export share.usage) (in_export share.export uses)
@@ -176,7 +180,8 @@ module _ (d mid laid : DraftValue) (n : ℕ) (i : Inode) (map after : FileMapVal
       ∙ ap (λ p. shares_of p e) (sym (put-there k.state n file))))
       ∙ ap (λ (q : Kept). counted_anew n (get k.state.objects n) q)
       (sym (changed-is k n (k.links n) (with_bytes now change) (living_of_inode beside i) file lives changed)))
-      (turns-both d mid new (counted n share.export share.usage uses) (λ k. changed_at k n (with_bytes now change)) counts
+      (turns-both d mid new (counted n share.export share.usage uses)
+      (λ k. changed_at k n (with_bytes now change)) counts
       (subst (λ (x : DraftValue). Turns mid x (λ k. changed_at k n (with_bytes now change)))
       (sym (put-is ∙ ap (λ x. with_written laid (addresses.Inode n) (Some (objects.Inode x))) made))
       (file-turns mid laid n i (has-kept d mid n (Some i) keeps has) lays map after now change was blocks content

@@ -70,7 +70,8 @@ module _ (n : ℕ) where
     };
   }
 
-  pub forgotten-removed : (d mid forgot new : DraftValue) → Turns d mid (uncounted n) → Turns mid forgot (locks_freed n) →
+  pub forgotten-removed : (d mid forgot new : DraftValue) → Turns d mid (uncounted n)
+      → Turns mid forgot (locks_freed n) →
       Turns forgot new (λ k. freed k n) → Turns d new (removed n)
   forgotten-removed d mid forgot new counts forgets frees =
       removed-turns d mid new n counts

@@ -1,5 +1,7 @@
 -- What changes of objects leave of what is kept beside the state. No store is named here.
-use Rattle.std.proofs.Common.{◌≡◌, ◌==◌, ℕ, ◌+◌, ◌-◌, ◌^◌, ◌<◌, ◌≤◌, true, false, Bool, cond, ◌||◌, ◌&&◌, min, nat_le, nat_lt, List, [], ◌∷◌, ◌++◌, Option, Some, None, Result, Ok, Err, refl, sym, ◌∙◌, ap, subst, arith}
+use Rattle.std.proofs.Common.{◌≡◌, ◌==◌, ℕ, ◌+◌, ◌-◌, ◌^◌, ◌<◌, ◌≤◌, true, false, Bool, cond, ◌||◌, ◌&&◌, min, nat_le}
+use Rattle.std.proofs.Common.{nat_lt, List, [], ◌∷◌, ◌++◌, Option, Some, None, Result, Ok, Err, refl, sym, ◌∙◌, ap}
+use Rattle.std.proofs.Common.{subst, arith}
 use Rattle.std.proofs.Math.Nat.{min-eq_left}
 use Rattle.std.proofs.lemmas.Bool.{le-leb, ltb-true}
 use Rattle.std.specs.Cmp.{nat_eq_equiv, unsigned_Decides}
@@ -8,16 +10,19 @@ use Rattle.nfs_wire.specs.declared.attributes.Attributes.{Attributes}
 use Rattle.nfs_wire.specs.declared.attributes.Time.{Time}
 use Rattle.nfs_wire.specs.declared.status.NfsStatus.{NfsStatus}
 use Rattle.nfs_wire.specs.declared.status.NfsStatus.TheVariants as status
-use Rattle.nfs_machine.proofs.NewObjectLemmas.{MakesEntry, links-kept, links-made, links-wider, parent-kept, parent-made}
+use Rattle.nfs_machine.proofs.NewObjectLemmas.{MakesEntry, links-kept, links-made, links-wider, parent-kept}
+use Rattle.nfs_machine.proofs.NewObjectLemmas.{parent-made}
 use Rattle.nfs_machine.proofs.ChecksPassedLemmas.{is-regular}
 use Rattle.nfs_machine.proofs.ChecksPassedLemmas as facts
 use Rattle.nfs_machine.proofs.MapSumLemmas.{get-inserted}
-use Rattle.nfs_machine.proofs.WellFormedLemmas.{Alike, KeepsNames, links-alike, links-names, parent-alike, replaced-alike, replaced-names}
+use Rattle.nfs_machine.proofs.WellFormedLemmas.{Alike, KeepsNames, links-alike, links-names, parent-alike}
+use Rattle.nfs_machine.proofs.WellFormedLemmas.{replaced-alike, replaced-names}
 use Rattle.nfs_machine.specs.Attributes.{entries_of, is_directory, links_of, used_of}
 use Rattle.nfs_machine.specs.Checks.{DirectoryEntries, bytes_in, entries_in, entry_of, link_limit}
 use Rattle.nfs_machine.specs.Making.{Choice, IsFresh, kind_checked, with_entry}
 use Rattle.nfs_machine.specs.Shown.{with_content, with_object}
-use Rattle.nfs_machine.specs.State.{Content, Regular, Directory, Link, BlockDevice, CharacterDevice, Socket, Fifo, Entry, Living, State}
+use Rattle.nfs_machine.specs.State.{Content, Regular, Directory, Link, BlockDevice, CharacterDevice, Socket, Fifo}
+use Rattle.nfs_machine.specs.State.{Entry, Living, State}
 use Rattle.nfs_machine.specs.WellFormed.{IsParent, WellFormed}
 use Rattle.nfs_machine.specs.declared.context.Ctx.{Ctx}
 use Rattle.nfs_objects.proofs.UsageSumLemmas.{AllFit, counted-sums, stays-counted}
@@ -30,7 +35,8 @@ use Rattle.nfs_inodes.proofs.UsageChangeLemmas.{NamesSound, names-sound, sound-c
 use Rattle.nfs_inodes.specs.Known.{IsKnown, content_at, object_at}
 use Rattle.nfs_inodes.specs.Sets.{attributes_changed, with_settings}
 use Rattle.nfs_inodes.specs.declared.setting.Settings.{Settings}
-use Rattle.nfs_inodes.specs.Makes.{IsFree, bytes_changed, changed_at, changed_with, first_links, first_parent, links_with, made_under, name_added, with_bytes}
+use Rattle.nfs_inodes.specs.Makes.{IsFree, bytes_changed, changed_at, changed_with, first_links, first_parent}
+use Rattle.nfs_inodes.specs.Makes.{links_with, made_under, name_added, with_bytes}
 use Rattle.nfs_inodes.specs.declared.found.Known.{Known}
 
 -- ---- where an object was put
@@ -54,7 +60,8 @@ replaced-usage k n o new links parent lives export used =
     ∙ ap (λ u. in_export o.export (one_using u) e) used ∙ ap (λ p. shares_of p e) (sym lives))
 
 -- ---- one object stands in the place of another that names nothing else
-module _ (k : Kept) (n : ℕ) (o new : Living) (lives : get k.state.objects n ≡ Some o) (keeps : KeepsNames o new) (sound : Sound k) where
+module _ (k : Kept) (n : ℕ) (o new : Living) (lives : get k.state.objects n ≡ Some o) (keeps : KeepsNames o new)
+    (sound : Sound k) where
   abbrev m1 : State
   m1 = with_object k.state n new
 
@@ -67,23 +74,29 @@ module _ (k : Kept) (n : ℕ) (o new : Living) (lives : get k.state.objects n �
   links-here : k.links n ≡ links_of k.state n new.content
   links-here =
       sound.links n o lives
-      ∙ elim (is_directory o.content) as (λ b. is_directory o.content ≡ b → links_of k.state n o.content ≡ links_of k.state n new.content) [
+      ∙ elim (is_directory o.content) as (λ b. is_directory o.content ≡ b
+      → links_of k.state n o.content ≡ links_of k.state n new.content) [
         | true ↦ λ e. ap (links_of k.state n) (sym (keeps.content e))
         | false ↦ λ e. links-names k.state n o.content e ∙ sym (links-names k.state n new.content (keeps.kind ∙ e))
       ] refl
 
   -- what is kept at each number, where this is kept at one
-  at-each : (kept : ℕ → ℕ) (P : ℕ → Living → ℕ → Type 0) → P n new (kept n) → ((q : ℕ) (p : Living) → get k.state.objects q ≡ Some p → P q p (kept q))
+  at-each : (kept : ℕ → ℕ) (P : ℕ → Living → ℕ → Type 0) → P n new (kept n)
+      → ((q : ℕ) (p : Living) → get k.state.objects q ≡ Some p → P q p (kept q))
       → (q : ℕ) (p : Living) → get m1.objects q ≡ Some p → P q p (set_at kept n (kept n) q)
   at-each kept P here there q p at =
-      elim (n == q) as (λ b. (n == q) ≡ b → cond b (Some new) (get k.state.objects q) ≡ Some p → P q p (cond b (kept n) (kept q))) [
-        | true ↦ λ same is. subst (λ j. P j p (kept n)) ((unsigned_Decides n q).0 same) (subst (λ x. P n x (kept n)) (let e : new ≡ p = cc in e) here)
+      elim (n == q) as (λ b. (n == q) ≡ b → cond b (Some new) (get k.state.objects q) ≡ Some p
+      → P q p (cond b (kept n) (kept q))) [
+        | true ↦ λ same is. subst (λ j. P j p (kept n)) ((unsigned_Decides n q).0 same)
+            (subst (λ x. P n x (kept n)) (let e : new ≡ p = cc in e) here)
         | false ↦ λ other is. there q p is
-      ] refl (ap (λ b. cond b (Some new) (get k.state.objects q)) (nat_eq_equiv.symm n q) ∙ sym (get-inserted k.state.objects n new q) ∙ at)
+      ] refl (ap (λ b. cond b (Some new) (get k.state.objects q)) (nat_eq_equiv.symm n q)
+      ∙ sym (get-inserted k.state.objects n new q) ∙ at)
 
   pub replaced-names-sound : NamesSound (with_living k n new (k.links n) (k.parents n))
   replaced-names-sound = record {
-    links = at-each k.links (λ q p l. l ≡ links_of m1 q p.content) (links-here ∙ sym (links n new.content)) (λ q p at. sound.links q p at ∙ sym (links q p.content));
+    links = at-each k.links (λ q p l. l ≡ links_of m1 q p.content) (links-here ∙ sym (links n new.content))
+        (λ q p at. sound.links q p at ∙ sym (links q p.content));
     parents = at-each k.parents (λ q p l. is_directory p.content ≡ true → IsParent m1 q l)
         (λ is. parent-alike k.state m1 alike refl n (k.parents n) (sound.parents n o lives (sym keeps.kind ∙ is)))
         (λ q p at is. parent-alike k.state m1 alike refl q (k.parents q) (sound.parents q p at is));
@@ -107,7 +120,8 @@ module _ (k : Kept) (n count : ℕ) (change : Living → Option Living) where
   abbrev into : Option Living → Kept
   into p = elim p [ None ↦ k | Some p ↦ with_living k n p count (k.parents n) ]
 
-  pub changed-is : (o p : Living) → get k.state.objects n ≡ Some o → change o ≡ Some p → changed_with k n count change ≡ with_living k n p count (k.parents n)
+  pub changed-is : (o p : Living) → get k.state.objects n ≡ Some o → change o ≡ Some p
+      → changed_with k n count change ≡ with_living k n p count (k.parents n)
   changed-is o p lives is = ap over lives ∙ ap into is
 
 module _ (k : Kept) (n : ℕ) (change : Living → Option Living) where
@@ -160,7 +174,9 @@ attributes-sound k n set sound =
 bytes-keep : (now : Time) (change : List ℕ → List ℕ) (o p : Living) → with_bytes now change o ≡ Some p → KeepsNames o p
 bytes-keep now change o p is = by (bytes_in o.content) refl is
   where
-    by : (r : Result (List ℕ) NfsStatus) → bytes_in o.content ≡ r → elim r [ Ok bytes ↦ Some (with_content o now (Regular (change bytes))) | Err e ↦ None ] ≡ Some p → KeepsNames o p
+    by : (r : Result (List ℕ) NfsStatus) → bytes_in o.content ≡ r
+        → elim r [ Ok bytes ↦ Some (with_content o now (Regular (change bytes))) | Err e ↦ None ] ≡ Some p
+        → KeepsNames o p
     by (Err e) regular made = cc
     by (Ok bytes) regular made =
         let none : is_directory o.content ≡ false = is-regular o.content bytes regular in
@@ -175,7 +191,8 @@ pub bytes-sound : (k : Kept) (n : ℕ) (now : Time) (change : List ℕ → List 
     → AllFit (bytes_changed now n change k).state → Sound (bytes_changed now n change k)
 bytes-sound k n now change sound fit = changed-counted k n (with_bytes now change) (bytes-keep now change) sound fit
 
-pub bytes-is : (k : Kept) (x : Known) (now : Time) (change : List ℕ → List ℕ) (bytes : List ℕ) → IsKnown k.state x → bytes_in (content_at k.state x.number) ≡ Ok bytes
+pub bytes-is : (k : Kept) (x : Known) (now : Time) (change : List ℕ → List ℕ) (bytes : List ℕ) → IsKnown k.state x
+    → bytes_in (content_at k.state x.number) ≡ Ok bytes
     → bytes_changed now x.number change k ≡ counted_anew x.number (get k.state.objects x.number)
     (with_living k x.number (with_content (object_at k.state x) now (Regular (change bytes))) (k.links x.number)
     (k.parents x.number))
@@ -207,13 +224,15 @@ fresh-of m r is = record {
   generation_fits = is.generation_fits;
   free = is.free;
   never_given = is.never_given;
-  given = last_true (m.spent r.number r.generation) (r.number == r.number) (nat_le r.generation r.generation) ((unsigned_Decides r.number r.number).1 refl)
+  given = last_true (m.spent r.number r.generation) (r.number == r.number) (nat_le r.generation r.generation)
+      ((unsigned_Decides r.number r.number).1 refl)
       (le-leb r.generation r.generation (omega arith));
   kept = λ n g spent. ap (λ b. b || ((n == r.number) && nat_le g r.generation)) spent;
 }
 
 -- a directory that comes brings one link, where its parent may have one more
-more-links : (links : ℕ) (content : Content) (was : ℕ) → links ≡ was → (is_directory content ≡ true → links < link_limit)
+more-links : (links : ℕ) (content : Content) (was : ℕ) → links ≡ was
+    → (is_directory content ≡ true → links < link_limit)
     → links_with links content ≡ was + cond (is_directory content) 1 0
 more-links links content was same room = by (is_directory content) refl
   where
@@ -222,8 +241,10 @@ more-links links content was same room = by (is_directory content) refl
     by false is = omega (arith, same)
 
 -- what was checked of its kind
-pub room-of : (ctx : Ctx) (links : ℕ) (content : Content) → kind_checked ctx links content ≡ Ok tt → is_directory content ≡ true → links < link_limit
-room-of ctx links (Directory entries last) checked is = ltb-true links link_limit (facts.holds (nat_lt links link_limit) status.TooManyLinks tt checked)
+pub room-of : (ctx : Ctx) (links : ℕ) (content : Content) → kind_checked ctx links content ≡ Ok tt
+    → is_directory content ≡ true → links < link_limit
+room-of ctx links (Directory entries last) checked is = ltb-true links link_limit
+    (facts.holds (nat_lt links link_limit) status.TooManyLinks tt checked)
 room-of ctx links (Regular bytes) checked is = cc
 room-of ctx links (Link text) checked is = cc
 room-of ctx links (BlockDevice device) checked is = cc
@@ -231,8 +252,10 @@ room-of ctx links (CharacterDevice device) checked is = cc
 room-of ctx links Socket checked is = cc
 room-of ctx links Fifo checked is = cc
 
-module _ (k : Kept) (x : Known) (is : IsKnown k.state x) (now : Time) (name : List ℕ) (r : Reserved) (o : Living) (entries : List Entry) (last : ℕ)
-    (listed : entries_in (content_at k.state x.number) ≡ Ok (record { list = entries; last_cookie = last })) (absent : entry_of entries name ≡ None) where
+module _ (k : Kept) (x : Known) (is : IsKnown k.state x) (now : Time) (name : List ℕ) (r : Reserved) (o : Living)
+    (entries : List Entry) (last : ℕ)
+    (listed : entries_in (content_at k.state x.number) ≡ Ok (record { list = entries; last_cookie = last }))
+    (absent : entry_of entries name ≡ None) where
   abbrev wider : Living
   wider = with_content (object_at k.state x) now (with_entry entries last name r.number)
 
@@ -248,7 +271,11 @@ module _ (k : Kept) (x : Known) (is : IsKnown k.state x) (now : Time) (name : Li
   added-is : name_added now x.number links_then entry k ≡ widened
   added-is = changed-is k x.number links_then _ (object_at k.state x) wider is.lives
       (ap (λ (q : Result DirectoryEntries NfsStatus). elim q [
-        | Ok es ↦ elim (entry_of es.list name) [ None ↦ Some (with_content (object_at k.state x) now (Directory (es.list ++ entry ∷ []) (last + 1))) | Some there ↦ None ]
+        | Ok es ↦ elim (entry_of es.list name) [
+          | None ↦ Some (with_content (object_at k.state x) now (Directory (es.list ++ entry ∷ []) (last + 1)))
+          | Some
+              there ↦ None
+        ]
         | Err e ↦ None
       ]) listed
       ∙ ap (λ (f : Option Entry). elim f [ None ↦ Some wider | Some there ↦ None ]) absent)
@@ -260,8 +287,10 @@ module _ (k : Kept) (x : Known) (is : IsKnown k.state x) (now : Time) (name : Li
   made-is = ap (λ (q : Kept). counted_anew r.number None
       (with_new q r.number o (first_links o.content) (first_parent x.number o.content))) added-is
 
-  module _ (free : IsFree k.state r) (export : o.export ≡ x.export) (generation : o.generation ≡ r.generation) (empty : entries_of o.content ≡ [])
-      (cookies : (last : ℕ) → o.content ≡ Directory [] last → 2 ≤ last) (room : is_directory o.content ≡ true → x.attributes.links < link_limit) where
+  module _ (free : IsFree k.state r) (export : o.export ≡ x.export) (generation : o.generation ≡ r.generation)
+      (empty : entries_of o.content ≡ [])
+      (cookies : (last : ℕ) → o.content ≡ Directory [] last → 2 ≤ last) (room : is_directory o.content ≡ true
+      → x.attributes.links < link_limit) where
     makes : MakesEntry k.state made.state x.number r.number (object_at k.state x) wider o name
     makes = record {
       entries = entries;
@@ -288,23 +317,33 @@ module _ (k : Kept) (x : Known) (is : IsKnown k.state x) (now : Time) (name : Li
       m2 = made.state
 
       -- what lives after it is the new object, the wider directory, or lived before
-      at-each-made : (kept : ℕ → ℕ) (there new : ℕ) (P : ℕ → Living → ℕ → Type 0) → P r.number o new → P x.number wider there
+      at-each-made : (kept : ℕ → ℕ) (there new : ℕ) (P : ℕ → Living → ℕ → Type 0) → P r.number o new
+          → P x.number wider there
           → ((q : ℕ) (p : Living) → get k.state.objects q ≡ Some p → P q p (kept q))
-          → (q : ℕ) (p : Living) → get m2.objects q ≡ Some p → P q p (set_at (set_at kept x.number there) r.number new q)
+          → (q : ℕ) (p : Living) → get m2.objects q ≡ Some p
+          → P q p (set_at (set_at kept x.number there) r.number new q)
       at-each-made kept there new P here place other q p at =
-          elim (r.number == q) as (λ b. (r.number == q) ≡ b → cond b (Some o) (get (insert k.state.objects x.number wider) q) ≡ Some p → P q p (cond b new (set_at kept x.number there q))) [
-            | true ↦ λ same found. subst (λ j. P j p new) ((unsigned_Decides r.number q).0 same) (subst (λ y. P r.number y new) (let e : o ≡ p = cc in e) here)
-            | false ↦ λ apart found. elim (x.number == q) as (λ b. (x.number == q) ≡ b → cond b (Some wider) (get k.state.objects q) ≡ Some p → P q p (cond b there (kept q))) [
-              | true ↦ λ same now. subst (λ j. P j p there) ((unsigned_Decides x.number q).0 same) (subst (λ y. P x.number y there) (let e : wider ≡ p = cc in e) place)
-              | false ↦ λ apart now. other q p now
-            ] refl (ap (λ b. cond b (Some wider) (get k.state.objects q)) (nat_eq_equiv.symm x.number q) ∙ sym (get-inserted k.state.objects x.number wider q) ∙ found)
-          ] refl (ap (λ b. cond b (Some o) (get (insert k.state.objects x.number wider) q)) (nat_eq_equiv.symm r.number q)
+          elim (r.number == q) as (λ b. (r.number == q) ≡ b
+          → cond b (Some o) (get (insert k.state.objects x.number wider) q) ≡ Some p
+          → P q p (cond b new (set_at kept x.number there q))) [
+            | true ↦ λ same found. subst (λ j. P j p new) ((unsigned_Decides r.number q).0 same)
+                (subst (λ y. P r.number y new) (let e : o ≡ p = cc in e) here)
+            | false ↦ λ apart found. elim (x.number == q) as (λ b. (x.number == q) ≡ b
+                → cond b (Some wider) (get k.state.objects q) ≡ Some p → P q p (cond b there (kept q))) [
+                  | true ↦ λ same now. subst (λ j. P j p there) ((unsigned_Decides x.number q).0 same)
+                      (subst (λ y. P x.number y there) (let e : wider ≡ p = cc in e) place)
+                  | false ↦ λ apart now. other q p now
+                ] refl (ap (λ b. cond b (Some wider) (get k.state.objects q)) (nat_eq_equiv.symm x.number q)
+                ∙ sym (get-inserted k.state.objects x.number wider q) ∙ found)
+          ] refl (ap (λ b. cond b (Some o) (get (insert k.state.objects x.number wider) q))
+          (nat_eq_equiv.symm r.number q)
           ∙ sym (get-inserted (insert k.state.objects x.number wider) r.number o q) ∙ at)
 
       -- of the directory: one more where the new object is one
       links-of-wider : links_then ≡ links_of m2 x.number wider.content
       links-of-wider =
-          let was : x.attributes.links ≡ links_of k.state x.number (content_at k.state x.number) = ap (λ (a : Attributes). a.links) is.shows in
+          let was : x.attributes.links ≡ links_of k.state x.number (content_at k.state x.number) = ap
+          (λ (a : Attributes). a.links) is.shows in
           more-links x.attributes.links o.content (links_of k.state x.number (content_at k.state x.number)) was room
           ∙ sym (links-wider k.state m2 x.number r.number (object_at k.state x) wider o name makes formed)
 
@@ -312,18 +351,23 @@ module _ (k : Kept) (x : Known) (is : IsKnown k.state x) (now : Time) (name : Li
       links-of-made = sym (links-made k.state m2 x.number r.number (object_at k.state x) wider o name makes formed)
 
       made-links : (q : ℕ) (p : Living) → get m2.objects q ≡ Some p → made.links q ≡ links_of m2 q p.content
-      made-links = at-each-made k.links links_then (first_links o.content) (λ q p l. l ≡ links_of m2 q p.content) links-of-made links-of-wider
-          (λ q p at. sound.links q p at ∙ sym (links-kept k.state m2 x.number r.number (object_at k.state x) wider o name makes formed q p at))
+      made-links = at-each-made k.links links_then (first_links o.content) (λ q p l. l ≡ links_of m2 q p.content)
+          links-of-made links-of-wider
+          (λ q p at. sound.links q p at
+          ∙ sym (links-kept k.state m2 x.number r.number (object_at k.state x) wider o name makes formed q p at))
 
       parent-on : (q parent : ℕ) → IsParent k.state q parent → IsParent m2 q parent
       parent-on = parent-kept k.state m2 x.number r.number (object_at k.state x) wider o name makes formed
 
-      made-parents : (q : ℕ) (p : Living) → get m2.objects q ≡ Some p → is_directory p.content ≡ true → IsParent m2 q (made.parents q)
-      made-parents = at-each-made k.parents (k.parents x.number) (first_parent x.number o.content) (λ q p l. is_directory p.content ≡ true → IsParent m2 q l)
+      made-parents : (q : ℕ) (p : Living) → get m2.objects q ≡ Some p → is_directory p.content ≡ true
+          → IsParent m2 q (made.parents q)
+      made-parents = at-each-made k.parents (k.parents x.number) (first_parent x.number o.content)
+          (λ q p l. is_directory p.content ≡ true → IsParent m2 q l)
           (λ dir. subst (λ b. IsParent m2 r.number (cond b x.number 0)) (sym dir)
           (parent-made k.state m2 x.number r.number (object_at k.state x) wider o name makes formed))
           (λ dir. parent-on x.number (k.parents x.number) (sound.parents x.number (object_at k.state x) is.lives
-          (ap is_directory (facts.is-directory (content_at k.state x.number) (record { list = entries; last_cookie = last }) listed))))
+          (ap is_directory (facts.is-directory (content_at k.state x.number)
+          (record { list = entries; last_cookie = last }) listed))))
           (λ q p at dir. parent-on q (k.parents q) (sound.parents q p at dir))
 
       new-names-sound : NamesSound made

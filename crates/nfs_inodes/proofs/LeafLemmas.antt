@@ -67,7 +67,8 @@ module _ (d : DraftValue) (s : Store) (n : ℕ) (m : EntryMap) (entries : List E
         where
           known : (o : Option (Option Object)) → known_at d (addresses.Part n p.bucket p.part) ≡ o →
               option_map leaf_of (entry_of entries name) ≡ leaf
-          known None unknown = absurd (let e : None ≡ Some leads.0 = ap (option_map part_of) (sym unknown) ∙ leads.1 in cc)
+          known None unknown = absurd (let e : None ≡ Some leads.0 = ap (option_map part_of) (sym unknown)
+              ∙ leads.1 in cc)
           known (Some o) found =
               let shown : part_of o ≡ leads.0 =
               (let e : Some (part_of o) ≡ Some leads.0 = ap (option_map part_of) (sym found) ∙ leads.1 in cc) in

@@ -60,7 +60,8 @@ module _ (d new : DraftValue) (n index : ℕ) (is-index : index ≡ n % bucket_c
       IsInserted old (record { number = n; export = export; file = f }) bucket → IsBucket bucket → Written bucket →
       TurnsWhere (λ k. MayHave k.state (record { number = n; export = export; file = f })) d new (locks_set n f)
   put-turns export f bucket inserted whole is =
-      subst (λ x. TurnsWhere (λ k. MayHave k.state (record { number = n; export = export; file = f })) d x (locks_set n f))
+      subst (λ x. TurnsWhere (λ k. MayHave k.state (record { number = n; export = export; file = f })) d x
+      (locks_set n f))
       (written-there bucket is)
       (set-turns d (record { number = n; export = export; file = f }) old bucket at-index inserted whole)
 
@@ -118,7 +119,8 @@ module _ (d new : DraftValue) (n index : ℕ) (is-index : index ≡ n % bucket_c
   pub file-known : (list : List LivingExport) → Knows d (λ k. k.state.exports ≡ list) → (found : Option LockedValue) →
       file_in old n ≡ found → (f : FileValue) → exported_file list found ≡ f → Knows d (λ k. HasLocks k.state n f)
   file-known list exports found is f has s k possible =
-      subst (HasLocks k.state n) (ap (exported_file list) is ∙ has) (locks-known d n list old exports at-index s k possible)
+      subst (HasLocks k.state n) (ap (exported_file list) is ∙ has) (locks-known d n list old exports at-index s k
+      possible)
 
 -- one file more has this
 pub inserted-more : (old : BucketValue) (files : List LockedValue) (mid : BucketValue) (file : LockedValue)

@@ -41,7 +41,8 @@ module _ (old mid : DraftValue) (f : Kept → Kept) (turns : Turns old mid f) (g
 
     turned-then : (Stops After : Halt → Type 0) → ((halt : Halt) → Stops halt → After halt) → Turned Stops →
         MatchResult r (λ _. Turns old new h) After
-    turned-then Stops After before = elim r as (λ q. MatchResult q (λ _. Turns mid new (g (time_of mid.ctx.moment))) Stops
+    turned-then Stops After before = elim r as
+        (λ q. MatchResult q (λ _. Turns mid new (g (time_of mid.ctx.moment))) Stops
         → MatchResult q (λ _. Turns old new h) After) [
           | Ok x ↦ λ next. turns-as old new (λ k. g (time_of old.ctx.moment) (f k)) h (λ s k fits stands. same k)
               (turned-on new next)

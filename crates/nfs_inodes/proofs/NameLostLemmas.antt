@@ -10,7 +10,8 @@ use Rattle.std.specs.Ordering.{nat_cmp}
 use Rattle.nfs_wire.specs.declared.attributes.Attributes.{Attributes}
 use Rattle.nfs_wire.specs.declared.attributes.Time.{Time}
 use Rattle.nfs_wire.specs.declared.status.NfsStatus.{NfsStatus}
-use Rattle.nfs_machine.proofs.MapChangeLemmas.{apart, differs-insert, differs-other, differs-remove, differs-there, find-all}
+use Rattle.nfs_machine.proofs.MapChangeLemmas.{apart, differs-insert, differs-other, differs-remove, differs-there}
+use Rattle.nfs_machine.proofs.MapChangeLemmas.{find-all}
 use Rattle.nfs_machine.proofs.MapChangeLemmas.{flipped, itself}
 use Rattle.nfs_machine.proofs.ChecksPassedLemmas as facts
 use Rattle.nfs_machine.proofs.LooseLemmas.{Loose, loosened, none_loose}
@@ -171,7 +172,8 @@ module _ (k : Kept) (now : Time) (n : NamedEntry) (named : IsNamedEntry k.state 
     settled = removed n.number (with_living k n.place narrower fewer (k.parents n.place))
 
     settled-sound : AllFit (freed left n.number).state → Sound settled
-    settled-sound fit = freed-sound (with_living k n.place narrower fewer (k.parents n.place)) n.number n.object object-left
+    settled-sound fit = freed-sound (with_living k n.place narrower fewer (k.parents n.place)) n.number n.object
+        object-left
         empty
         (nameless (omega (arith, one-name))) no-root (loose-mid m now n named none_loose l) (but-of fewer less) fit
 

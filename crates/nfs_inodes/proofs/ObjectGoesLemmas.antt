@@ -6,7 +6,8 @@ use Rattle.nfs_objects.specs.Attempt.{StopsCall}
 use Rattle.nfs_objects.specs.Calls.{locks_at}
 use Rattle.nfs_objects.specs.Bits.{has, no_bits}
 use Rattle.nfs_objects.specs.Fits.{Fits}
-use Rattle.nfs_objects.specs.Stands.{HasBlocks, HoldsEntries, IsMapped, IsStored, Kept, Represents, StandEntries, map_of}
+use Rattle.nfs_objects.specs.Stands.{HasBlocks, HoldsEntries, IsMapped, IsStored, Kept, Represents, StandEntries}
+use Rattle.nfs_objects.specs.Stands.{map_of}
 use Rattle.nfs_objects.specs.Store.{Store, with_writes}
 use Rattle.nfs_objects.specs.Unfiled.{KeepsBlocks, Lays}
 use Rattle.nfs_objects.specs.Values.{DraftValue, ViewValue, known_at}

@@ -35,7 +35,8 @@ use Rattle.nfs_objects.specs.Stands.{exports_of, inode_in, lives_in, parent_in}
 use Rattle.nfs_objects.specs.Store.{Store, with_writes}
 use Rattle.nfs_objects.specs.Sums.{exchanged, exchanged_at, group_of, in_export, is_same_usage, moved, no_usage}
 use Rattle.nfs_objects.specs.Sums.{one_using, shares_of}
-use Rattle.nfs_objects.specs.Values.{DraftValue, Seen, ViewValue, is_addr, known_at, seen_at, shown_at, with_written, written_at}
+use Rattle.nfs_objects.specs.Values.{DraftValue, Seen, ViewValue, is_addr, known_at, seen_at, shown_at, with_written}
+use Rattle.nfs_objects.specs.Values.{written_at}
 use Rattle.nfs_objects.specs.declared.address.Addr.{Addr}
 use Rattle.nfs_objects.specs.declared.address.Addr.TheVariants as addresses
 use Rattle.nfs_objects.specs.declared.change.Halt.{Halt}
@@ -66,23 +67,27 @@ use Rattle.nfs_inodes.specs.declared.usage.Share.{Share}
 
 -- the same change, in each store
 pub turns-as : (old new : DraftValue) (f g : Kept → Kept)
-    → ((s : Store) (k : Kept) → Fits old.view s → Represents (with_writes s old.writes) k → f k ≡ g k) → Turns old new f → Turns old new g
+    → ((s : Store) (k : Kept) → Fits old.view s → Represents (with_writes s old.writes) k → f k ≡ g k) → Turns old new f
+    → Turns old new g
 turns-as old new f g same turns = record {
   ctx = turns.ctx;
   view = turns.view;
   modes = turns.modes;
   messages = turns.messages;
-  turns = λ s k fits stands. subst (Represents (with_writes s new.writes)) (same s k fits stands) (turns.turns s k fits stands);
+  turns = λ s k fits stands. subst (Represents (with_writes s new.writes)) (same s k fits stands)
+      (turns.turns s k fits stands);
 }
 
-pub known-inode : (d : DraftValue) (n : ℕ) (i : Inode) → HasInode d n (Some i) → known_at d (addresses.Inode n) ≡ Some (Some (objects.Inode i))
+pub known-inode : (d : DraftValue) (n : ℕ) (i : Inode) → HasInode d n (Some i)
+    → known_at d (addresses.Inode n) ≡ Some (Some (objects.Inode i))
 known-inode d n i has = has.known ∙ ap Some (inode-stands has.exports has.object i (sym has.is)).stands
 
 -- what is of another kind stays
 abbrev read-so : (List ℕ → Option Living) → Result (List ℕ) NfsStatus → Option Living
 read-so f r = elim r [ Ok bytes ↦ f bytes | Err e ↦ None ]
 
-pub no-file : (c : Content) (f : List ℕ → Option Living) → ((map : FileMapValue) → c ≡ contents.Regular map → ⊥) → read-so f (bytes_in (content_of c)) ≡ None
+pub no-file : (c : Content) (f : List ℕ → Option Living) → ((map : FileMapValue) → c ≡ contents.Regular map → ⊥)
+    → read-so f (bytes_in (content_of c)) ≡ None
 no-file (contents.Regular map) f none = absurd (none map refl)
 no-file (contents.Directory directory) f none = refl
 no-file (contents.Link text) f none = refl
@@ -94,7 +99,8 @@ no-file contents.Fifo f none = refl
 abbrev listed-so : (DirectoryEntries → Option Living) → Result (DirectoryEntries) NfsStatus → Option Living
 listed-so f r = elim r [ Ok entries ↦ f entries | Err e ↦ None ]
 
-pub no-directory : (c : Content) (f : DirectoryEntries → Option Living) → ((directory : Directory) → c ≡ contents.Directory directory → ⊥)
+pub no-directory : (c : Content) (f : DirectoryEntries → Option Living)
+    → ((directory : Directory) → c ≡ contents.Directory directory → ⊥)
     → listed-so f (entries_in (content_of c)) ≡ None
 no-directory (contents.Directory directory) f none = absurd (none directory refl)
 no-directory (contents.Regular bytes) f none = refl
@@ -105,10 +111,12 @@ no-directory contents.Socket f none = refl
 no-directory contents.Fifo f none = refl
 
 -- an inode with one link less, made of a copy
-pub unlinked-same : (copy i : Inode) (links : ℕ) (changed now : Time) → copy ≡ i → links ≡ copy.links - 1 → changed ≡ touch copy.changed now
+pub unlinked-same : (copy i : Inode) (links : ℕ) (changed now : Time) → copy ≡ i → links ≡ copy.links - 1
+    → changed ≡ touch copy.changed now
     → record copy { links = links; changed = changed } ≡ record i { links = i.links - 1; changed = touch i.changed now }
 unlinked-same copy i links changed now same linked touched-is =
-    ap (λ l. record copy { links = l; changed = changed }) linked ∙ ap (λ t. record copy { links = copy.links - 1; changed = t }) touched-is
+    ap (λ l. record copy { links = l; changed = changed }) linked
+    ∙ ap (λ t. record copy { links = copy.links - 1; changed = t }) touched-is
     ∙ ap (λ (x : Inode). record x { links = x.links - 1; changed = touch x.changed now }) same
 
 -- what a look-up of a name tells of its entry
@@ -136,7 +144,14 @@ module _ (d : DraftValue) (n : ℕ) where
   -- ---- a change that may leave the object, with a count of links that comes of the one before it
   module _ (change : Living → Option Living) (links : ℕ → ℕ) where
     abbrev over : Kept → Option Living → Kept
-    over k o = elim o [ None ↦ k | Some o ↦ elim (change o) [ None ↦ k | Some p ↦ with_living k n p (links (k.links n)) (k.parents n) ] ]
+    over k o = elim o [
+      | None ↦ k
+      | Some o ↦ elim (change o) [
+        | None ↦ k
+        | Some p ↦ with_living k n p (links (k.links n))
+            (k.parents n)
+      ]
+    ]
 
     abbrev into : Kept → Option Living → Kept
     into k p = elim p [ None ↦ k | Some p ↦ with_living k n p (links (k.links n)) (k.parents n) ]
@@ -145,7 +160,8 @@ module _ (d : DraftValue) (n : ℕ) where
     op k = changed_with k n (links (k.links n)) change
 
     pub none-turns-with : HasInode d n None → Turns d d op
-    none-turns-with has = turns-as d d (λ k. k) op (λ s k fits stands. sym (ap (over k) (lives-there d n None has s k fits stands))) (turns-none d)
+    none-turns-with has = turns-as d d (λ k. k) op
+        (λ s k fits stands. sym (ap (over k) (lives-there d n None has s k fits stands))) (turns-none d)
 
     pub same-turns-with : (i : Inode) → HasInode d n (Some i)
         → ((beside : Beside) → change (living_of_inode beside i) ≡ None) → Turns d d op
@@ -155,13 +171,18 @@ module _ (d : DraftValue) (n : ℕ) where
 
     pub put-turns-with : (i j : Inode) → HasInode d n (Some i)
         → ((beside : Beside) → change (living_of_inode beside i) ≡ Some (living_of_inode beside j))
-        → map_in j.content ≡ map_in i.content → entry_map_in j.content ≡ entry_map_in i.content → j.links ≡ links i.links → parent_in j.content ≡ parent_in i.content
+        → map_in j.content ≡ map_in i.content → entry_map_in j.content ≡ entry_map_in i.content
+        → j.links ≡ links i.links → parent_in j.content ≡ parent_in i.content
         → j.generation ≡ i.generation → j.export ≡ i.export → IsFitting n j → Turns d (put j) op
     put-turns-with i j has is kept listed linked under generation exported fits =
         turns-as d (put j) (λ k. edited k n made links) op
         (λ s k fit stands. (let beside = beside_at k.state n in
         let lives = lives-there d n (Some i) has s k fit stands in
-        ap (λ (o : Option Living). elim o [ None ↦ k | Some o ↦ with_living k n (made o) (links (k.links n)) (k.parents n) ]) lives
+        ap (λ (o : Option Living). elim o [
+          | None ↦ k
+          | Some o ↦ with_living k n (made o) (links (k.links n))
+              (k.parents n)
+        ]) lives
         ∙ ap (λ (o : Living). with_living k n o (links (k.links n)) (k.parents n)) (sym (made-is beside))
         ∙ sym (ap (over k) lives ∙ ap (into k) (is beside))))
         (edit-turns d n i j made links (known-inode d n i has) (shows-export d n i has) exported
@@ -185,17 +206,34 @@ module _ (d : DraftValue) (n : ℕ) where
 
     pub put-turns : (i j : Inode) → HasInode d n (Some i)
         → ((beside : Beside) → change (living_of_inode beside i) ≡ Some (living_of_inode beside j))
-        → map_in j.content ≡ map_in i.content → entry_map_in j.content ≡ entry_map_in i.content → j.links ≡ i.links → parent_in j.content ≡ parent_in i.content
+        → map_in j.content ≡ map_in i.content → entry_map_in j.content ≡ entry_map_in i.content → j.links ≡ i.links
+        → parent_in j.content ≡ parent_in i.content
         → j.generation ≡ i.generation → j.export ≡ i.export → IsFitting n j
         → Turns d (put j) (λ k. changed_at k n change)
     put-turns = put-turns-with change (λ l. l)
 
   -- ---- the attributes of an object
   pub set-turns : (new : DraftValue) (i j : Inode) (set : Settings) → HasInode d n (Some i)
-      → j ≡ record i { mode = set.mode; uid = set.uid; gid = set.gid; accessed = set.accessed; modified = set.modified; changed = set.changed; verifier = None } → new ≡ put j
+      → j ≡ record i {
+        mode = set.mode;
+        uid = set.uid;
+        gid = set.gid;
+        accessed = set.accessed;
+        modified = set.modified;
+        changed = set.changed;
+        verifier = None;
+      } → new ≡ put j
       → IsFitting n j → Turns d new (attributes_changed n set)
   set-turns new i j set has made put-is fits =
-      let j1 : Inode = record i { mode = set.mode; uid = set.uid; gid = set.gid; accessed = set.accessed; modified = set.modified; changed = set.changed; verifier = None } in
+      let j1 : Inode = record i {
+        mode = set.mode;
+        uid = set.uid;
+        gid = set.gid;
+        accessed = set.accessed;
+        modified = set.modified;
+        changed = set.changed;
+        verifier = None;
+      } in
       subst (λ (x : DraftValue). Turns d x (attributes_changed n set)) (sym (put-is ∙ ap put made))
       (put-turns (λ o. Some (with_settings set o)) i j1 has (λ beside. refl) refl refl refl refl refl refl
       (subst (IsFitting n) made fits))
@@ -204,7 +242,12 @@ module _ (d : DraftValue) (n : ℕ) where
   pub unlinked-none : (now : Time) → HasInode d n None → Turns d d (λ k. edited k n (λ o. touched o now) (λ l. l - 1))
   unlinked-none now has =
       turns-as d d (λ k. k) (λ k. edited k n (λ o. touched o now) (λ l. l - 1))
-      (λ s k fits stands. sym (ap (λ (o : Option Living). elim o [ None ↦ k | Some o ↦ with_living k n (touched o now) (k.links n - 1) (k.parents n) ])
+      (λ s k fits stands. sym
+      (ap (λ (o : Option Living). elim o [
+        | None ↦ k
+        | Some o ↦ with_living k n (touched o now) (k.links n - 1)
+            (k.parents n)
+      ])
       (lives-there d n None has s k fits stands)))
       (turns-none d)
 
@@ -212,15 +255,19 @@ module _ (d : DraftValue) (n : ℕ) where
       → j ≡ record i { links = i.links - 1; changed = touch i.changed now } → new ≡ put j → IsFitting n j
       → Turns d new (λ k. edited k n (λ o. touched o now) (λ l. l - 1))
   unlinked-turns new i j now has made put-is fits =
-      subst (λ (x : DraftValue). Turns d x (λ k. edited k n (λ o. touched o now) (λ l. l - 1))) (sym (put-is ∙ ap put made))
+      subst (λ (x : DraftValue). Turns d x (λ k. edited k n (λ o. touched o now) (λ l. l - 1)))
+      (sym (put-is ∙ ap put made))
       (edit-turns d n i (record i { links = i.links - 1; changed = touch i.changed now }) (λ o. touched o now)
       (λ l. l - 1) (known-inode d n i has) (shows-export d n i has) refl (λ beside. refl) refl refl refl refl refl
       (subst (IsFitting n) made fits))
 
   -- what was known stays known
-  pub knows-on : (new : DraftValue) (o : Option Object) → new ≡ with_written d (addresses.Inode n) o → (a : Addr) → IsSome (known_at d a) → IsSome (known_at new a)
+  pub knows-on : (new : DraftValue) (o : Option Object) → new ≡ with_written d (addresses.Inode n) o → (a : Addr)
+      → IsSome (known_at d a) → IsSome (known_at new a)
   knows-on new o is a some =
-      subst (λ (x : DraftValue). IsSome (known_at x a)) (sym is) (subst (λ x. IsSome x) (sym (written-append d.writes _ (addresses.Inode n) o a)) (by (is_addr (addresses.Inode n) a)))
+      subst (λ (x : DraftValue). IsSome (known_at x a)) (sym is)
+      (subst (λ x. IsSome x) (sym (written-append d.writes _ (addresses.Inode n) o a))
+      (by (is_addr (addresses.Inode n) a)))
     where
       by : (b : Bool) → IsSome (cond b (Some o) (known_at d a))
       by true = refl
@@ -231,13 +278,16 @@ all_first : {X : Type 0} (P : X → Type 0) (xs : List X) (x : X) → AllByRecur
 all_first P [] x all first = cc
 all_first P (y ∷ ys) x all first = subst P (let same : y ≡ x = cc in same) all.0
 
-pub first-free : (d : DraftValue) (r : Reserved) → d.writes ≡ [] → IsFirst d r → r.number < 2 ^ 64 → r.generation < 2 ^ 64 → Knows d (λ k. IsFree k.state r)
+pub first-free : (d : DraftValue) (r : Reserved) → d.writes ≡ [] → IsFirst d r → r.number < 2 ^ 64
+    → r.generation < 2 ^ 64 → Knows d (λ k. IsFree k.state r)
 first-free d r none first number generation s k w =
     let stands : Represents s k = subst (λ ws. Represents (with_writes s ws) k) none w.stands in
     let is : (seen_at d.view.entries (addresses.Inode r.number) ≡ Some (vacant r)) × (s.last r.number < r.generation) =
-    all_first (λ (q : Reserved). (seen_at d.view.entries (addresses.Inode q.number) ≡ Some (vacant q)) × (s.last q.number < q.generation)) d.view.reserved r w.fits.reserved first.first in
+    all_first (λ (q : Reserved). (seen_at d.view.entries (addresses.Inode q.number) ≡ Some (vacant q))
+    × (s.last q.number < q.generation)) d.view.reserved r w.fits.reserved first.first in
     let at : s.at (addresses.Inode r.number) ≡ None =
-    shown-stands d.view.entries s.at (addresses.Inode r.number) None w.fits.entries (ap (option_map (λ (e : Seen). e.object)) is.0) in
+    shown-stands d.view.entries s.at (addresses.Inode r.number) None w.fits.entries
+    (ap (option_map (λ (e : Seen). e.object)) is.0) in
     record {
       number_fits = number;
       generation_fits = generation;
@@ -274,7 +324,8 @@ first-vacant d r none first s fits =
     ∙ ap (option_map (λ (e : Seen). e.object)) is.0
 
 -- where a draft shows a kind something stands
-not-vacant : (d : DraftValue) (n : ℕ) (kind : FileType) → kind_at d n ≡ Some kind → known_at d (addresses.Inode n) ≡ Some None →
+not-vacant : (d : DraftValue) (n : ℕ) (kind : FileType) → kind_at d n ≡ Some kind
+    → known_at d (addresses.Inode n) ≡ Some None →
     ⊥
 not-vacant d n kind shown vacant = by (known_at d addresses.Exports) refl
   where
@@ -285,12 +336,14 @@ not-vacant d n kind shown vacant = by (known_at d addresses.Exports) refl
     ]
 
     by : (e : Option (Option Object)) → known_at d addresses.Exports ≡ e → ⊥
-    by None is = (let no : None ≡ Some kind = sym (ap (λ x. option_map kind_of (at x (known_at d (addresses.Inode n)))) is) ∙ shown in cc)
+    by None is = (let no : None ≡ Some kind = sym (ap (λ x. option_map kind_of (at x (known_at d (addresses.Inode n))))
+        is) ∙ shown in cc)
     by (Some exports) is = (let no : None ≡ Some kind =
         sym ((λ j. option_map kind_of (at (is j) (vacant j)))) ∙ shown in cc)
 
 -- it stays so while another number is written, of which the draft shows a kind, and the usage of a group
-pub stays-vacant : (old mid late : DraftValue) (r : Reserved) (n : ℕ) (kind : FileType) → old.writes ≡ [] → IsFirst old r →
+pub stays-vacant : (old mid late : DraftValue) (r : Reserved) (n : ℕ) (kind : FileType) → old.writes ≡ []
+    → IsFirst old r →
     kind_at old n ≡ Some kind → KeepsOthers old mid n → KeepsInodes mid late → late.view ≡ old.view → (s : Store) →
     Fits old.view s → (with_writes s late.writes).at (addresses.Inode r.number) ≡ None
 stays-vacant old mid late r n kind none first shown others keeps same s fits =
@@ -326,7 +379,8 @@ put-new-turns old mid new f r i o links parent turns stay live is vacant none ba
       turns = λ s k fit stands.
           subst (λ (x : Store). Represents x (with_new (f k) r.number (living_alone i) i.links (parent_in i.content)))
           (sym (writes-append mid.writes s (addresses.Inode r.number) (Some (objects.Inode i))))
-          (new-stands (with_writes s mid.writes) (f k) r.number i (turns.turns s k fit stands) (vacant s fit) none bare fits
+          (new-stands (with_writes s mid.writes) (f k) r.number i (turns.turns s k fit stands) (vacant s fit) none
+          bare fits
           (ap (λ es. lives_in es i.export) (stay k)
           ∙ subst (ShowsExport old) (sym (ap (λ (l : Living). l.export) lives)) live s k fit stands));
     }))))
@@ -459,7 +513,8 @@ module _ (d : DraftValue) (n : ℕ) (change : Living → Option Living) where
   none-counted has = same-counts d n (λ k. changed_at k n change) (none-turns d n change has)
       (λ s k stand represents. ap (over d n change (λ l. l) k) (lives-there d n None has s k stand represents))
 
-  pub same-counted : (i : Inode) → HasInode d n (Some i) → ((beside : Beside) → change (living_of_inode beside i) ≡ None)
+  pub same-counted : (i : Inode) → HasInode d n (Some i)
+      → ((beside : Beside) → change (living_of_inode beside i) ≡ None)
       → Turns d d (λ k. counted_anew n (get k.state.objects n) (changed_at k n change))
   same-counted i has is = same-counts d n (λ k. changed_at k n change) (same-turns d n change i has is)
       (λ s k stand represents. ap (over d n change (λ l. l) k) (lives-there d n (Some i) has s k stand represents)
@@ -567,10 +622,16 @@ made-turns old mid late new f r i o links parent export after turns stay live co
     (λ e. ap (λ x. in_export x after e) exported ∙ ap (λ u. in_export o.export u e) uses
     ∙ ap (λ p. shares_of p e) (sym (put-there (f k).state r.number o)))))
     (put-new-turns old late new (λ k. counted r.number export no_usage after (f k)) r i o links parent
-    (turns-both old mid late f (counted r.number export no_usage after) turns counts) stay live is vacant none bare lives
+    (turns-both old mid late f (counted r.number export no_usage after) turns counts) stay live is vacant none
+    bare lives
     linked under fits)
 
 -- the number may be given, as it might before
-pub may-give : (old new : DraftValue) (r : Reserved) (generation : ℕ) → new.view ≡ old.view → IsFirst old r → generation ≡ r.generation → MayGive new r.number generation
+pub may-give : (old new : DraftValue) (r : Reserved) (generation : ℕ) → new.view ≡ old.view → IsFirst old r
+    → generation ≡ r.generation → MayGive new r.number generation
 may-give old new r generation same first is =
-    inr (0, ap (λ (v : ViewValue). slice_get v.reserved 0) same ∙ first.first ∙ ap (λ g. Some (record { number = r.number; generation = g })) (sym is))
+    inr (
+      0,
+      ap (λ (v : ViewValue). slice_get v.reserved 0) same ∙ first.first
+          ∙ ap (λ g. Some (record { number = r.number; generation = g })) (sym is),
+    )

@@ -1,5 +1,6 @@
 -- How readers halt, as their callers see it.
-use Rattle.std.proofs.Common.{◌≡◌, ℕ, List, [], ◌∷◌, Option, Some, None, Result, Err, IsSome, inl, inr, option_map, refl, sym, ◌∙◌, ap, subst}
+use Rattle.std.proofs.Common.{◌≡◌, ℕ, List, [], ◌∷◌, Option, Some, None, Result, Err, IsSome, inl, inr, option_map}
+use Rattle.std.proofs.Common.{refl, sym, ◌∙◌, ap, subst}
 use Rattle.std.proofs.Common.{Ok, ◌⊎◌, ◌++◌}
 use Rattle.std.specs.Prelude.{IfErr, MatchResult}
 use Rattle.nfs_machine.specs.Handles.{handle_of}
@@ -37,7 +38,8 @@ module _ (d : DraftValue) (a : Addr) where
   wanted s = elim s [ None ↦ Some a | Some x ↦ None ]
 
   pub known-shown : d.writes ≡ [] → IsSome (known_at d a) → unless_seen d.view a ≡ None
-  known-shown none some = by (seen_at d.view.entries a) (subst (λ ws. IsSome (written_at (shown_at d.view.entries a) ws a)) none some)
+  known-shown none some = by (seen_at d.view.entries a)
+      (subst (λ ws. IsSome (written_at (shown_at d.view.entries a) ws a)) none some)
     where
       by : (s : Option Seen) → IsSome (option_map (λ (e : Seen). e.object) s) → wanted s ≡ None
       by None e = cc
@@ -46,13 +48,17 @@ module _ (d : DraftValue) (a : Addr) where
   pub lacking-unseen : (halt : Halt) → Lacks d a halt → unless_seen d.view a ≡ Some a
   lacking-unseen halt lacks = ap wanted (unknown-unseen d a lacks.unknown)
 
-pub known-first : (A : Type 0) (d : DraftValue) (a : Addr) (o : Option Object) (r : Result A Halt) → d.writes ≡ [] → known_at d a ≡ Some o
+pub known-first : (A : Type 0) (d : DraftValue) (a : Addr) (o : Option Object) (r : Result A Halt) → d.writes ≡ []
+    → known_at d a ≡ Some o
     → HaltsFirst d.modes d.view (unless_seen d.view a) r
 known-first A d a o r none known =
-    subst (λ w. HaltsFirst {A = A} d.modes d.view w r) (sym (known-shown d a none (subst (λ x. IsSome x) (sym known) refl))) tt
+    subst (λ w. HaltsFirst {A = A} d.modes d.view w r)
+    (sym (known-shown d a none (subst (λ x. IsSome x) (sym known) refl))) tt
 
-pub lacking-first-at : (A : Type 0) (d : DraftValue) (a : Addr) (halt : Halt) → Lacks d a halt → HaltsFirst {A = A} d.modes d.view (unless_seen d.view a) (Err halt)
-lacking-first-at A d a halt lacks = subst (λ w. HaltsFirst {A = A} d.modes d.view w (Err halt)) (sym (lacking-unseen d a halt lacks)) lacks.asked
+pub lacking-first-at : (A : Type 0) (d : DraftValue) (a : Addr) (halt : Halt) → Lacks d a halt
+    → HaltsFirst {A = A} d.modes d.view (unless_seen d.view a) (Err halt)
+lacking-first-at A d a halt lacks = subst (λ w. HaltsFirst {A = A} d.modes d.view w (Err halt))
+    (sym (lacking-unseen d a halt lacks)) lacks.asked
 
 module _ (A : Type 0) (d : DraftValue) (bytes : List ℕ) where
   abbrev First : Result A Halt → Type 0
@@ -62,7 +68,8 @@ module _ (A : Type 0) (d : DraftValue) (bytes : List ℕ) where
   past w = elim w [ Some a ↦ Some a | None ↦ object_wanted d.view (bytes ∷ []) ]
 
   pub exports-first : (halt : Halt) → Lacks d addresses.Exports halt → First (Err halt)
-  exports-first halt lacks = subst (λ w. HaltsFirst {A = A} d.modes d.view (past w) (Err halt)) (sym (lacking-unseen d addresses.Exports halt lacks)) lacks.asked
+  exports-first halt lacks = subst (λ w. HaltsFirst {A = A} d.modes d.view (past w) (Err halt))
+      (sym (lacking-unseen d addresses.Exports halt lacks)) lacks.asked
 
   pub exports-once : (halt : Halt) → Lacks d addresses.Exports halt
       → first_wanted_with d.view (bytes ∷ []) ≡ None → ⊥
@@ -72,7 +79,11 @@ module _ (A : Type 0) (d : DraftValue) (bytes : List ℕ) where
 
   module _ (none : d.writes ≡ []) (known : IsSome (known_at d addresses.Exports)) where
     wants : (o : Option Handle) → handle_of bytes ≡ o
-        → first_wanted_with d.view (bytes ∷ []) ≡ elim o [ None ↦ None | Some h ↦ unless_seen d.view (addresses.Inode h.fileid) ]
+        → first_wanted_with d.view (bytes ∷ []) ≡ elim o [
+          | None ↦ None
+          | Some h ↦ unless_seen d.view
+              (addresses.Inode h.fileid)
+        ]
     wants o is =
         ap past (known-shown d addresses.Exports none known)
         ∙ ap (λ (x : Option Handle). elim x [ None ↦ None | Some h ↦ unless_seen d.view (addresses.Inode h.fileid) ]) is
@@ -83,11 +94,13 @@ module _ (A : Type 0) (d : DraftValue) (bytes : List ℕ) where
     module _ (h : Handle) (is : handle_of bytes ≡ Some h) where
       pub object-first : (r : Result A Halt) → IsSome (known_at d (addresses.Inode h.fileid)) → First r
       object-first r some =
-          subst (λ w. HaltsFirst {A = A} d.modes d.view w r) (sym (wants (Some h) is ∙ known-shown d (addresses.Inode h.fileid) none some)) tt
+          subst (λ w. HaltsFirst {A = A} d.modes d.view w r)
+          (sym (wants (Some h) is ∙ known-shown d (addresses.Inode h.fileid) none some)) tt
 
       pub lacking-first : (halt : Halt) → Lacks d (addresses.Inode h.fileid) halt → First (Err halt)
       lacking-first halt lacks =
-          subst (λ w. HaltsFirst {A = A} d.modes d.view w (Err halt)) (sym (wants (Some h) is ∙ lacking-unseen d (addresses.Inode h.fileid) halt lacks)) lacks.asked
+          subst (λ w. HaltsFirst {A = A} d.modes d.view w (Err halt))
+          (sym (wants (Some h) is ∙ lacking-unseen d (addresses.Inode h.fileid) halt lacks)) lacks.asked
 
       pub lacking-once : (halt : Halt) → Lacks d (addresses.Inode h.fileid) halt
           → first_wanted_with d.view (bytes ∷ []) ≡ None → ⊥

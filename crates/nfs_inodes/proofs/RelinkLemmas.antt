@@ -1,5 +1,6 @@
 -- What the makers of names write is their change of what the store stands for.
-use Rattle.std.proofs.Common.{◌≡◌, ◌≤◌, ℕ, true, false, cond, List, [], ◌∷◌, ◌++◌, Option, Some, None, Result, Ok, Err, option_map, inl}
+use Rattle.std.proofs.Common.{◌≡◌, ◌≤◌, ℕ, true, false, cond, List, [], ◌∷◌, ◌++◌, Option, Some, None, Result, Ok, Err}
+use Rattle.std.proofs.Common.{option_map, inl}
 use Rattle.std.proofs.Common.{IsSome, refl, sym, ◌∙◌, ap, subst}
 use Rattle.std.specs.Prelude.{IfOk, MatchResult, OnOk, is_some}
 use Rattle.std.specs.FinMap.{get}
@@ -20,7 +21,8 @@ use Rattle.nfs_objects.specs.Edits.{with_living}
 use Rattle.nfs_objects.specs.Entries.{leaf_of}
 use Rattle.nfs_objects.specs.Fits.{Fits}
 use Rattle.nfs_objects.specs.Knows.{Turns}
-use Rattle.nfs_objects.specs.Stands.{Beside, IsFitting, Kept, Represents, beside_at, content_of, entries_at, entry_map_in}
+use Rattle.nfs_objects.specs.Stands.{Beside, IsFitting, Kept, Represents, beside_at, content_of, entries_at}
+use Rattle.nfs_objects.specs.Stands.{entry_map_in}
 use Rattle.nfs_objects.specs.Stands.{filled, lives_in, living_alone, living_of_inode, map_in, parent_in}
 use Rattle.nfs_objects.specs.Store.{Store, with_write, with_writes}
 use Rattle.nfs_objects.specs.Unfiled.{Relists}
@@ -77,12 +79,14 @@ module _ (d : DraftValue) (n : ℕ) (i : Inode) (h : Directory) (has : HasDirect
       (entries-there d n i h.entries has.inode (ap entry_map_in has.content) s k fits stands) name leaf shows
 
   -- where it leads somewhere its entry is there, and else it is not
-  pub leaf-there : true ≡ is_some leaf → (s : Store) (k : Kept) → Fits d.view s → Represents (with_writes s d.writes) k →
+  pub leaf-there : true ≡ is_some leaf → (s : Store) (k : Kept) → Fits d.view s
+      → Represents (with_writes s d.writes) k →
       (there : Entry) × (entry_of (entries_at k.state n) name ≡ Some there)
   leaf-there some s k fits stands =
       entry-found (entry_of (entries_at k.state n) name) (some ∙ ap is_some (sym (leaf-is s k fits stands)))
 
-  pub leaf-absent : false ≡ is_some leaf → (s : Store) (k : Kept) → Fits d.view s → Represents (with_writes s d.writes) k →
+  pub leaf-absent : false ≡ is_some leaf → (s : Store) (k : Kept) → Fits d.view s
+      → Represents (with_writes s d.writes) k →
       entry_of (entries_at k.state n) name ≡ None
   leaf-absent none s k fits stands =
       no-entry (entry_of (entries_at k.state n) name) (none ∙ ap is_some (sym (leaf-is s k fits stands)))
@@ -106,7 +110,13 @@ pub relisted-copy : (i copy j : Inode) (h other : Directory) (content : Content)
     j ≡ relisted i h now links last after
 relisted-copy i copy j h other content at now links last after same header when is made =
     made
-    ∙ ap (λ c. record copy { content = c; links = links; modified = touch copy.changed at; changed = touch copy.changed at })
+    ∙ ap (λ c. record copy {
+      content = c;
+      links = links;
+      modified = touch copy.changed at;
+      changed = touch
+          copy.changed at;
+    })
     is
     ∙ (λ p. relisted (same p) (header p) (when p) links last after)
 
@@ -134,7 +144,8 @@ module _ (d laid new : DraftValue) (n : ℕ) (i j : Inode) (h : Directory) (has 
   left-turns name made relists =
       as-listed h.last_cookie (λ es. without es name) always made relists (without_name now name) (λ l. links)
       (λ s k fit stands. tt)
-      (λ beside asked. ap (λ c. without_name now name (record (living_alone i) { content = filled beside (content_of c) }))
+      (λ beside asked. ap (λ c. without_name now name
+      (record (living_alone i) { content = filled beside (content_of c) }))
       has.content) refl
 
   -- and the links stay
@@ -143,7 +154,8 @@ module _ (d laid new : DraftValue) (n : ℕ) (i j : Inode) (h : Directory) (has 
   taken-turns name made same relists =
       as-listed h.last_cookie (λ es. without es name) always made relists (without_name now name) (λ l. l)
       (λ s k fit stands. tt)
-      (λ beside asked. ap (λ c. without_name now name (record (living_alone i) { content = filled beside (content_of c) }))
+      (λ beside asked. ap (λ c. without_name now name
+      (record (living_alone i) { content = filled beside (content_of c) }))
       has.content) same
 
   -- a name that leads to another object, last
@@ -162,11 +174,14 @@ module _ (d laid new : DraftValue) (n : ℕ) (i j : Inode) (h : Directory) (has 
       ((s : Store) (k : Kept) → Fits d.view s → Represents (with_writes s d.writes) k →
       entry_of (entries_at k.state n) e.name ≡ None) → Turns d new (name_added now n links e)
   added-turns e made relists absent =
-      as-listed e.cookie (λ es. es ++ e ∷ []) (λ es. entry_of es e.name ≡ None) made relists (with_name now e) (λ l. links)
+      as-listed e.cookie (λ es. es ++ e ∷ []) (λ es. entry_of es e.name ≡ None) made relists (with_name now e)
+      (λ l. links)
       absent
-      (λ beside none. ap (λ c. with_name now e (record (living_alone i) { content = filled beside (content_of c) })) has.content
+      (λ beside none. ap (λ c. with_name now e (record (living_alone i) { content = filled beside (content_of c) }))
+      has.content
       ∙ ap (λ o. elim o [
-        | None ↦ Some (with_content (living_of_inode beside i) now (machine.Directory (beside.entries ++ e ∷ []) e.cookie))
+        | None ↦ Some (with_content (living_of_inode beside i) now (machine.Directory (beside.entries ++ e ∷ [])
+            e.cookie))
         | Some there ↦ None
       ]) none) refl
 
@@ -191,7 +206,8 @@ module _ (n : ℕ) (d mid new : DraftValue) (before others : EntryMap) (name lef
   staying-less (Err halt) first second = tt
 
 -- a name is given where it went before, and perhaps another one with it
-pub given-relists : (n : ℕ) (d mid laid : DraftValue) (before others after : EntryMap) (left : Option (List ℕ)) (e : Entry)
+pub given-relists : (n : ℕ) (d mid laid : DraftValue) (before others after : EntryMap) (left : Option (List ℕ))
+    (e : Entry)
     → Relists n d mid before others (λ es. staying es e.name left) always
     → Relists n mid laid others after (λ es. es ++ e ∷ []) (λ es. entry_of es e.name ≡ None)
     → Relists n d laid before after (λ es. staying es e.name left ++ e ∷ []) always
@@ -213,9 +229,11 @@ kept-turns d n i h now links e has there =
     let beside = beside_at k.state n in
     sym (ap (λ (o : Option Living). elim o [ None ↦ k | Some o ↦ into k (with_name now e o) ])
     (lives-there d n (Some i) has.inode s k fits stands)
-    ∙ ap (λ c. into k (with_name now e (record (living_alone i) { content = filled beside (content_of c) }))) has.content
+    ∙ ap (λ c. into k (with_name now e (record (living_alone i) { content = filled beside (content_of c) })))
+    has.content
     ∙ ap (λ o. into k (elim o [
-      | None ↦ Some (with_content (living_of_inode beside i) now (machine.Directory (beside.entries ++ e ∷ []) e.cookie))
+      | None ↦ Some (with_content (living_of_inode beside i) now (machine.Directory (beside.entries ++ e ∷ [])
+          e.cookie))
       | Some there ↦ None
     ])) (there s k fits stands).1)) (turns-none d)
   where
@@ -266,7 +284,8 @@ module _ (d : DraftValue) (n : ℕ) where
           (subst (λ g. g ≤ (with_writes s d.writes).last n) (sym generation) (stands.objects.given n i at)) fit
           (ap (lives_in k.state.exports) exported ∙ shows-export d n i has s k fits stands)
           (keeps-same (with_writes s d.writes) n i j at exported (λ some. subst (λ o. IsSome o) (sym kept) some)) in
-          let same : rehomed now n directory k ≡ with_living k n (living_of_inode beside j) j.links (parent_in j.content) =
+          let same : rehomed now n directory k ≡ with_living k n (living_of_inode beside j) j.links
+          (parent_in j.content) =
           ap (homes k) lives
           ∙ ap (λ l. with_living k n (touched (living_of_inode beside i) now) l
           (cond (is_directory (filled beside (content_of i.content))) directory (k.parents n))) (links ∙ sym linked)
@@ -284,7 +303,8 @@ module _ (d : DraftValue) (n : ℕ) where
 
     pub rehomed-turns : (new : DraftValue) (i copy : Inode) (content : Content) (changed : Time) →
         HasInode d n (Some i) → copy ≡ i → changed ≡ touch copy.changed now →
-        content_of content ≡ content_of copy.content → map_in content ≡ map_in copy.content → entry_map_in content ≡ entry_map_in copy.content
+        content_of content ≡ content_of copy.content → map_in content ≡ map_in copy.content
+        → entry_map_in content ≡ entry_map_in copy.content
         → parent_in content ≡ cond (is_directory (content_of copy.content)) directory (parent_in copy.content)
         → new ≡ put (record copy { content = content; changed = changed })
         → IsFitting n (record copy { content = content; changed = changed })

@@ -386,7 +386,8 @@ module _ (k : Kept) (now : Time) (move : Move) (is : IsMove k.state move) (w : W
   step-usage e g =
       replaced-usage (record k { state = m2 }) number object (touched object now) 0 0 object-there refl refl e g
       ∙ replaced-usage (record k { state = m1 }) target (between_of (target == place)) fuller 0 0
-      (between-lives (target == place) refl) (between-export (target == place) refl) (between-used (target == place)) e g
+      (between-lives (target == place) refl) (between-export (target == place) refl)
+      (between-used (target == place)) e g
       ∙ replaced-usage k place move.from.directory thinner 0 0 is.from.lives refl (sym (ap used_of is.from.content)) e g
 
   -- ---- what lives after it, but for what loses the name
@@ -824,7 +825,8 @@ module _ (k : Kept) (now : Time) (move : Move) (is : IsMove k.state move) (w : W
           (homed-state (target == place) refl)
 
       -- an object that goes is counted no more
-      lost-right : (b : Bool) → AllFit (lost_of b).state → (e g : ℕ) → (lost_of b).usage e g ≡ usage_in (lost_state b) e g
+      lost-right : (b : Bool) → AllFit (lost_of b).state → (e g : ℕ)
+          → (lost_of b).usage e g ≡ usage_in (lost_state b) e g
       lost-right true fit e g =
           counted-sums homed (freed homed o.number) o.number
           (λ q apart. differs-other homed.state.objects (without_object homed.state o.number).objects o.number None
@@ -877,7 +879,8 @@ module _ (k : Kept) (now : Time) (move : Move) (is : IsMove k.state move) (w : W
           (SoundAt lost) (left-here (more refl))
           (λ q p other at. stays-here q p at other) q p at
 
-      lost-sound : AllFit (lost_of (nat_le (names_of m o.number) 1)).state → Sound (lost_of (nat_le (names_of m o.number) 1))
+      lost-sound : AllFit (lost_of (nat_le (names_of m o.number) 1)).state
+          → Sound (lost_of (nat_le (names_of m o.number) 1))
       lost-sound fit =
           let b = nat_le (names_of m o.number) 1 in
           sound-in (lost_of b) lost (lost-state b)

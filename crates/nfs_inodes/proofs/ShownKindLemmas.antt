@@ -1,5 +1,6 @@
 -- What a draft shows of kinds.
-use Rattle.std.proofs.Common.{◌≡◌, ◌==◌, ℕ, true, false, Bool, cond, Option, Some, None, Result, Ok, IfOk, option_map, refl, sym, ◌∙◌, ap}
+use Rattle.std.proofs.Common.{◌≡◌, ◌==◌, ℕ, true, false, Bool, cond, Option, Some, None, Result, Ok, IfOk, option_map}
+use Rattle.std.proofs.Common.{refl, sym, ◌∙◌, ap}
 use Rattle.std.proofs.Common.{subst}
 use Rattle.std.specs.Cmp.{unsigned_Decides}
 use Rattle.nfs_wire.specs.declared.attributes.FileType.{FileType}
@@ -64,7 +65,8 @@ module _ (d : DraftValue) (n : ℕ) (i j : Inode) (has : HasInode d n (Some i)) 
       ∙ by (n == q) refl
     where
       by : (b : Bool) → (n == q) ≡ b →
-          kind_in (known_at d addresses.Exports) (cond b (Some (Some (objects.Inode j))) (known_at d (addresses.Inode q)))
+          kind_in (known_at d addresses.Exports)
+          (cond b (Some (Some (objects.Inode j))) (known_at d (addresses.Inode q)))
           ≡ kind_at d q
       by false is = refl
       by true is =

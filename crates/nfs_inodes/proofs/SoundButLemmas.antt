@@ -10,7 +10,8 @@ use Rattle.std.specs.List.{AllByRecursion, count_by, sum_by}
 use Rattle.std.specs.Ordering.{nat_cmp}
 use Rattle.nfs_machine.proofs.MapChangeLemmas.{apart, count-without, differs-other, differs-remove, find-all}
 use Rattle.nfs_machine.proofs.MapChangeLemmas.{flipped}
-use Rattle.nfs_machine.proofs.LooseLemmas.{AddsName, Comes, Loose, TakesName, also, loosened, names_in-added, names_of-added}
+use Rattle.nfs_machine.proofs.LooseLemmas.{AddsName, Comes, Loose, TakesName, also, loosened, names_in-added}
+use Rattle.nfs_machine.proofs.LooseLemmas.{names_of-added}
 use Rattle.nfs_machine.proofs.LooseLemmas.{names_of-come, names_of-swapped, names_of-taken, none_loose, swapped}
 use Rattle.nfs_machine.proofs.LooseLemmas as loose
 use Rattle.nfs_machine.proofs.MapSumLemmas.{get-inserted}

@@ -8,7 +8,8 @@ use Rattle.nfs_machine.specs.Attributes.{attributes_of, block, device_of, is_dir
 use Rattle.nfs_machine.specs.Checks.{bytes_in, entries_in}
 use Rattle.nfs_machine.specs.Exports.{LivingExport}
 use Rattle.nfs_machine.specs.Shown.{attributes_at, weak}
-use Rattle.nfs_machine.specs.State.{Content, Regular, Directory, Link, BlockDevice, CharacterDevice, Socket, Fifo, Living, State, Entry}
+use Rattle.nfs_machine.specs.State.{Content, Regular, Directory, Link, BlockDevice, CharacterDevice, Socket, Fifo}
+use Rattle.nfs_machine.specs.State.{Living, State, Entry}
 use Rattle.nfs_objects.proofs.StandsInExportLemmas.{inode-stands, object-stands}
 use Rattle.nfs_objects.proofs.FileStoreLemmas.{HasListing, size-stands}
 use Rattle.nfs_objects.proofs.SeenLemmas.{known-stands}
@@ -78,7 +79,8 @@ pub shows-known : (d : DraftValue) (n : ℕ) (i : Inode) (x : Known) → HasInod
 shows-known d n i x has of = subst (ShowsExport d) (sym (ap (λ (o : Living). o.export) of.shell_is))
     (shows-export d n i has)
 
-module _ (d : DraftValue) (n : ℕ) (i : Option Inode) (has : HasInode d n i) (s : Store) (k : Kept) (fits : Fits d.view s)
+module _ (d : DraftValue) (n : ℕ) (i : Option Inode) (has : HasInode d n i) (s : Store) (k : Kept)
+    (fits : Fits d.view s)
     (stands : Represents (with_writes s d.writes) k) where
   pub stands-there : inode_in k.state.exports ((with_writes s d.writes).at (addresses.Inode n)) ≡ i
   stands-there =
@@ -111,7 +113,8 @@ module _ (d : DraftValue) (n : ℕ) (i : Option Inode) (has : HasInode d n i) (s
 
 -- the pages and parts at a number are those of the entries that live there
 pub listed-there : (d : DraftValue) (n : ℕ) (i : Inode) → HasInode d n (Some i) → (s : Store) (k : Kept) →
-    Fits d.view s → Represents (with_writes s d.writes) k → HasListing (with_writes s d.writes) n (entries_at k.state n) i
+    Fits d.view s → Represents (with_writes s d.writes) k
+    → HasListing (with_writes s d.writes) n (entries_at k.state n) i
 listed-there d n i has s k fits stands =
     listing-same (with_writes s d.writes) k n i i stands
     (known-stands d s (addresses.Inode n) has.object fits has.known
@@ -125,15 +128,18 @@ entries-there d n i m has is s k fits stands =
     subst (λ x. HoldsEntries (with_writes s d.writes) n x (entries_at k.state n)) is
     (listed-there d n i has s k fits stands)
 
-pub some-lives : (d : DraftValue) (n : ℕ) (i : Inode) (x : Known) → HasInode d n (Some i) → IsKnownOf n i x → Knows d (λ k. IsObject k.state n (Some x))
+pub some-lives : (d : DraftValue) (n : ℕ) (i : Inode) (x : Known) → HasInode d n (Some i) → IsKnownOf n i x
+    → Knows d (λ k. IsObject k.state n (Some x))
 some-lives d n i x has of s k w =
     let beside = beside_at k.state n in
     let living = living_of_inode beside i in
     let lives : get k.state.objects n ≡ Some living = lives-there d n (Some i) has s k w.fits w.stands in
-    let content : content_at k.state x.number ≡ living.content = ap (content_at k.state) of.number_is ∙ ap content_living lives in
+    let content : content_at k.state x.number ≡ living.content = ap (content_at k.state) of.number_is
+    ∙ ap content_living lives in
     let same : object_at k.state x ≡ living =
     ap (shell x) content ∙ ap (λ (o : Living). record o { content = living.content }) of.shell_is in
-    let size = size-stands (with_writes s d.writes) k n i w.stands (stands-there d n (Some i) has s k w.fits w.stands) in
+    let size = size-stands (with_writes s d.writes) k n i w.stands (stands-there d n (Some i) has s k w.fits
+    w.stands) in
     let links : i.links ≡ links_of k.state n living.content =
     sym (links-there d n (Some i) has s k w.fits w.stands) ∙ w.sound.links n living lives in (
       of.number_is,
@@ -142,7 +148,8 @@ some-lives d n i x has of s k w =
         shows = of.attributes_are k.state
             ∙ sym (attributes-with k.state n i.links beside i size)
             ∙ ap (λ l. record (attributes_of k.state n living) { links = l }) links
-            ∙ ap (λ q. attributes_of k.state q living) (sym of.number_is) ∙ ap (attributes_of k.state x.number) (sym same);
+            ∙ ap (λ q. attributes_of k.state q living) (sym of.number_is)
+            ∙ ap (attributes_of k.state x.number) (sym same);
       },
     )
 
@@ -152,7 +159,8 @@ none-lives d n has s k w = lives-there d n None has s k w.fits w.stands
 -- what an object shows of itself
 pub shown-some : (m : State) (n : ℕ) (x : Known) → IsObject m n (Some x) → attributes_at m n ≡ Some x.attributes
 shown-some m n x is =
-    ap (attributes_at m) (sym is.0) ∙ ap (λ o. option_map (attributes_of m x.number) o) (is.1).lives ∙ ap (λ a. Some a) (sym (is.1).shows)
+    ap (attributes_at m) (sym is.0) ∙ ap (λ o. option_map (attributes_of m x.number) o) (is.1).lives
+    ∙ ap (λ a. Some a) (sym (is.1).shows)
 
 pub shown-none : (m : State) (n : ℕ) → IsObject m n None → attributes_at m n ≡ None
 shown-none m n is = ap (λ o. option_map (attributes_of m n) o) is
@@ -161,14 +169,24 @@ shown-none m n is = ap (λ o. option_map (attributes_of m n) o) is
 pub possible : (d : DraftValue) (s : Store) (k : Kept) → d.writes ≡ [] → Possible d s k → Represents s k
 possible d s k none w = subst (λ ws. Represents (with_writes s ws) k) none w.stands
 
-pub known-lives : (d : DraftValue) (x : Known) → d.writes ≡ [] → Knows d (λ k. IsKnown k.state x) → IsThere d.view (addresses.Inode x.number)
+pub known-lives : (d : DraftValue) (x : Known) → d.writes ≡ [] → Knows d (λ k. IsKnown k.state x)
+    → IsThere d.view (addresses.Inode x.number)
 known-lives d x none is s k fits stands sound formed =
-    let w : Possible d s k = record { fits = fits; stands = subst (λ ws. Represents (with_writes s ws) k) (sym none) stands; sound = sound } in
+    let w : Possible d s k = record {
+      fits = fits;
+      stands = subst (λ ws. Represents (with_writes s ws) k) (sym none)
+          stands;
+      sound = sound;
+    } in
     object-stands s k x.number (object_at k.state x) stands (is s k w).lives
 
 -- what the machine shows of an object before a call
 pub weak-is : (m : State) (x : Known) → IsKnown m x → weak (object_at m x) ≡ weak_of x
-weak-is m x is = ap (λ (a : Attributes). record { size = a.size; modified = x.attributes.modified; changed = x.attributes.changed }) (sym is.shows)
+weak-is m x is = ap (λ (a : Attributes). record {
+  size = a.size;
+  modified = x.attributes.modified;
+  changed = x.attributes.changed;
+}) (sym is.shows)
 
 -- ---- kinds
 pub kind-is : (m : State) (x : Known) → IsKnown m x → type_of (content_at m x.number) ≡ x.attributes.kind

@@ -1,5 +1,6 @@
 -- What a draft knows still once pages and parts were written.
-use Rattle.std.proofs.Common.{◌≡◌, ℕ, Bool, true, false, cond, Option, Some, None, IsSome, inl, inr, option_map, refl, ◌∙◌, ap}
+use Rattle.std.proofs.Common.{◌≡◌, ℕ, Bool, true, false, cond, Option, Some, None, IsSome, inl, inr, option_map, refl}
+use Rattle.std.proofs.Common.{◌∙◌, ap}
 use Rattle.std.proofs.Common.{subst, sym}
 use Rattle.nfs_objects.proofs.SeenLemmas.{written-append}
 use Rattle.nfs_objects.specs.Asks.{IsThere}

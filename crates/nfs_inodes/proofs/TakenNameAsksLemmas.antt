@@ -1,5 +1,6 @@
 -- What a name that goes asks for: its part, its page, and the parts that are joined.
-use Rattle.std.proofs.Common.{◌≡◌, ◌⊎◌, ◌<◌, ℕ, ◌==◌, Bool, true, false, cond, List, [], ◌∷◌, Option, Some, None, IsSome}
+use Rattle.std.proofs.Common.{◌≡◌, ◌⊎◌, ◌<◌, ℕ, ◌==◌, Bool, true, false, cond, List, [], ◌∷◌, Option, Some, None}
+use Rattle.std.proofs.Common.{IsSome}
 use Rattle.std.proofs.Common.{arith, inl, inr, refl, sym, subst}
 use Rattle.std.specs.List.{AllByRecursion}
 use Rattle.std.specs.Prelude.{nat_lt}
@@ -91,11 +92,13 @@ module _ (d : DraftValue) (n : ℕ) (m : EntryMap) (old : List (Addr × Mode)) w
       parts = cond last-here pages (addresses.Part n bucket last ∷ pages)
 
       no-page : (part : ℕ) → AllByRecursion (λ b. is_addr b (addresses.Part n bucket part) ≡ false) pages
-      no-page part = apart-more (λ b. is_addr b (addresses.Part n bucket part) ≡ false) absent [] (addresses.Page n page) tt
+      no-page part = apart-more (λ b. is_addr b (addresses.Part n bucket part) ≡ false) absent []
+          (addresses.Page n page) tt
           refl
 
       with-last : These parts second
-      with-last = one-more last-here pages (addresses.Part n bucket last) first second with-page (no-page last) to-second
+      with-last = one-more last-here pages (addresses.Part n bucket last) first second with-page (no-page last)
+          to-second
 
       pub takes-joined : AsksToTake d n m old third
       takes-joined = ends (cond source-here parts (addresses.Part n bucket source ∷ parts)) third
@@ -119,6 +122,7 @@ taken-asking d n m asked lives asks =
     asking-all d (λ a. is_beside m n a ≡ true) (λ a. ⊥) asked asks []
     (λ a told unknown. there a (lives a told) unknown)
   where
-    there : (a : Addr) → IsSome (known_at d a) ⊎ IsThere d.view a → known_at d a ≡ None → IsAmong [] a ⊎ IsThere d.view a
+    there : (a : Addr) → IsSome (known_at d a) ⊎ IsThere d.view a → known_at d a ≡ None
+        → IsAmong [] a ⊎ IsThere d.view a
     there a (inl some) unknown = absurd (never (known_at d a) unknown some)
     there a (inr stands) unknown = inr stands

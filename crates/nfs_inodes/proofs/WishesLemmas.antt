@@ -138,7 +138,8 @@ module _ (d : DraftValue) where
         more = asks.more ++ w ∷ [];
         grown = ap (λ l. l ++ w ∷ []) asks.grown ∙ append_assoc old asks.more (w ∷ []);
         once = once-append asks.more w asks.once
-            (all-map (IsWish d May) (λ (b : Addr × Mode). is_addr b.0 a ≡ false) (λ b wish. apart b.0 wish.may) asks.more
+            (all-map (IsWish d May) (λ (b : Addr × Mode). is_addr b.0 a ≡ false) (λ b wish. apart b.0 wish.may)
+            asks.more
             asks.each);
         each = all-append (IsWish d Will) asks.more w
             (all-map (IsWish d May) (IsWish d Will) (wish-as May Will (λ b may. inl may)) asks.more asks.each)

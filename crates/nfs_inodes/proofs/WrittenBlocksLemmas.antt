@@ -551,7 +551,8 @@ module _ (old mid late new : DraftValue) (n offset : ℕ) (bytes : List ℕ) (pa
           (λ i from before. (
             written (stored_in (at-old s (addresses.Block n i))) (place_in offset i) (part_in offset bytes i),
             puts s (addresses.Block n i) refl refl ∙ blocks.blocks s i fits from before,
-            some-written (stored_in (at-old s (addresses.Block n i))) bytes offset i (omega (arith, some, is-count)) from
+            some-written (stored_in (at-old s (addresses.Block n i))) bytes offset i
+                (omega (arith, some, is-count)) from
                 (omega (arith, before, is-count)),
           ));
     }

@@ -12,7 +12,8 @@ file-told : (content : Content) (map : FileMapValue) (told : Bool) → map_in co
 file-told content map told is decides = (
   λ e. record { map = map; is = is; pages = decides.0 e },
   λ large. decides.1 (subst (λ (m : FileMapValue). HasTwo m.pages)
-      (let both : Some large.map ≡ Some map = sym large.is ∙ is in let same : large.map ≡ map = cc in same) large.pages),
+      (let both : Some large.map ≡ Some map = sym large.is ∙ is in let same : large.map ≡ map = cc in same)
+      large.pages),
 )
 
 no-map : (content : Content) → ((map : FileMapValue) → content ≡ contents.Regular map → ⊥) → map_in content ≡ None

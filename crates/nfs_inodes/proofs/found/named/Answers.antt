@@ -28,12 +28,14 @@ pub returns-in_default-clause-means : goal.returns-in_default-clause-means
 returns-in_default-clause-means c = bad-handle c.args.draft.now c.args.handle.now (sym c.in_default.ensures)
 
 pub returns-in_default-clause-first : goal.returns-in_default-clause-first
-returns-in_default-clause-first c = bad-first _ c.args.draft.now c.args.handle.now c.requires c.in_ok-exports.ensures.reads _ (sym c.in_default.ensures)
+returns-in_default-clause-first c = bad-first _ c.args.draft.now c.args.handle.now c.requires
+    c.in_ok-exports.ensures.reads _ (sym c.in_default.ensures)
 
 pub returns-in_err-known-clause-stops : goal.returns-in_err-known-clause-stops
 returns-in_err-known-clause-stops c =
     let p = err_from_is_err_and c.from_residual-in_err-known.result c.from_residual-in_err-known.ensures.1 in
-    rw (p.1, p.2) (object-stops c.args.draft.now c.args.handle.now c.in-Some.handle _ (sym c.in-Some.ensures) c.in_err-known.ensures.object)
+    rw (p.1, p.2) (object-stops c.args.draft.now c.args.handle.now c.in-Some.handle _ (sym c.in-Some.ensures)
+    c.in_err-known.ensures.object)
 
 pub returns-in_err-known-clause-first : goal.returns-in_err-known-clause-first
 returns-in_err-known-clause-first c =
@@ -55,7 +57,8 @@ returns-in_default-2-clause-first c =
 
 pub returns-then-is_target-clause-means : goal.returns-then-is_target-clause-means
 returns-then-is_target-clause-means c =
-    named-there c.args.draft.now c.args.handle.now c.in-Some.handle (sym c.in-Some.ensures) c.in_ok-exports.exports.now c.in_ok-exports.ensures.exports c.in-Some-2.known
+    named-there c.args.draft.now c.args.handle.now c.in-Some.handle (sym c.in-Some.ensures) c.in_ok-exports.exports.now
+    c.in_ok-exports.ensures.exports c.in-Some-2.known
     (λ s k w. subst (IsObject k.state c.in-Some.handle.fileid) c.in-Some-2.is (c.in_ok-known.ensures.object s k w))
     (sym (rw c.ctx.ensures at c.if-is_target.ensures))
 
@@ -65,7 +68,8 @@ returns-then-is_target-clause-lives c =
     (λ s k w. (subst (IsObject k.state c.in-Some.handle.fileid) c.in-Some-2.is (c.in_ok-known.ensures.object s k w)).1)
 
 pub returns-in_err-exports-clause-once : goal.returns-in_err-exports-clause-once
-returns-in_err-exports-clause-once c = λ nothing. absurd (exports-once (Unit {0}) c.args.draft.now c.args.handle.now _ c.in_err-exports.ensures.reads nothing)
+returns-in_err-exports-clause-once c = λ nothing. absurd (exports-once (Unit {0}) c.args.draft.now c.args.handle.now _
+    c.in_err-exports.ensures.reads nothing)
 
 pub returns-in_err-known-clause-once : goal.returns-in_err-known-clause-once
 returns-in_err-known-clause-once c = λ nothing.
@@ -88,7 +92,8 @@ returns-in_err-known-clause-at_once c = λ nothing.
 pub returns-then-is_target-clause-reads : goal.returns-then-is_target-clause-reads
 returns-then-is_target-clause-reads c =
     let same : c.in-Some-2.known.number ≡ c.in-Some.handle.fileid =
-    subst (λ o. IfSome o (λ (x : Known). x.number ≡ c.in-Some.handle.fileid)) c.in-Some-2.is c.in_ok-known.ensures.number in (
+    subst (λ o. IfSome o (λ (x : Known). x.number ≡ c.in-Some.handle.fileid)) c.in-Some-2.is
+    c.in_ok-known.ensures.number in (
       c.in_ok-exports.ensures.reads,
       subst (λ n. IsSome (known_at c.args.draft.now (addresses.Inode n))) (sym same)
           c.in_ok-known.ensures.reads.object,
@@ -102,7 +107,8 @@ returns-then-is_target-clause-usage c =
 pub returns-then-is_target-clause-number : goal.returns-then-is_target-clause-number
 returns-then-is_target-clause-number c =
     let same : c.in-Some-2.known.number ≡ c.in-Some.handle.fileid =
-    subst (λ o. IfSome o (λ (x : Known). x.number ≡ c.in-Some.handle.fileid)) c.in-Some-2.is c.in_ok-known.ensures.number in
+    subst (λ o. IfSome o (λ (x : Known). x.number ≡ c.in-Some.handle.fileid)) c.in-Some-2.is
+    c.in_ok-known.ensures.number in
     ap (option_map (λ (h : Handle). h.fileid)) (sym c.in-Some.ensures) ∙ ap Some (sym same)
 
 pub returns-then-is_target-clause-exported : goal.returns-then-is_target-clause-exported

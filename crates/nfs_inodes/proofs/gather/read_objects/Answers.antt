@@ -12,7 +12,8 @@ loop-entry-init c = c.new-wishes.ensures c.args.draft.now
 
 pub add-requires : goal.add-requires
 add-requires c =
-    each-mapped listed_entry (λ (e : Entry). IsThere c.args.draft.now.view (addresses.Inode e.number)) c.args.entries.now
+    each-mapped listed_entry (λ (e : Entry). IsThere c.args.draft.now.view (addresses.Inode e.number))
+    c.args.entries.now
     c.loop-entry.entry-index c.entry-item.result c.requires c.loop-entry-test.true c.entry-item.is
 
 pub loop-entry-preserved : goal.loop-entry-preserved

@@ -9,7 +9,8 @@ use Rattle.nfs_objects.specs.declared.address.Addr.TheVariants as addresses
 use Rattle.nfs_inodes.proofs.UsageChangeLemmas.{stands-first}
 use Rattle.nfs_inodes.proofs.EntryAsksLemmas.{grown-stops, made-asking}
 use Rattle.nfs_inodes.proofs.ReaderHaltLemmas.{makes-stops}
-use Rattle.nfs_inodes.proofs.PutObjectLemmas.{counting-stops, exports-stay, first-free, knows-kept, knows-on, made-turns}
+use Rattle.nfs_inodes.proofs.PutObjectLemmas.{counting-stops, exports-stay, first-free, knows-kept, knows-on}
+use Rattle.nfs_inodes.proofs.PutObjectLemmas.{made-turns}
 use Rattle.nfs_inodes.proofs.PutObjectLemmas.{bare-keyed, blank-pages, making-stops, may-give, stays-vacant}
 use Rattle.nfs_inodes.specs.Entered.{grown_at}
 use Rattle.nfs_inodes.proofs.makers.make_reserved.Goals as goal
@@ -75,7 +76,8 @@ put-requires-clause-given c =
 
 pub returns-clause-turns : goal.returns-clause-turns
 returns-clause-turns c = (
-  first-free c.args.draft.now (record { number = c.args.number; generation = c.args.generation }) c.requires.none c.requires.first c.ranges.number.fits c.ranges.generation.fits,
+  first-free c.args.draft.now (record { number = c.args.number; generation = c.args.generation }) c.requires.none
+      c.requires.first c.ranges.number.fits c.ranges.generation.fits,
   made-turns c.args.draft.now c.add_entry.new.draft c.recount.new.draft c.put.new.self _
       (record { number = c.args.number; generation = c.args.generation }) c.in_ok-object.object _ _ _
       c.args.directory.now.known.export c.of_one-usage.result

@@ -1,6 +1,7 @@
 use Rattle.std.proofs.Common.{◌≡◌, arith, subst}
 use Rattle.std.proofs.lemmas.Result.{err_from_is_err_and}
-use Rattle.nfs_inodes.proofs.UsageTotalsLemmas.{IsTotal, group-stops, not-empty, total-all, total-more, total-none, unread-asks}
+use Rattle.nfs_inodes.proofs.UsageTotalsLemmas.{IsTotal, group-stops, not-empty, total-all, total-more, total-none}
+use Rattle.nfs_inodes.proofs.UsageTotalsLemmas.{unread-asks}
 use Rattle.nfs_inodes.proofs.usage.export_usage.Goals as goal
 
 pub returns-then-not-is_empty : goal.returns-then-not-is_empty

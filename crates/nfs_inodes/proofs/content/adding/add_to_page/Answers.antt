@@ -7,7 +7,8 @@ use Rattle.nfs_objects.specs.declared.address.Addr.TheVariants as addresses
 use Rattle.nfs_inodes.proofs.AddEntryLemmas.{page-comes}
 use Rattle.nfs_inodes.proofs.AsksAfterWritesLemmas.{lacked-stops}
 use Rattle.nfs_inodes.proofs.content.adding.add_to_page.Goals as goal
-use Rattle.nfs_inodes.proofs.content.adding.add_to_page.Goals.{in-Some+in_ok-entries-in-Some, in-None+in_ok-entries-in-None}
+use Rattle.nfs_inodes.proofs.content.adding.add_to_page.Goals.{in-Some+in_ok-entries-in-Some}
+use Rattle.nfs_inodes.proofs.content.adding.add_to_page.Goals.{in-None+in_ok-entries-in-None}
 use Rattle.nfs_objects.specs.Stands.{stored_page}
 use Rattle.nfs_objects.specs.Values.{with_written}
 

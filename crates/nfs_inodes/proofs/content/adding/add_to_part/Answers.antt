@@ -9,14 +9,18 @@ use Rattle.nfs_inodes.proofs.AsksAfterWritesLemmas.{keeps-none}
 use Rattle.nfs_inodes.specs.Entered.{Divides, KeepsButBucket, PartsLive, lacked_of}
 use Rattle.nfs_inodes.specs.Stops.{StopsAt}
 use Rattle.nfs_inodes.proofs.content.adding.add_to_part.Goals as goal
-use Rattle.nfs_inodes.proofs.content.adding.add_to_part.Goals.{then-before-gt0+then-before-after+in_ok-divide, else-before-gt0, else-before-gt0-via-then-before-gt0+else-before-after, else-before-gt0-via-else-before-gt0}
+use Rattle.nfs_inodes.proofs.content.adding.add_to_part.Goals.{then-before-gt0+then-before-after+in_ok-divide}
+use Rattle.nfs_inodes.proofs.content.adding.add_to_part.Goals.{else-before-gt0}
+use Rattle.nfs_inodes.proofs.content.adding.add_to_part.Goals.{else-before-gt0-via-then-before-gt0+else-before-after}
+use Rattle.nfs_inodes.proofs.content.adding.add_to_part.Goals.{else-before-gt0-via-else-before-gt0}
 
 pub divide-requires-clause-lives : goal.divide-requires-clause-lives
 divide-requires-clause-lives c =
     let bucket : c.bucket_of-bucket.result ≡ bucket_of c.args.name.now =
     c.bucket_of-bucket.ensures.which ∙ ap bucket_of c.as_slice.ensures in
     subst (λ w. PartsLive c.args.draft.now c.args.number c.bucket_of-bucket.result w) (sym c.width-before.ensures.which)
-    (subst (λ b. PartsLive c.args.draft.now c.args.number b (width_in c.args.counts.now b)) (sym bucket) c.requires.lives)
+    (subst (λ b. PartsLive c.args.draft.now c.args.number b (width_in c.args.counts.now b)) (sym bucket)
+    c.requires.lives)
 
 pub returns-in_err-part : goal.returns-in_err-part
 returns-in_err-part c =
@@ -33,11 +37,13 @@ returns-in_err-part c =
     ] in
     let some : 0 < c.width_with_one_more-after.result =
     omega (arith, c.width_with_one_more-after.ensures.which, width-some (count_in counts b)) in
-    let more = width-more (count_in counts b) (omega (arith, c.width-before.ensures.which, c.width-before.ensures.small)) in
+    let more = width-more (count_in counts b)
+    (omega (arith, c.width-before.ensures.which, c.width-before.ensures.small)) in
     let less : c.part_among.result < suc (width_in counts b) =
     omega (arith, c.part_among.ensures.within some, more, c.width_with_one_more-after.ensures.which) in
     let p = err_from_is_err_and c.from_residual-in_err-part.result c.from_residual-in_err-part.ensures.1 in
-    rw (p.1, p.2) (subst (λ q. StopsAt d (lacked_of d (addresses.Part n q (width_in counts q) ∷ [])) c.in_err-part.field-0.0) bucket
+    rw (p.1, p.2) (subst (λ q. StopsAt d (lacked_of d (addresses.Part n q (width_in counts q) ∷ []))
+    c.in_err-part.field-0.0) bucket
     (part-stops d mid n b (width_in counts b) c.part_among.result _ keeps
     (subst (λ q. PartsLive d n q (width_in counts q)) (sym bucket) c.requires.lives) less c.in_err-part.ensures))
 

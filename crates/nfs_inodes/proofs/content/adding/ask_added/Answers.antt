@@ -14,13 +14,19 @@ returns-then-before-after c =
     let name = c.args.name.now in
     let bucket = c.bucket_of-bucket.ensures.which in
     let some : 0 < c.width_with_one_more-after.result =
-    omega (arith, c.width_with_one_more-after.ensures.which, width-some (count_in m.counts c.bucket_of-bucket.result)) in
+    omega (
+      arith,
+      c.width_with_one_more-after.ensures.which,
+      width-some
+          (count_in m.counts c.bucket_of-bucket.result),
+    ) in
     let before : c.width-before.result ≡ width_in m.counts (bucket_of name) =
     c.width-before.ensures.which ∙ ap (width_in m.counts) bucket in
     let less : c.part_among-part.result < width_in m.counts (bucket_of name) =
     omega (arith, c.part_among-part.ensures.within some, c.if-before-after.true, before) in
     OnOk-map c.add-then-before-after.result _ _
-    (λ is. asks-same d n m name c.args.cookie c.args.asking.now.asked.items c.add.new.self.asked.items c.in_ok-add.ensures.ok
+    (λ is. asks-same d n m name c.args.cookie c.args.asking.now.asked.items c.add.new.self.asked.items
+    c.in_ok-add.ensures.ok
     c.part_among-part.result c.add-then-before-after.new.self.asked.items less
     (is ∙ ap (λ a. with_wish d a c.add.new.self.asked.items)
     (c.part_at.ensures ∙ ap (λ b. addresses.Part n b c.part_among-part.result) bucket)))
@@ -50,7 +56,8 @@ returns-else-part-source c =
     let bucket = c.bucket_of-bucket.ensures.which in
     let before : c.width-before.result ≡ width_in m.counts (bucket_of name) =
     c.width-before.ensures.which ∙ ap (width_in m.counts) bucket in
-    asks-divided d n m name c.args.cookie c.args.asking.now.asked.items c.add.new.self.asked.items c.in_ok-add.ensures.ok
+    asks-divided d n m name c.args.cookie c.args.asking.now.asked.items c.add.new.self.asked.items
+    c.in_ok-add.ensures.ok
     c.add-2.new.self.asked.items
     (c.in_ok-add-2.ensures.ok ∙ ap (λ a. with_wish d a c.add.new.self.asked.items)
     (c.part_at-2.ensures ∙ ap (λ b. addresses.Part n b c.width-before.result) bucket

@@ -4,7 +4,8 @@ use Rattle.std.proofs.lemmas.Result.{err_from_is_err_and}
 use Rattle.nfs_objects.specs.Calls.{addresses_of}
 use Rattle.nfs_objects.specs.Directories.{AreBeside}
 use Rattle.nfs_objects.specs.declared.address.Addr.TheVariants as addresses
-use Rattle.nfs_inodes.proofs.ClearDirectoryLemmas.{emptied-all, emptied-nothing, emptied-other, frees-next, listed-at, listed-lives}
+use Rattle.nfs_inodes.proofs.ClearDirectoryLemmas.{emptied-all, emptied-nothing, emptied-other, frees-next, listed-at}
+use Rattle.nfs_inodes.proofs.ClearDirectoryLemmas.{listed-lives}
 use Rattle.nfs_inodes.proofs.ReaderHaltLemmas.{any-stops, lacking-stops}
 use Rattle.nfs_inodes.proofs.AsksAfterWritesLemmas.{lives-on, stops-back}
 use Rattle.nfs_inodes.specs.Entered.{Frees}

@@ -8,7 +8,8 @@ use Rattle.nfs_inodes.proofs.DirectoryMapLemmas.{directory-lives}
 use Rattle.nfs_inodes.proofs.UsageChangeLemmas.{stands-first}
 use Rattle.nfs_inodes.proofs.ReaderHaltLemmas.{any-stops}
 use Rattle.nfs_inodes.proofs.NameLeadsLemmas.{no-map}
-use Rattle.nfs_inodes.proofs.EntriesLeftLemmas.{IsFront, IsGathered, front-lives, front-part, front-whole, gathered-first}
+use Rattle.nfs_inodes.proofs.EntriesLeftLemmas.{IsFront, IsGathered, front-lives, front-part, front-whole}
+use Rattle.nfs_inodes.proofs.EntriesLeftLemmas.{gathered-first}
 use Rattle.nfs_inodes.proofs.EntriesLeftLemmas.{gathered-more}
 use Rattle.nfs_inodes.proofs.EntriesLeftLemmas.{gathered-none, no-front}
 use Rattle.nfs_inodes.specs.Entered.{ShowsPage}

@@ -11,7 +11,8 @@ use Rattle.nfs_inodes.proofs.EntryAsksLemmas.{header-lives}
 use Rattle.nfs_inodes.proofs.ReaderHaltLemmas.{any-stops}
 use Rattle.nfs_inodes.proofs.AsksAfterWritesLemmas.{may-change-on}
 use Rattle.nfs_inodes.proofs.PutObjectLemmas.{knows-on}
-use Rattle.nfs_inodes.proofs.RelinkLemmas.{added-turns, keeps-generation, kept-turns, leaf-absent, leaf-there, relisted-copy}
+use Rattle.nfs_inodes.proofs.RelinkLemmas.{added-turns, keeps-generation, kept-turns, leaf-absent, leaf-there}
+use Rattle.nfs_inodes.proofs.RelinkLemmas.{relisted-copy}
 use Rattle.nfs_inodes.proofs.ShownKindLemmas.{directory-kinds}
 use Rattle.nfs_inodes.proofs.StillKnownLemmas.{inode-known-on, knows-directory, knows-inode, knows-kinds, knows-none}
 use Rattle.nfs_inodes.proofs.BucketWidthLemmas.{directory-stops, grown-stops, less-none}
@@ -86,7 +87,8 @@ put-requires-clause-given c =
     keeps-generation c.with_entry.new.draft c.args.directory.now.known.number c.in_ok-kept.kept.inode.now
     c.relinked-new.result (knows-inode c.args.draft.now c.with_entry.new.draft c.args.directory.now.known.number _
     c.in_ok-wider.ensures.knows c.in_ok-kept.ensures.inode)
-    (ap (λ (x : Inode). x.generation) c.relinked-new.ensures ∙ ap (λ (x : Inode). x.generation) c.in_ok-inode.ensures.cases)
+    (ap (λ (x : Inode). x.generation) c.relinked-new.ensures
+    ∙ ap (λ (x : Inode). x.generation) c.in_ok-inode.ensures.cases)
 
 pub returns-clause-turns : goal.returns-clause-turns
 returns-clause-turns c =

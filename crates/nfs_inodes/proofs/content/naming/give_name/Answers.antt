@@ -85,7 +85,8 @@ put-requires-clause-given c =
     c.relinked-new.result (knows-inode c.args.draft.now c.with_entry.new.draft c.args.directory.now.known.number _
     (knows-both c.args.draft.now c.staying.new.draft c.with_entry.new.draft c.in_ok-others.ensures.knows
     c.in_ok-wider.ensures.knows) c.in_ok-kept.ensures.inode)
-    (ap (λ (x : Inode). x.generation) c.relinked-new.ensures ∙ ap (λ (x : Inode). x.generation) c.in_ok-inode.ensures.cases)
+    (ap (λ (x : Inode). x.generation) c.relinked-new.ensures
+    ∙ ap (λ (x : Inode). x.generation) c.in_ok-inode.ensures.cases)
 
 pub returns : goal.returns
 returns c =

@@ -45,7 +45,8 @@ put-requires-clause-given c =
     keeps-generation c.without_entry.new.draft c.args.directory.now.known.number c.in_ok-kept.kept.inode.now
     c.relinked-new.result (knows-inode c.args.draft.now c.without_entry.new.draft
     c.args.directory.now.known.number _ c.in_ok-narrower.ensures.knows c.in_ok-kept.ensures.inode)
-    (ap (λ (x : Inode). x.generation) c.relinked-new.ensures ∙ ap (λ (x : Inode). x.generation) c.in_ok-inode.ensures.cases)
+    (ap (λ (x : Inode). x.generation) c.relinked-new.ensures
+    ∙ ap (λ (x : Inode). x.generation) c.in_ok-inode.ensures.cases)
 
 pub returns-clause-turns : goal.returns-clause-turns
 returns-clause-turns c =

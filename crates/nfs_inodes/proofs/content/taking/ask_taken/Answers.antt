@@ -21,7 +21,13 @@ returns-in_ok-ask_other-2 c =
     let last = c.width_with_one_less-after.result in
     let most = width-most (count_in m.counts bucket) in
     let below : last < width_in m.counts bucket =
-    omega (arith, most, c.width-before.ensures.which, c.width_with_one_less-after.ensures.which, c.if-before-after.true) in
+    omega (
+      arith,
+      most,
+      c.width-before.ensures.which,
+      c.width_with_one_less-after.ensures.which,
+      c.if-before-after.true,
+    ) in
     let joined = λ (absent : Bool) (listed : absent ≡ false → lists m.pages page ≡ true)
     (to-first : first ≡ cond absent old (with_wish d (addresses.Page n page) old)).
     takes-joined d n m old page absent first listed to-first bucket last c.source_of.result below
