@@ -24,7 +24,15 @@ results_size (replies.Mount reply) form = form.1
 results_size (replies.Nlm reply) form = omega (arith, form.1)
 results_size replies.Replaced form = omega arith
 
-pub answer_size : (start header whole : List ℕ) (xid : ℕ) (reply : Reply) → HasForm reply → start ≡ to_be_bytes w32 0 → header ≡ start ++ reply_of xid Success → whole ≡ header ++ results_of reply
+pub answer_size : (start header whole : List ℕ) (xid : ℕ) (reply : Reply) → HasForm reply → start ≡ to_be_bytes w32 0
+    → header ≡ start ++ reply_of xid Success → whole ≡ header ++ results_of reply
     → length whole < 2147483652
 answer_size start header whole xid reply form s h w =
-    omega (arith, results_size reply form, ap length s, simp length-append at (ap length h), simp length-append at (ap length w))
+    omega (
+      arith,
+      results_size reply form,
+      ap length s,
+      simp length-append at (ap length h),
+      simp length-append at
+          (ap length w),
+    )

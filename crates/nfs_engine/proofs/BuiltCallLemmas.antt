@@ -1,4 +1,5 @@
--- A call that a record asks is of a procedure that is built: its header was read, and the last test of a header is that.
+-- A call that a record asks is of a procedure that is built: its header was read, and the last test of a header is
+-- that.
 use Rattle.std.proofs.Common.{◌≡◌, ℕ, Bool, true, false, List, Result, Ok, Err, IfOk, refl, sym, subst}
 use Rattle.nfs_rpc.specs.Early.{◌>>=◌, call_of, heading_of, holding}
 use Rattle.nfs_rpc.specs.Messages.{CallHeader}
@@ -16,33 +17,41 @@ use Rattle.nfs_engine.specs.declared.asking.Asked.{Asked}
 abbrev HasBuilt : CallHeader → Type 0
 HasBuilt header = is_built header.program header.procedure ≡ true
 
-chained : {A B : Type 0} (P : B → Type 0) (r : Result A Early) (f : A → Result B Early) → ((x : A) → IfOk (f x) P) → IfOk (r >>= f) P
+chained : {A B : Type 0} (P : B → Type 0) (r : Result A Early) (f : A → Result B Early) → ((x : A) → IfOk (f x) P)
+    → IfOk (r >>= f) P
 chained P (Ok x) f holds = holds x
 chained P (Err e) f holds = tt
 
-held : {B : Type 0} (P : B → Type 0) (b : Bool) (e : Early) (f : Unit {0} → Result B Early) → (b ≡ true → IfOk (f tt) P) → IfOk (holding b e >>= f) P
+held : {B : Type 0} (P : B → Type 0) (b : Bool) (e : Early) (f : Unit {0} → Result B Early) → (b ≡ true → IfOk (f tt) P)
+    → IfOk (holding b e >>= f) P
 held P true e f holds = holds refl
 held P false e f holds = tt
 
-heading-built : (xid number version procedure flavor : ℕ) (body arguments : List ℕ) → IfOk (heading_of xid number version procedure flavor body arguments) HasBuilt
+heading-built : (xid number version procedure flavor : ℕ) (body arguments : List ℕ)
+    → IfOk (heading_of xid number version procedure flavor body arguments) HasBuilt
 heading-built xid number version procedure flavor body arguments = search (chained, held) depth 10
 
 record-built : (bytes : List ℕ) → IfOk (call_of bytes) HasBuilt
 unfolding call_of
 record-built bytes = search (chained, heading-built) depth 10
 
-of-built : (program : Program) (procedure : ℕ) (bytes : List ℕ) (call : Call) → IsCall program procedure bytes call → is_built program procedure ≡ true → IsBuilt call
+of-built : (program : Program) (procedure : ℕ) (bytes : List ℕ) (call : Call) → IsCall program procedure bytes call
+    → is_built program procedure ≡ true → IsBuilt call
 of-built program procedure bytes (calls.Nfs call) (of, number, spelled) built =
-    subst (λ (n : ℕ). is_built programs.Nfs n ≡ true) (sym number) (subst (λ (p : Program). is_built p procedure ≡ true) of built)
+    subst (λ (n : ℕ). is_built programs.Nfs n ≡ true) (sym number) (subst (λ (p : Program). is_built p procedure ≡ true)
+    of built)
 of-built program procedure bytes (calls.Mount call) (of, number, spelled) built =
-    subst (λ (n : ℕ). is_built programs.Mount n ≡ true) (sym number) (subst (λ (p : Program). is_built p procedure ≡ true) of built)
+    subst (λ (n : ℕ). is_built programs.Mount n ≡ true) (sym number)
+    (subst (λ (p : Program). is_built p procedure ≡ true) of built)
 of-built program procedure bytes (calls.Nlm call) (of, number, spelled) built =
-    subst (λ (n : ℕ). is_built programs.Nlm n ≡ true) (sym number) (subst (λ (p : Program). is_built p procedure ≡ true) of built)
+    subst (λ (n : ℕ). is_built programs.Nlm n ≡ true) (sym number) (subst (λ (p : Program). is_built p procedure ≡ true)
+    of built)
 of-built program procedure bytes (calls.Replace exports) is built = absurd is
 
 pub asked-built : (bytes : List ℕ) (asked : Asked) → IsAsked bytes asked → IsBuilt asked.call
 asked-built bytes asked is =
-    let header : HasBuilt is.header = subst (λ (r : Result CallHeader Early). IfOk r HasBuilt) is.read (record-built bytes) in
+    let header : HasBuilt is.header = subst (λ (r : Result CallHeader Early). IfOk r HasBuilt) is.read
+    (record-built bytes) in
     of-built is.header.program is.header.procedure is.header.arguments asked.call is.is_call header
 
 pub arrival-built : (arrival : Arrival) (asked : Asked) → IsAskedBy arrival asked → IsBuilt asked.call

@@ -116,9 +116,11 @@ abbrev pub status_size : TestStatus → ℕ
 status_size (tested.Denied holder) = of_opaque holder.owner + 28
 status_size _ = 4
 
-denied-size : (h : LockHolder) → length (write nlm4_testrply (1, holder_value h)) ≡ 4 + length (write nlm4_holder (holder_value h))
+denied-size : (h : LockHolder) → length (write nlm4_testrply (1, holder_value h)) ≡ 4 + length
+    (write nlm4_holder (holder_value h))
 unfolding appended with_arm with_word
-denied-size h = ap length (appends nlm4_holder (holder_value h) (write Word 1)) ∙ length-append (write Word 1) (write nlm4_holder (holder_value h))
+denied-size h = ap length (appends nlm4_holder (holder_value h) (write Word 1))
+    ∙ length-append (write Word 1) (write nlm4_holder (holder_value h))
 
 answer-size : (s : TestStatus) → length (write nlm4_testrply (test_status_value s)) ≡ status_size s
 unfolding appended with_arm with_word

@@ -8,7 +8,8 @@ use Rattle.nfs_machine.specs.declared.calls.Call.{Call}
 use Rattle.nfs_machine.specs.Run.{IsCall}
 use Rattle.nfs_machine.specs.RpcReplies.{FirstFault}
 
-pub garbage_early : (bytes : List ℕ) (header : CallHeader) → call_of bytes ≡ Ok header → ((call : Call) → IsCall header.program header.procedure header.arguments call → ⊥)
+pub garbage_early : (bytes : List ℕ) (header : CallHeader) → call_of bytes ≡ Ok header
+    → ((call : Call) → IsCall header.program header.procedure header.arguments call → ⊥)
     → FirstFault bytes (early.Answer header.xid faults.GarbageArguments)
 garbage_early bytes header read none =
     inr (header, read, none, refl)

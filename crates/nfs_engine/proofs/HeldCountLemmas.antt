@@ -1,6 +1,7 @@
 -- How many addresses are held, and that none is where none is counted.
 use Rattle.std.proofs.Common.{◌≡◌, ℕ, zero, suc, ◌<◌, ◌+◌, ◌%◌, ◌==◌, ◌&&◌, Bool, true, false, cond, min, List, []}
-use Rattle.std.proofs.Common.{◌∷◌, ◌++◌, Option, Some, None, unwrap_or, count_by, refl, sym, ◌∙◌, ap, subst, arith, take}
+use Rattle.std.proofs.Common.{◌∷◌, ◌++◌, Option, Some, None, unwrap_or, count_by, refl, sym, ◌∙◌, ap, subst, arith}
+use Rattle.std.proofs.Common.{take}
 use Rattle.std.proofs.Common.{get_or, length, slice_index_or, ◌/◌, ◌-◌, nat_le, ◌^◌}
 use Rattle.std.specs.Option.{option_and_then, option_or}
 use Rattle.std.proofs.lemmas.List.{take_more}
@@ -56,7 +57,8 @@ found_idle (e ∷ slots) none a j =
     unheld false n is = refl
 
 none_held : (s : ShardValue) → IsLocked s 0 → (a : Addr) (j : ℕ) → hold_at s a j ≡ None
-none_held s locked a j = ap (λ (o : Option SlotValue). hold_of (unwrap_or o empty_slot).holders j) (sym (locked.all a)) ∙
+none_held s locked a j = ap (λ (o : Option SlotValue). hold_of (unwrap_or o empty_slot).holders j)
+    (sym (locked.all a)) ∙
     found_idle locked.slots (let is = locked.held in omega arith) a j
 
 -- a shard that is not there has no slot

@@ -14,7 +14,8 @@ use Rattle.std.specs.Cmp.{nat_cmp_total, unsigned_Decides}
 use Rattle.std.specs.FinMap.{FinMap, empty, get, get-empty, insert, nat_cmp-IsAntisymmetric, same_map}
 use Rattle.std.specs.Ordering.{nat_cmp}
 use Rattle.nfs_wire.specs.declared.attributes.Time.{Time}
-use Rattle.nfs_machine.proofs.OpeningStateLemmas.{le_or, only_roots, opening_formed, root_found, root_none, is_root-opened}
+use Rattle.nfs_machine.proofs.OpeningStateLemmas.{le_or, only_roots, opening_formed, root_found, root_none}
+use Rattle.nfs_machine.proofs.OpeningStateLemmas.{is_root-opened}
 use Rattle.nfs_machine.proofs.OpeningStateLemmas.{root_range}
 use Rattle.nfs_machine.proofs.ExportOrderLemmas.{opened-apart}
 use Rattle.nfs_machine.proofs.MapSumLemmas.{get-inserted}
@@ -36,12 +37,14 @@ use Rattle.nfs_objects.specs.Stands.{IsFitting, Kept, export_table_of, exports_o
 use Rattle.nfs_objects.specs.Bits.{has, no_bits}
 use Rattle.nfs_objects.specs.FileMaps.{FileMapValue}
 use Rattle.nfs_objects.specs.Stands.{Beside, HoldsEntries, IsMapped, IsStored, StandDirectories, StandFiles, bytes_at}
-use Rattle.nfs_objects.specs.Stands.{directory_entries, entry_map_of, file_of, living_in, living_of_inode, map_in, map_of}
+use Rattle.nfs_objects.specs.Stands.{directory_entries, entry_map_of, file_of, living_in, living_of_inode, map_in}
+use Rattle.nfs_objects.specs.Stands.{map_of}
 use Rattle.nfs_objects.specs.Stands.{lives_in, mounts_of, parent_kept}
 use Rattle.nfs_objects.specs.Store.{Store, with_write, with_writes}
 use Rattle.nfs_objects.specs.Sums.{group_of, no_usage, one_using, stored_usage, usage_in}
 use Rattle.nfs_objects.specs.declared.address.Addr.{Addr}
-use Rattle.nfs_objects.specs.declared.address.Addr.TheVariants.{Exports, Inode, Map, Block, Page, Part, Mounts, Usage as UsageOf}
+use Rattle.nfs_objects.specs.declared.address.Addr.TheVariants.{Exports, Inode, Map, Block, Page, Part, Mounts}
+use Rattle.nfs_objects.specs.declared.address.Addr.TheVariants.{Usage as UsageOf}
 use Rattle.nfs_objects.specs.declared.address.Addr.TheVariants.{Locks}
 use Rattle.nfs_objects.specs.ExportTables.{ExportTableValue}
 use Rattle.nfs_objects.specs.Values.{write_value}
@@ -412,7 +415,8 @@ module _ (es : List ExportValue) (moment : Moment) (key : List ℕ) where
   files = record {
     blocks = λ n. record {
       maps = λ page. subst (λ b. IsMapped b (store.at (Map n page)))
-          (sym (ap (λ (f : Option FileMapValue). has (elim f [ None ↦ no_bits | Some map ↦ map.pages ]) page) (no_file n)
+          (sym (ap (λ (f : Option FileMapValue). has (elim f [ None ↦ no_bits | Some map ↦ map.pages ]) page)
+          (no_file n)
           ∙ has-none page)) (maps_at base time key (length es) n page);
       blocks = λ i. subst (λ b. IsStored b (store.at (Block n i)))
           (sym (ap (λ (o : Option Object). has (map_of o) (i % 512)) (maps_at base time key (length es) n (i / 512))
@@ -421,7 +425,8 @@ module _ (es : List ExportValue) (moment : Moment) (key : List ℕ) where
     bytes = λ n i map there is. absurd (none_there n i map there is);
   }
     where
-      none_there : (n : ℕ) (i : Stored) (map : FileMapValue) → inode_in (opening_exports es) (store.at (Inode n)) ≡ Some i →
+      none_there : (n : ℕ) (i : Stored) (map : FileMapValue)
+          → inode_in (opening_exports es) (store.at (Inode n)) ≡ Some i →
           map_in i.content ≡ Some map → ⊥
       none_there n i map there is =
           let at : store.at (Inode n) ≡ Some (objects.Inode i) =

@@ -73,7 +73,8 @@ step_messages law old ctx (calls.Replace exports) replies.Replaced messages new 
     subst HaveForms (sym (replace-quiet old ctx exports messages new step)) tt
 step_messages law old ctx call reply messages new fits within step = absurd step
 
-by_status : (call : NfsCall) (r : Option NfsReply) → nfs_refusal call ≡ r → RefusalHasForm (elim r [ None ↦ refusals.SystemError | Some reply ↦ refusals.Reply (replies.Nfs reply) ])
+by_status : (call : NfsCall) (r : Option NfsReply) → nfs_refusal call ≡ r
+    → RefusalHasForm (elim r [ None ↦ refusals.SystemError | Some reply ↦ refusals.Reply (replies.Nfs reply) ])
 by_status call None is = tt
 by_status call (Some reply) is = subst (λ (r : Option NfsReply). IfSome r IsShort) is (refusals_short call)
 
@@ -123,7 +124,16 @@ asked-within bytes asked is = within-asked ctx asked.call (spelled_calls_fit set
     setting = record { start = 0; limits = record { total_bytes = 0; name_key = [] } }
 
     received : Received
-    received = record { host = 49 ∷ []; bytes = bytes; moment = record { seconds = 0; nanoseconds = 0; in_range = omega arith } }
+    received = record {
+      host = 49 ∷ [];
+      bytes = bytes;
+      moment = record {
+        seconds = 0;
+        nanoseconds = 0;
+        in_range = omega
+            arith;
+      };
+    }
 
     ctx : Ctx
     ctx = context_of setting received.host is.header.ids received.moment

@@ -25,7 +25,8 @@ laws = decided is_addr addresses-decide
 
 -- ---- lists of addresses
 -- an address that is none of them is apart from each
-apart : (a : Addr) (rest : List Addr) → is_member is_addr rest a ≡ false → AllByRecursion (λ b. is_addr a b ≡ false) rest
+apart : (a : Addr) (rest : List Addr) → is_member is_addr rest a ≡ false
+    → AllByRecursion (λ b. is_addr a b ≡ false) rest
 apart a [] none = tt
 apart a (b ∷ rest) none = elim (is_addr a b) as (λ t. is_addr a b ≡ t → (t || is_member is_addr rest a) ≡ false →
     AllByRecursion (λ c. is_addr a c ≡ false) (b ∷ rest)) [
@@ -139,7 +140,8 @@ module _ (s : Store) (a : Addr) (o : Option Object) (count : ℕ) (has : HasObje
       HasObjects (with_write s a o) (count_after count (is_some (s.at a)) (is_some o))
   written-count few = by (is_some (s.at a)) refl (is_some o) refl
     where
-      capped : is_some (s.at a) ≡ false → is_some o ≡ true → HasObjects (with_write s a o) (min (count + 1) (2 ^ 64 - 1))
+      capped : is_some (s.at a) ≡ false → is_some o ≡ true
+          → HasObjects (with_write s a o) (min (count + 1) (2 ^ 64 - 1))
       capped was is = subst (HasObjects (with_write s a o))
           (let below = few (count + 1) (one-more was is) in
           let same : count + 1 ≡ min (count + 1) (2 ^ 64 - 1) = omega arith in same) (one-more was is)
@@ -194,7 +196,8 @@ pub put-count : (old new : List (Addr × KeptValue)) (a : Addr) (o : Option Obje
     after ≡ count_after before (is_some ((store_of old).at a)) (is_some o) → HasObjects (store_of new) after
 put-count old new a o before after has put short is =
     let few : (n : ℕ) → HasObjects (with_write (store_of old) a o) n → n < 2 ^ 64 = λ n many.
-    (let most = few-objects new n (subst (λ (s : Store). HasObjects s n) (sym put) many) in omega (arith, most, short)) in
+    (let most = few-objects new n (subst (λ (s : Store). HasObjects s n) (sym put) many) in omega
+    (arith, most, short)) in
     subst (λ (s : Store). HasObjects s after) (sym put)
     (subst (HasObjects (with_write (store_of old) a o)) (sym is) (written-count (store_of old) a o before has few))
 

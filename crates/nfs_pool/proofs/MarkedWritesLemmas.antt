@@ -1,5 +1,6 @@
 -- Marks of the exports and of the mounts, and marks after a commit.
-use Rattle.std.proofs.Common.{◌≡◌, ◌≢◌, ℕ, zero, suc, ◌==◌, ◌&&◌, true, false, cond, List, [], ◌∷◌, ◌++◌, map, Option, Some, None}
+use Rattle.std.proofs.Common.{◌≡◌, ◌≢◌, ℕ, zero, suc, ◌==◌, ◌&&◌, true, false, cond, List, [], ◌∷◌, ◌++◌, map, Option}
+use Rattle.std.proofs.Common.{Some, None}
 use Rattle.std.proofs.Common.{slice_get, refl, sym, ◌∙◌, ap, subst}
 use Rattle.std.specs.Prelude.{IfSome}
 use Rattle.std.specs.Cmp.{unsigned_Decides}
@@ -78,10 +79,12 @@ each-at P (x ∷ xs) (suc k) all = each-at P xs k all.1
 -- writes in one shard are spent, and others stay as they were
 unspent : (which : ℕ) (w : Addr × Option Object) (a : Addr) → is_addr w.0 a ≡ true → shard_of a ≢ which
     → (spent_in which w).1 ≡ w.1
-unspent which w a same apart = elim (shard_of w.0 == which) as (λ t. (shard_of w.0 == which) ≡ t → cond t None w.1 ≡ w.1) [
-  | true ↦ λ here. absurd (apart (sym (ap shard_of (is_addr-same w.0 a same)) ∙ (unsigned_Decides (shard_of w.0) which).0 here))
-  | false ↦ λ other. refl
-] refl
+unspent which w a same apart = elim (shard_of w.0 == which) as (λ t. (shard_of w.0 == which) ≡ t
+    → cond t None w.1 ≡ w.1) [
+      | true ↦ λ here. absurd (apart (sym (ap shard_of (is_addr-same w.0 a same))
+          ∙ (unsigned_Decides (shard_of w.0) which).0 here))
+      | false ↦ λ other. refl
+    ] refl
 
 pub spent-apart : (which : ℕ) (ws : Writes) (known : Option (Option Object)) (a : Addr) → shard_of a ≢ which
     → written_at known (map (spent_in which) ws) a ≡ written_at known ws a

@@ -53,7 +53,8 @@ module _ (old new : ShardView) where
   got_same a mode id (Ok (got.Taken h)) is b = ap (λ s. s.object) (is.1.shard.slots b)
   got_same a mode id (Err e) is b = ap (λ s. s.object) (is.1.shard.slots b)
 
-  given_back : (id : ℕ) → GivesBack old new id → (b : Addr) → (slot_at new.shard b).object ≡ (slot_at old.shard b).object
+  given_back : (id : ℕ) → GivesBack old new id → (b : Addr)
+      → (slot_at new.shard b).object ≡ (slot_at old.shard b).object
   given_back id is b = is.back.objects b ∙ is.given.objects b
 
   pub tested_same : (id : ℕ) (r : Result Bool ReserveError) → IsTested old new id r
@@ -68,5 +69,8 @@ module _ (old new : ShardView) where
 pub taken_one : (shard shard' : ShardValue) (old new : TxnValue) (a : Addr) (mode : Mode) (id : ℕ)
     → TakesAddress (record { shard = shard; view = old.view }) (record { shard = shard'; view = new.view }) a mode id
     → new ≡ record old { view = new.view }
-    → new ≡ record old { view = with_seen old.view (record { address = a; mode = mode; object = (slot_at shard a).object }) }
+    → new ≡ record old {
+      view = with_seen old.view
+          (record { address = a; mode = mode; object = (slot_at shard a).object });
+    }
 taken_one shard shard' old new a mode id taken rest = rest ∙ ap (λ v. record old { view = v }) taken.seen

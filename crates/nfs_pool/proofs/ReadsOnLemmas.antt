@@ -17,7 +17,8 @@ reads_twice a b c one two = two ∙ ap (λ (t : TxnValue). record t { view = c.v
 pub made_next : (f made : FinishedValue) (last before after : ℕ) (receipt : Receipt) → made ≡ f
     → IsMadeAbove last made receipt → after ≡ before + 2 ^ 64 → IsNext f.received last before after receipt
 made_next f made last before after receipt same is counted =
-    let of_call : IsMadeAbove last f receipt = subst (λ (x : FinishedValue). IsMadeAbove last x receipt) same is in record {
+    let of_call : IsMadeAbove last f receipt = subst (λ (x : FinishedValue). IsMadeAbove last x receipt) same is in
+    record {
       of_call = record { finished = f; received = refl; called = of_call.called; made = of_call.made };
       above = of_call.above;
       counted = counted;

@@ -1,5 +1,7 @@
 -- Receipts in the order of their numbers, beside the records.
-use Rattle.std.proofs.Common.{◌≡◌, ℕ, zero, suc, ◌+◌, ◌<◌, ◌≤◌, ◌&&◌, ◌==◌, Bool, true, false, List, [], ◌∷◌, ◌++◌, length, length-append, map, take, get_or, Some, None, option_map, refl, sym, ◌∙◌, ap, subst, append_assoc, append-nil, arith}
+use Rattle.std.proofs.Common.{◌≡◌, ℕ, zero, suc, ◌+◌, ◌<◌, ◌≤◌, ◌&&◌, ◌==◌, Bool, true, false, List, [], ◌∷◌, ◌++◌}
+use Rattle.std.proofs.Common.{length, length-append, map, take, get_or, Some, None, option_map, refl, sym, ◌∙◌, ap}
+use Rattle.std.proofs.Common.{subst, append_assoc, append-nil, arith}
 use Rattle.std.proofs.Common.{slice_get}
 use Rattle.std.proofs.Math.Bridge.{le_prop}
 use Rattle.std.specs.Bool.{Decides}
@@ -16,7 +18,8 @@ use Rattle.nfs_machine.specs.Run.{Arrival, FromHost, NewExports, Received, Recor
 use Rattle.nfs_machine.specs.SameExports.{exports_decide, same_exports}
 use Rattle.nfs_machine.specs.declared.moment.Moment.{Moment}
 use Rattle.nfs_engine.specs.declared.journal.Receipt.{Receipt}
-use Rattle.nfs_pool.specs.Eras.{AreTold, BeginSo, IfMissing, IsTold, IsToldAt, StandsAt, TellAll, receipts_count, told, told_by, told_each, told_in, told_value}
+use Rattle.nfs_pool.specs.Eras.{AreTold, BeginSo, IfMissing, IsTold, IsToldAt, StandsAt, TellAll, receipts_count, told}
+use Rattle.nfs_pool.specs.Eras.{told_by, told_each, told_in, told_value}
 use Rattle.nfs_pool.specs.Seats.{SeatValue}
 use Rattle.nfs_pool.specs.declared.comparing.Told.{Told}
 use Rattle.nfs_pool.specs.declared.sent.FinishError.{FinishError}

@@ -1,5 +1,6 @@
 -- Receipts that are taken out of lists, from the last record's down.
-use Rattle.std.proofs.Common.{◌≡◌, ℕ, zero, suc, ◌+◌, ◌<◌, List, [], ◌∷◌, ◌++◌, length, length-append, map, drop, get_or, Bool, true, false, Some, slice_get, refl, sym, ◌∙◌, ap, subst, append-nil, arith}
+use Rattle.std.proofs.Common.{◌≡◌, ℕ, zero, suc, ◌+◌, ◌<◌, List, [], ◌∷◌, ◌++◌, length, length-append, map, drop}
+use Rattle.std.proofs.Common.{get_or, Bool, true, false, Some, slice_get, refl, sym, ◌∙◌, ap, subst, append-nil, arith}
 use Rattle.std.specs.Bool.{Decides}
 use Rattle.std.specs.List.{AllByRecursion, remove}
 use Rattle.std.specs.Prelude.{IsPermutation, slice_set}
@@ -8,7 +9,10 @@ use Rattle.std.specs.declared.vec.Vec.{Vec}
 use Rattle.std.proofs.lemmas.Bool.{false≢true}
 use Rattle.std.proofs.lemmas.List.{length-map}
 use Rattle.std.proofs.lemmas.List.Elements.{All-from_recursion, recursion_from_All}
-use Rattle.std.proofs.lemmas.List.Sorted.{All-permutation, IsPermutation-append_left, IsPermutation-append_right, IsPermutation-map, IsPermutation-middle, IsPermutation-remove, IsPermutation-refl, IsPermutation-sym, IsPermutation-trans, length_permutation}
+use Rattle.std.proofs.lemmas.List.Sorted.{All-permutation, IsPermutation-append_left, IsPermutation-append_right}
+use Rattle.std.proofs.lemmas.List.Sorted.{IsPermutation-map, IsPermutation-middle, IsPermutation-remove}
+use Rattle.std.proofs.lemmas.List.Sorted.{IsPermutation-refl, IsPermutation-sym, IsPermutation-trans}
+use Rattle.std.proofs.lemmas.List.Sorted.{length_permutation}
 use Rattle.std.proofs.lemmas.Option.{slice_get_read, slice_get_within}
 use Rattle.nfs_machine.specs.Run.{Record}
 use Rattle.nfs_engine.specs.declared.journal.Receipt.{Receipt}
@@ -34,7 +38,8 @@ module _ (n : ℕ) (r : Record) where
   none_placed [] never = tt
   none_placed (t ∷ xs) never = (
     λ is. never 0 (omega arith) (record { tell = t; there = refl; told = is }),
-    none_placed xs (λ k h at. never (suc k) (omega (arith, h)) (record { tell = at.tell; there = at.there; told = at.told })),
+    none_placed xs (λ k h at. never (suc k) (omega (arith, h))
+        (record { tell = at.tell; there = at.there; told = at.told })),
   )
 
   not_there : (xs : List (ℕ × Record)) (k : ℕ) (t : ℕ × Record) → NoneTells n r xs → slice_get xs k ≡ Some t →
@@ -137,7 +142,8 @@ module _ (before : ℕ) (records : List Record) (all : List (ℕ × Record)) whe
         (IsPermutation-trans (t.taken ++ old) (t.taken ++ takes.0 ∷ new) (takes.0 ∷ t.taken ++ new)
         (IsPermutation-append_right t.taken old (takes.0 ∷ new) takes.2)
         (IsPermutation-middle t.taken takes.0 new));
-    are = subst (λ (rs : List Record). AreTold (before + left) rs (takes.0 ∷ t.taken)) (sym (drop_at records left r there))
+    are = subst (λ (rs : List Record). AreTold (before + left) rs (takes.0 ∷ t.taken))
+        (sym (drop_at records left r there))
         (takes.1, subst (λ (n : ℕ). AreTold n (drop (left + 1) records) t.taken) (omega arith) t.are);
   }
 
@@ -148,7 +154,8 @@ module _ (before : ℕ) (records : List Record) (all : List (ℕ × Record)) whe
   taking_stuck left rest r there t none tell =
       let n = before + left + 1 in
       let above = told-above n (before + (left + 1)) (drop (left + 1) records) t.taken (omega arith) t.are in
-      let nowhere : NoneTells n r (t.taken ++ rest) = none_append n r t.taken rest (none_above n r t.taken above) none in
+      let nowhere : NoneTells n r (t.taken ++ rest) = none_append n r t.taken rest (none_above n r t.taken above)
+      none in
       let none_told : NoneTells n r tell.tells =
       none_moved n r all tell.tells tell.moved
       (none_moved n r (t.taken ++ rest) all (IsPermutation-sym all (t.taken ++ rest) t.moved) nowhere) in
@@ -171,7 +178,13 @@ module _ (before : ℕ) (records : List Record) (all : List (ℕ × Record)) whe
   taking_all rest count t =
       let are : AreTold before records t.taken = subst (λ (n : ℕ). AreTold n records t.taken) (omega arith) t.are in
       let none : rest ≡ [] = nothing_left rest
-      (omega (arith, count, are_many before records t.taken are, length_permutation all (t.taken ++ rest) t.moved, length-append t.taken rest)) in
+      (omega (
+        arith,
+        count,
+        are_many before records t.taken are,
+        length_permutation all (t.taken ++ rest) t.moved,
+        length-append t.taken rest,
+      )) in
       record {
         tells = t.taken;
         moved = subst (λ (ts : List (ℕ × Record)). IsPermutation all ts)

@@ -25,7 +25,8 @@ pub record SeatValue : Type 0 where
   -- no receipt's number is above this one, and each that comes is
   pub last : ℕ
 
--- A share counts 2^64 for each of so many receipts, and for each record of an era that is over one more. There are fewer
+-- A share counts 2^64 for each of so many receipts, and for each record of an era that is over one more. There are
+-- fewer
 -- records than that, so an amount tells how many there are of each.
 abbrev pub Counts : (receipts amount : ℕ) → Type 0
 Counts receipts amount = (past : ℕ) × (amount ≡ 2 ^ 64 * (past + receipts) + past)

@@ -1,5 +1,6 @@
 -- What came in is told by its seat, and answered so.
-use Rattle.std.proofs.Common.{◌≡◌, ℕ, ◌-◌, ◌≤◌, List, [], ◌∷◌, ◌++◌, length, length-append, slice_get, Option, Some, Result, Ok, Err, IfErr, IfOk, IsSome, get_or, refl, sym, ◌∙◌, ap, subst, arith}
+use Rattle.std.proofs.Common.{◌≡◌, ℕ, ◌-◌, ◌≤◌, List, [], ◌∷◌, ◌++◌, length, length-append, slice_get, Option, Some}
+use Rattle.std.proofs.Common.{Result, Ok, Err, IfErr, IfOk, IsSome, get_or, refl, sym, ◌∙◌, ap, subst, arith}
 use Rattle.std.proofs.Math.Seq.{get_or-append_seam}
 use Rattle.std.proofs.lemmas.Option.{get_or_from_slice_get}
 use Rattle.nfs_machine.specs.Run.{Arrival, FromHost}
@@ -67,7 +68,8 @@ last_of before x own all is there =
     ∙ get_or_from_slice_get all (length all - 1) own own there
 
 -- the last receipt of the seat, shared, is the answer
-pub receipt_answers : (n : ℕ) (r : Arrival) (s : SeatValue) → HasReceipt n r s → (list : List Receipt) → list ≡ s.receipts →
+pub receipt_answers : (n : ℕ) (r : Arrival) (s : SeatValue) → HasReceipt n r s → (list : List Receipt)
+    → list ≡ s.receipts →
     (found : Option Receipt) → found ≡ slice_get list (length list - 1) → (own : Receipt) → found ≡ Some own →
     (shared : Receipt) → shared.number ≡ own.number → shared_value shared.executed ≡ shared_value own.executed →
     shared.answer ≡ own.answer → IsAnswerTo n r (answers.Executed shared)

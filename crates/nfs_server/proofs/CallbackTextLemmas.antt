@@ -1,5 +1,6 @@
 -- Callbacks as texts name them.
-use Rattle.std.proofs.Common.{◌≡◌, ◌∙◌, ◌<◌, ◌+◌, ℕ, List, [], ◌∷◌, ◌++◌, length, map, take, drop, refl, sym, ap, subst, suc}
+use Rattle.std.proofs.Common.{◌≡◌, ◌∙◌, ◌<◌, ◌+◌, ℕ, List, [], ◌∷◌, ◌++◌, length, map, take, drop, refl, sym, ap, subst}
+use Rattle.std.proofs.Common.{suc}
 use Rattle.std.proofs.Common.{arith, lit<, get_or}
 use Rattle.std.specs.Prelude.{◌≢◌, Some, None}
 use Rattle.std.specs.Borrow.{Bor}
@@ -21,7 +22,8 @@ pub cut : (text : List ℕ) (host address : Bor (List ℕ)) → IsSplitOnceResul
     (callback : CallbackAddress) → IsCallback text callback →
     (host.now ≡ callback.host) × IsSocketText address.now callback.address
 cut text host address splits callback is =
-    let parts = split_after 61 text callback.host is.address_text (Some (host, address)) splits (lit< tt) is.spelled is.ends in
+    let parts = split_after 61 text callback.host is.address_text (Some (host, address)) splits (lit< tt) is.spelled
+    is.ends in
     (parts.0, subst (λ (t : List ℕ). IsSocketText t callback.address) (sym parts.1) is.address)
 
 -- and where a host and an address stand there, it is that callback

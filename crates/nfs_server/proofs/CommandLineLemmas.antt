@@ -1,10 +1,14 @@
--- The program's command is one of which clap states the matches and the faults exactly: its options are plain flags and options, and
+-- The program's command is one of which clap states the matches and the faults exactly: its options are plain flags and
+-- options, and
 -- none has a rule on another. What the getters of the matches give is then a function of the words.
 use Rattle.std.proofs.Common.{◌≡◌, ◌≤◌, ℕ, Bool, true, false, List, [], ◌∷◌, map, refl, subst, ap, sym, ◌∙◌, inl, inr}
-use Rattle.std.specs.Prelude.{◌⊎◌, IfSome, MatchResult, Option, Some, None, IsSome, Result, Ok, Err, is_some, option_map, unwrap_or, codes}
+use Rattle.std.specs.Prelude.{◌⊎◌, IfSome, MatchResult, Option, Some, None, IsSome, Result, Ok, Err, is_some}
+use Rattle.std.specs.Prelude.{option_map, unwrap_or, codes}
 use Rattle.std.specs.Borrow.{Bor}
 use Rattle.std.specs.Str.Parse.{ParsesUnsigned}
-use Rattle.clap.specs.Words.{App, HasKind, HasMatchesOf, ReadsOne, Row, Text, fault_of, first_of, first_value, found_of, is_simple, is_simple_and_free, kind_of, matched_of, matches_of, one_of, one_text, raw_values, rows_of}
+use Rattle.clap.specs.Words.{App, HasKind, HasMatchesOf, ReadsOne, Row, Text, fault_of, first_of, first_value, found_of}
+use Rattle.clap.specs.Words.{is_simple, is_simple_and_free, kind_of, matched_of, matches_of, one_of, one_text}
+use Rattle.clap.specs.Words.{raw_values, rows_of}
 use Rattle.clap.specs.declared.error.Error.{Error}
 use Rattle.clap.specs.declared.error.kind.ErrorKind.{ErrorKind}
 use Rattle.clap.specs.declared.error.kind.ErrorKind.TheVariants as kind
@@ -22,7 +26,11 @@ use Rattle.nfs_engine.specs.Opening.{IsLimit}
 use Rattle.nfs_server.specs.Limits.{IsWithin}
 use Rattle.nfs_server.specs.declared.limits.Limit.{Limit}
 use Rattle.nfs_server.specs.declared.limits.Limits.{Limits}
-use Rattle.nfs_server.specs.CommandLine.{AreRefused, AreWithin, AsksAlone, AsksControl, AsksStdio, Configures, HasLimits, HasWorkers, IsConflict, IsHostRefusal, IsLimitRefusal, IsParsedFrom, IsRefusal, IsTaken, IsTransportRefusal, IsValueRefusal, NamesAddress, NamesLimit, ReadsOptions, ReadsFlag, ReadsNumber, ReadsTransport, Refuses, exports_of, host_of, nfsd}
+use Rattle.nfs_server.specs.CommandLine.{AreRefused, AreWithin, AsksAlone, AsksControl, AsksStdio, Configures}
+use Rattle.nfs_server.specs.CommandLine.{HasLimits, HasWorkers, IsConflict, IsHostRefusal, IsLimitRefusal, IsParsedFrom}
+use Rattle.nfs_server.specs.CommandLine.{IsRefusal, IsTaken, IsTransportRefusal, IsValueRefusal, NamesAddress}
+use Rattle.nfs_server.specs.CommandLine.{NamesLimit, ReadsOptions, ReadsFlag, ReadsNumber, ReadsTransport, Refuses}
+use Rattle.nfs_server.specs.CommandLine.{exports_of, host_of, nfsd}
 use Rattle.nfs_server.specs.ExportTexts.{export_parts, parts_of}
 use Rattle.nfs_server.specs.CommandLine.{GivesExports, IsBadCallback, callbacks_of}
 use Rattle.nfs_server.specs.Callbacks.{RefusesCallbacks}
@@ -60,23 +68,28 @@ refuses_kinds words e (inr among) = elim (exit_of_kind-cases (kind_of e) e) [
 pub refuses_command : (a : App) (words : List Text) (e : Error) → a ≡ nfsd
     → (is_simple_and_free a ≡ true → HasKind (fault_of a words) e) → Refuses words (exit_of_command e)
 refuses_command a words e is kinds =
-    refuses_kinds words e (subst (λ (b : App). HasKind (fault_of b words) e) is (kinds (ap is_simple_and_free is ∙ nfsd_is_simple_and_free)))
+    refuses_kinds words e (subst (λ (b : App). HasKind (fault_of b words) e) is (kinds (ap is_simple_and_free is
+    ∙ nfsd_is_simple_and_free)))
 
 -- the matches are those of the words
 pub parsed_from : (a : App) (words : List Text) (m : ArgMatches) → a ≡ nfsd
     → (is_simple_and_free a ≡ true → fault_of a words ≡ []) → HasMatchesOf a words m → IsParsedFrom words m
 parsed_from a words m is kinds has = record {
-  faultless = subst (λ (b : App). fault_of b words ≡ []) is (kinds (ap is_simple_and_free is ∙ nfsd_is_simple_and_free));
+  faultless = subst (λ (b : App). fault_of b words ≡ []) is (kinds (ap is_simple_and_free is
+      ∙ nfsd_is_simple_and_free));
   rows = subst (λ (b : App). rows_of (found_of m) ≡ matches_of b words) is (has (ap is_simple is ∙ nfsd_is_simple)).0;
 }
 
 -- the host that is read is that of the rows
-pub host_read : (f : Found) (r : Option (Bor Text)) (d : Bor Text) → option_map (λ s. s.now) r ≡ first_value f (codes "host")
+pub host_read : (f : Found) (r : Option (Bor Text)) (d : Bor Text)
+    → option_map (λ s. s.now) r ≡ first_value f (codes "host")
     → d.now ≡ codes "127.0.0.1" → (unwrap_or r d).now ≡ host_of (rows_of f)
-host_read f None d is default = default ∙ ap (λ o. unwrap_or o (codes "127.0.0.1")) (is ∙ first_value-rows f (codes "host"))
+host_read f None d is default = default ∙ ap (λ o. unwrap_or o (codes "127.0.0.1")) (is
+    ∙ first_value-rows f (codes "host"))
 host_read f (Some h) d is default = ap (λ o. unwrap_or o (codes "127.0.0.1")) (is ∙ first_value-rows f (codes "host"))
 
-parts_of_texts : (texts : List (Bor Text)) → map (λ t. export_parts t.now) texts ≡ map export_parts (map (λ t. t.now) texts)
+parts_of_texts : (texts : List (Bor Text)) → map (λ t. export_parts t.now) texts ≡ map export_parts
+    (map (λ t. t.now) texts)
 parts_of_texts [] = refl
 parts_of_texts (t ∷ texts) = ap (λ rest. export_parts t.now ∷ rest) (parts_of_texts texts)
 
@@ -113,7 +126,8 @@ exit_of_exports-cases export.Memory = inl refl
 exit_of_exports-cases _ = inr refl
 
 -- exports that are refused are told as such, or as want of memory
-pub refuses_exports : (rows : List Row) (list : List ExportText) (e : ExportError) → map parts_of list ≡ map export_parts (exports_of rows)
+pub refuses_exports : (rows : List Row) (list : List ExportText) (e : ExportError)
+    → map parts_of list ≡ map export_parts (exports_of rows)
     → (e ≡ export.Memory) ⊎ (export_fault list ≡ Some e) → IsRefusal rows (exit_of_exports e)
 refuses_exports rows list e are (inl memory) = subst (IsRefusal rows) (sym (ap exit_of_exports memory)) tt
 refuses_exports rows list e are (inr fault) = elim (exit_of_exports-cases e) [
@@ -154,7 +168,8 @@ refuses_limit limit rows value Receipts names other refused = absurd refused
 refuses_limit limit rows value (CannotListen text) names other refused = absurd refused
 
 -- two transports are refused
-pub refuses_conflict : (rows : List Row) (exit : Exit) → AsksStdio rows true → NamesAddress rows ⊎ AsksControl rows true → IsConflict exit
+pub refuses_conflict : (rows : List Row) (exit : Exit) → AsksStdio rows true → NamesAddress rows ⊎ AsksControl rows true
+    → IsConflict exit
     → IsTransportRefusal rows exit
 refuses_conflict rows (CommandLine e) asks names refused = (asks, names, refused)
 refuses_conflict rows Memory asks names refused = tt
@@ -314,12 +329,15 @@ refuses_callbacks rows exports (callback.BadForm number) gives bad = (bad, (expo
 refuses_callbacks rows exports callback.Memory gives bad = tt
 
 -- what `Exports::new` says, by its result
-pub exports_made : (list : List ExportText) (r : Result (List ExportValue) ExportError) → IfSome (export_fault list) (λ fault. r ≡ Err fault)
+pub exports_made : (list : List ExportText) (r : Result (List ExportValue) ExportError)
+    → IfSome (export_fault list) (λ fault. r ≡ Err fault)
     → (export_fault list ≡ None → MatchResult r (λ exports. exports ≡ map export_of list) (λ e. e ≡ export.Memory))
-    → MatchResult r (λ exports. (export_fault list ≡ None) × (exports ≡ map export_of list)) (λ e. (e ≡ export.Memory) ⊎ (export_fault list ≡ Some e))
+    → MatchResult r (λ exports. (export_fault list ≡ None) × (exports ≡ map export_of list))
+    (λ e. (e ≡ export.Memory) ⊎ (export_fault list ≡ Some e))
 exports_made list r at_fault faultless =
     let P : Result (List ExportValue) ExportError → Type 0 =
-    λ r. MatchResult r (λ exports. (export_fault list ≡ None) × (exports ≡ map export_of list)) (λ e. (e ≡ export.Memory) ⊎ (export_fault list ≡ Some e)) in
+    λ r. MatchResult r (λ exports. (export_fault list ≡ None) × (exports ≡ map export_of list))
+    (λ e. (e ≡ export.Memory) ⊎ (export_fault list ≡ Some e)) in
     let go : (o : Option ExportError) → export_fault list ≡ o → IfSome o (λ fault. r ≡ Err fault) → P r =
     λ o. elim o as (λ (o : Option ExportError). export_fault list ≡ o → IfSome o (λ fault. r ≡ Err fault) → P r) [
       | None ↦ λ is told. MatchResult-weaker r (faultless is) (λ exports e. (is, e)) (λ e memory. inl memory)
@@ -328,7 +346,8 @@ exports_made list r at_fault faultless =
     go (export_fault list) refl at_fault
 
 -- a value that is refused refuses the host, where that has another length
-pub refuses_host : (rows : List Row) (exit : Exit) → (IsHost (host_of rows) → ⊥) → IsValueRefusal exit → IsHostRefusal rows exit
+pub refuses_host : (rows : List Row) (exit : Exit) → (IsHost (host_of rows) → ⊥) → IsValueRefusal exit
+    → IsHostRefusal rows exit
 refuses_host rows (CommandLine e) other refused = (other, refused)
 refuses_host rows Memory other refused = tt
 refuses_host rows NoTransport other refused = absurd refused

@@ -1,5 +1,7 @@
 -- The header of a fragment tells how many bytes it has, and behind those the next one begins.
-use Rattle.std.proofs.Common.{◌≡◌, ◌∙◌, ℕ, zero, suc, ◌+◌, ◌-◌, ◌*◌, ◌%◌, ◌^◌, ◌<◌, ◌≤◌, Bool, true, false, List, [], ◌∷◌, ◌++◌, length, drop, max, refl, ap, arith, subst, sym, tests, append_assoc, length-append, nat_le}
+use Rattle.std.proofs.Common.{◌≡◌, ◌∙◌, ℕ, zero, suc, ◌+◌, ◌-◌, ◌*◌, ◌%◌, ◌^◌, ◌<◌, ◌≤◌, Bool, true, false, List, []}
+use Rattle.std.proofs.Common.{◌∷◌, ◌++◌, length, drop, max, refl, ap, arith, subst, sym, tests, append_assoc}
+use Rattle.std.proofs.Common.{length-append, nat_le}
 use Rattle.std.specs.Int.{w32, to_be_bytes, byte_at}
 use Rattle.std.specs.List.{concat, flat_map}
 use Rattle.nfs_rpc.specs.Records.{IsMarked, fragment, mark}

@@ -1,5 +1,6 @@
 -- Bytes of a fragment that are taken at once lead to where they lead one by one.
-use Rattle.std.proofs.Common.{◌≡◌, ◌∙◌, ℕ, zero, suc, ◌-◌, ◌<◌, ◌≤◌, ◌||◌, Bool, true, false, List, [], ◌∷◌, length, drop, length-drop, max, min, refl, ap, arith, subst, sym, take, tests}
+use Rattle.std.proofs.Common.{◌≡◌, ◌∙◌, ℕ, zero, suc, ◌-◌, ◌<◌, ◌≤◌, ◌||◌, Bool, true, false, List, [], ◌∷◌, length}
+use Rattle.std.proofs.Common.{drop, length-drop, max, min, refl, ap, arith, subst, sym, take, tests}
 use Rattle.std.proofs.lemmas.List.{take_all}
 use Rattle.nfs_server.specs.Stages.{StepsOn, behind, has_ended, in_body, is_between}
 use Rattle.nfs_server.specs.declared.marks.Stage.{Stage}

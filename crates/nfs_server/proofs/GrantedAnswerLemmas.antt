@@ -15,7 +15,8 @@ use Rattle.side_wire.specs.declared.nlm.NlmResult.{NlmResult}
 use Rattle.nfs_server.specs.CalledBack.{IsNoAnswer, SpellsAnswer, done_value, reply_header}
 
 -- a header that is read, and a result behind it, are an answer
-pub answer-found : (xid : ℕ) (bytes rest : List ℕ) (verifier : Value opaque_auth) (granted : NlmResult) → IsBytes bytes →
+pub answer-found : (xid : ℕ) (bytes rest : List ℕ) (verifier : Value opaque_auth) (granted : NlmResult)
+    → IsBytes bytes →
     read reply_header bytes ≡ Ok (done_value xid verifier, rest) → IsFrontedBy SpellsResult granted rest →
     IsFrontedBy (SpellsAnswer xid) granted bytes
 answer-found xid bytes rest verifier granted are reads result =
@@ -27,7 +28,8 @@ answer-found xid bytes rest verifier granted are reads result =
     )
 
 -- its byte string is within its bound
-pub result-form : (granted : NlmResult) (bytes : List ℕ) → IsFrontedBy SpellsResult granted bytes → HasResultForm granted
+pub result-form : (granted : NlmResult) (bytes : List ℕ) → IsFrontedBy SpellsResult granted bytes
+    → HasResultForm granted
 result-form granted bytes result =
     (spelled_has_spelling nlm4_res (result_value granted) result.0 result.3).0.0
 
@@ -67,7 +69,8 @@ pub none-other : (xid : ℕ) (bytes rest : List ℕ) (header : Value reply_heade
 none-other xid bytes rest header reads other granted answer =
     let has = has-header xid bytes granted answer in
     let same : (header, rest) ≡ (done_value xid has.verifier, has.rest) =
-    ok_is {A = Value reply_header × List ℕ} (header, rest) (done_value xid has.verifier, has.rest) (sym reads ∙ has.reads) in
+    ok_is {A = Value reply_header × List ℕ} (header, rest) (done_value xid has.verifier, has.rest) (sym reads
+    ∙ has.reads) in
     other has.verifier (ap (λ (p : Value reply_header × List ℕ). p.0) same)
 
 -- what has no result behind its header is none
@@ -76,7 +79,8 @@ pub none-without : (xid : ℕ) (bytes rest : List ℕ) (header : Value reply_hea
 none-without xid bytes rest header reads lacks granted answer =
     let has = has-header xid bytes granted answer in
     let same : (header, rest) ≡ (done_value xid has.verifier, has.rest) =
-    ok_is {A = Value reply_header × List ℕ} (header, rest) (done_value xid has.verifier, has.rest) (sym reads ∙ has.reads) in
+    ok_is {A = Value reply_header × List ℕ} (header, rest) (done_value xid has.verifier, has.rest) (sym reads
+    ∙ has.reads) in
     let behind : rest ≡ has.rest = ap (λ (p : Value reply_header × List ℕ). p.1) same in
     lacks granted has.result.0 has.result.1 (behind ∙ has.result.2) has.result.3
 

@@ -1,5 +1,7 @@
 -- What a record is answered: its fault, its refusal, or the reply of its step.
-use Rattle.std.proofs.Common.{◌≡◌, ℕ, ◌+◌, List, [], ◌∷◌, ◌++◌, length, Bool, true, false, cond, Option, Some, None, IsSome, IfSome, Result, Ok, Err, IfOk, OnErr, ◌≢◌, inl, inr, refl, sym, ◌∙◌, ap, subst, arith}
+use Rattle.std.proofs.Common.{◌≡◌, ℕ, ◌+◌, List, [], ◌∷◌, ◌++◌, length, Bool, true, false, cond, Option, Some, None}
+use Rattle.std.proofs.Common.{IsSome, IfSome, Result, Ok, Err, IfOk, OnErr, ◌≢◌, inl, inr, refl, sym, ◌∙◌, ap, subst}
+use Rattle.std.proofs.Common.{arith}
 use Rattle.std.specs.declared.alloc.AllocError.{AllocError}
 use Rattle.std.specs.declared.alloc.Global.{Global}
 use Rattle.std.specs.declared.vec.Vec.{Vec}
@@ -85,7 +87,12 @@ module _ (e f : EngineValue) (era : Era) (takes : TakesEra e.book f.book era) (s
     objects = ap (λ (b : BookValue). b.objects) takes.rest;
     outbox = ap (λ (b : BookValue). b.outbox) takes.rest;
     replies = ap (λ (b : BookValue). b.replies) takes.rest;
-    count = omega (arith, ap (λ (b : BookValue). b.before) takes.rest, ap (λ (b : BookValue). length b.records) takes.rest);
+    count = omega (
+      arith,
+      ap (λ (b : BookValue). b.before) takes.rest,
+      ap (λ (b : BookValue). length b.records)
+          takes.rest,
+    );
   }
 
   pub era_rests : IsAtRest e → IsAtRest f
@@ -272,7 +279,8 @@ module _ (e f : EngineValue) (received : Received) (reading : Reading) (receipt 
       (success_message x.done.xid x.done.done.change.reply) x.begun.book.replies f.book.replies) x.received
       x.executes.keeps))
 
-  same_unkept : IfSome (origin_of (FromHost received) x.done.done.call) (λ origin. kept_for e.book.replies origin ≡ None)
+  same_unkept : IfSome (origin_of (FromHost received) x.done.done.call)
+      (λ origin. kept_for e.book.replies origin ≡ None)
   same_unkept =
       subst (λ (c : Call). IfSome (origin_of (FromHost received) c) (λ origin. kept_for e.book.replies origin ≡ None))
       (sym x.call) x.unkept

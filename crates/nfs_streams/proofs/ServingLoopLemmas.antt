@@ -1,5 +1,7 @@
 -- What the loops of serving keep: so much is written, answered, gathered, taken in.
-use Rattle.std.proofs.Common.{◌≡◌, ℕ, ◌≤◌, List, [], ◌∷◌, ◌++◌, inl, inr, length, take, drop, take-append-drop, append_assoc, append-nil, Option, Result, Ok, Err, IfErr, OnOk, OnErr, refl, sym, ◌∙◌, ap, subst}
+use Rattle.std.proofs.Common.{◌≡◌, ℕ, ◌≤◌, List, [], ◌∷◌, ◌++◌, inl, inr, length, take, drop, take-append-drop}
+use Rattle.std.proofs.Common.{append_assoc, append-nil, Option, Result, Ok, Err, IfErr, OnOk, OnErr, refl, sym, ◌∙◌, ap}
+use Rattle.std.proofs.Common.{subst}
 use Rattle.nfs_streams.specs.declared.serving.StreamFault.{StreamFault}
 use Rattle.nfs_streams.specs.declared.serving.StreamFault.TheVariants.{Read, TooLarge, Write, Memory}
 use Rattle.nfs_streams.proofs.AnswersJoinLemmas.{answered_join, answered_nothing}
@@ -26,7 +28,8 @@ pub writing_more : (before now later : Option (List ℕ)) (bytes rest left : Lis
 writing_more before now later bytes rest left failures fails failed n w more is same = record {
   sent = w.sent ++ take n rest;
   cut =
-      w.cut ∙ ap (λ l. w.sent ++ l) (sym (take-append-drop n rest)) ∙ sym (append_assoc w.sent (take n rest) (drop n rest))
+      w.cut ∙ ap (λ l. w.sent ++ l) (sym (take-append-drop n rest))
+      ∙ sym (append_assoc w.sent (take n rest) (drop n rest))
       ∙ ap (λ l. (w.sent ++ take n rest) ++ l) (sym is);
   written = Appends-trans before now later w.sent (take n rest) w.written more;
   same = same ∙ w.same;
@@ -213,13 +216,15 @@ module _ {Clock : Type 0} (gives : Clock → Moment → Clock → Type 0) (host 
     (old engine next : EngineValue) (before now after : Option (List ℕ)) (initial records left : RecordsValue)
     (held : List ℕ) (failures fails failed : ℕ) where
   -- what was answered, and the answer of the next record
-  joined : (r answer : List ℕ) (a : Answering gives host first clock old engine before now initial records held failures fails) →
+  joined : (r answer : List ℕ) (a : Answering gives host first clock old engine before now initial records held failures
+      fails) →
       AreAnswered gives host (r ∷ []) clock later engine next answer →
       AreAnswered gives host (a.served ++ r ∷ []) first later old next (a.sent ++ (held ++ answer))
   joined r answer a b =
       subst (λ (w : List ℕ). AreAnswered gives host (a.served ++ r ∷ []) first later old next w)
       (append_assoc a.sent held answer)
-      (answered_join gives host first clock later a.served (r ∷ []) old engine next (a.sent ++ held) answer a.answered b)
+      (answered_join gives host first clock later a.served (r ∷ []) old engine next (a.sent ++ held) answer
+      a.answered b)
 
   -- the next record is answered
   pub answering_more : (kept r : List ℕ) →
@@ -367,7 +372,9 @@ module _ {Clock : Type 0} (gives : Clock → Moment → Clock → Type 0) (host 
 
 -- ---- the pieces of the input
 -- a front of the input is taken in, in at least so many bytes as there were reads, and all its records are answered
-pub record Taking {Clock : Type 0} (gives : Clock → Moment → Clock → Type 0) (host : List ℕ) (first clock : Clock) (old engine : EngineValue) (before now : Option (List ℕ)) (unread left : Option (List ℕ)) (records : RecordsValue) (reads : ℕ) (reading readings writing writings : ℕ) : Type 0 where
+pub record Taking {Clock : Type 0} (gives : Clock → Moment → Clock → Type 0) (host : List ℕ) (first clock : Clock)
+    (old engine : EngineValue) (before now : Option (List ℕ)) (unread left : Option (List ℕ)) (records : RecordsValue)
+    (reads : ℕ) (reading readings writing writings : ℕ) : Type 0 where
   pub fed : List ℕ
   pub given : List (List ℕ)
   pub holds : Holds records fed given

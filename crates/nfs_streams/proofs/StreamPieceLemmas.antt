@@ -1,5 +1,6 @@
 -- A piece that is taken in follows what was taken in before, and its records follow those that were answered.
-use Rattle.std.proofs.Common.{◌≡◌, ◌≢◌, ℕ, ◌+◌, ◌<◌, ◌≤◌, ◌⊎◌, inl, inr, List, [], ◌∷◌, ◌++◌, length, length-append, Option, Some, None, Result, Err, refl, sym, ◌∙◌, ap, subst, append-nil, arith}
+use Rattle.std.proofs.Common.{◌≡◌, ◌≢◌, ℕ, ◌+◌, ◌<◌, ◌≤◌, ◌⊎◌, inl, inr, List, [], ◌∷◌, ◌++◌, length, length-append}
+use Rattle.std.proofs.Common.{Option, Some, None, Result, Err, refl, sym, ◌∙◌, ap, subst, append-nil, arith}
 use Rattle.std.proofs.KnownBytes.{Consumes-kept, Consumes-nil, Consumes-trans}
 use Rattle.std.specs.Io.KnownBytes.{Consumes, IsAtEnd}
 use Rattle.nfs_rpc.specs.Records.{RecordsValue, Holds, IsStream, IsTooLarge}
@@ -46,20 +47,24 @@ piece_of Write left later keeps = ([], Consumes-kept left left later [] (Consume
 piece_of TooLarge left later keeps = ([], Consumes-kept left left later [] (Consumes-nil left) keeps, refl)
 piece_of Memory left later (piece, most, read) = (piece, read, inr (most, refl))
 
-pub more_of : (taken : Taken) (old new : RecordsValue) (piece : List ℕ) (left : Option (List ℕ)) → taken ≢ End → TakesIn taken old new piece left → (0 < length piece) × FollowsOn old new piece
+pub more_of : (taken : Taken) (old new : RecordsValue) (piece : List ℕ) (left : Option (List ℕ)) → taken ≢ End
+    → TakesIn taken old new piece left → (0 < length piece) × FollowsOn old new piece
 more_of End old new piece left more t = absurd (more refl)
 more_of Piece old new piece left more t = (t.0, t.1)
 more_of Refused old new piece left more t = (t.0, t.1)
 
 -- a piece that is not refused makes no record too large
-pub taken_within : (taken : Taken) (old new : RecordsValue) (piece : List ℕ) (left : Option (List ℕ)) → taken ≢ End → taken ≢ Refused → TakesIn taken old new piece left
+pub taken_within : (taken : Taken) (old new : RecordsValue) (piece : List ℕ) (left : Option (List ℕ)) → taken ≢ End
+    → taken ≢ Refused → TakesIn taken old new piece left
     → (stream : List ℕ) (given : List (List ℕ)) → Holds old stream given → IsTooLarge (stream ++ piece) → ⊥
 taken_within End old new piece left more other t = absurd (more refl)
 taken_within Piece old new piece left more other t = t.2
 taken_within Refused old new piece left more other t = absurd (other refl)
 
-module _ {Clock : Type 0} (gives : Clock → Moment → Clock → Type 0) (host : List ℕ) (first clock : Clock) (old engine : EngineValue) (before now unread left : Option (List ℕ))
-    (records : RecordsValue) (reads reading readings writing writings : ℕ) (t : Taking gives host first clock old engine before now unread left records reads reading readings writing writings) where
+module _ {Clock : Type 0} (gives : Clock → Moment → Clock → Type 0) (host : List ℕ) (first clock : Clock)
+    (old engine : EngineValue) (before now unread left : Option (List ℕ))
+    (records : RecordsValue) (reads reading readings writing writings : ℕ) (t : Taking gives host first clock old engine
+    before now unread left records reads reading readings writing writings) where
   -- a fault before the next piece
   pub fault_taking : (fault : StreamFault) (later : Option (List ℕ)) →
       EndsBy gives fault [] [] clock clock engine engine → IsFaultOf fault t.fed →
@@ -72,7 +77,8 @@ module _ {Clock : Type 0} (gives : Clock → Moment → Clock → Type 0) (host 
         piece = piece;
         contents = t.given;
         rest = t.holds.rest;
-        read = read_of unread later input (t.fed ++ piece) (Consumes-trans unread left later t.fed piece t.read read) is;
+        read = read_of unread later input (t.fed ++ piece) (Consumes-trans unread left later t.fed piece t.read
+            read) is;
         split =
             subst (λ (q : List (List ℕ)). IsStream t.fed q t.holds.rest)
             (ap (λ l. t.given ++ l) t.none ∙ append-nil t.given) t.holds.split;
@@ -85,13 +91,15 @@ module _ {Clock : Type 0} (gives : Clock → Moment → Clock → Type 0) (host 
       → (input : List ℕ) → unread ≡ Some input → ServesAll gives host input first clock old engine before now
   all_taken fuller ahead taken input is =
       let read = subst (λ (p : List ℕ). Consumes left ahead p) taken.takes.0 taken.read in
-      let whole = whole_of unread ahead input (t.fed ++ []) (Consumes-trans unread left ahead t.fed [] t.read read) taken.takes.2 is in
+      let whole = whole_of unread ahead input (t.fed ++ []) (Consumes-trans unread left ahead t.fed [] t.read read)
+      taken.takes.2 is in
       record {
         contents = t.given;
         rest = t.holds.rest;
         split =
             subst (λ (s : List ℕ). IsStream s t.given t.holds.rest) (sym (append-nil t.fed) ∙ whole)
-            (subst (λ (q : List (List ℕ)). IsStream t.fed q t.holds.rest) (ap (λ l. t.given ++ l) t.none ∙ append-nil t.given) t.holds.split);
+            (subst (λ (q : List (List ℕ)). IsStream t.fed q t.holds.rest) (ap (λ l. t.given ++ l) t.none
+            ∙ append-nil t.given) t.holds.split);
         within = subst (λ (s : List ℕ). IsTooLarge s → ⊥) (sym (append-nil t.fed) ∙ whole) t.within;
         goes = t.goes;
       }
@@ -118,7 +126,8 @@ module _ {Clock : Type 0} (gives : Clock → Moment → Clock → Type 0) (host 
           (Consumes-trans unread left ahead t.fed takes.piece t.read takes.read))
           is;
       split = follows.split;
-      stops = stops_join gives host fault first clock later t.given fuller.queued old engine next before now after t.goes stops;
+      stops = stops_join gives host fault first clock later t.given fuller.queued old engine next before now after
+          t.goes stops;
       leaves_out = leaves_none fault _;
       is_fault = is_fault;
     }
@@ -127,9 +136,11 @@ module _ {Clock : Type 0} (gives : Clock → Moment → Clock → Type 0) (host 
     pub taking_more : taken ≢ Refused
         → (later : Clock) (next : EngineValue) (after : Option (List ℕ)) (served : RecordsValue) (reads' writes' : ℕ)
         → AreServed gives host fuller.queued clock later engine next now after → served.queued ≡ []
-        → ((stream : List ℕ) (given : List (List ℕ)) → Holds fuller stream given → Holds served stream (given ++ fuller.queued))
+        → ((stream : List ℕ) (given : List (List ℕ)) → Holds fuller stream given
+        → Holds served stream (given ++ fuller.queued))
         → reads' ≡ readings → writes' ≡ writings
-        → Taking gives host first later old next before after unread ahead served (reads + 1) reading reads' writing writes'
+        → Taking gives host first later old next before after unread ahead served (reads + 1) reading reads' writing
+        writes'
     taking_more other later next after served reads' writes' goes none holds reader writer =
         let some : 0 < length takes.piece = (more_of taken records fuller takes.piece ahead more takes.takes).0 in
         let many : reads ≤ length t.fed = t.many in
@@ -140,16 +151,19 @@ module _ {Clock : Type 0} (gives : Clock → Moment → Clock → Type 0) (host 
           none = none;
           within = taken_within taken records fuller takes.piece ahead more other takes.takes t.fed t.given t.holds;
           read = Consumes-trans unread left ahead t.fed takes.piece t.read takes.read;
-          goes = goes_join gives host first clock later t.given fuller.queued old engine next before now after t.goes goes;
+          goes = goes_join gives host first clock later t.given fuller.queued old engine next before now after
+              t.goes goes;
           many = omega (arith, length-append t.fed takes.piece);
           same_reader = reader ∙ t.same_reader;
           same_writer = writer ∙ t.same_writer;
         }
 
 -- where a piece was refused a record is too large
-pub refused_large : (taken : Taken) (old new : RecordsValue) (piece : List ℕ) (left : Option (List ℕ)) (stream : List ℕ) (given : List (List ℕ)) → taken ≡ Refused → TakesIn taken old new piece left
+pub refused_large : (taken : Taken) (old new : RecordsValue) (piece : List ℕ) (left : Option (List ℕ)) (stream : List ℕ)
+    (given : List (List ℕ)) → taken ≡ Refused → TakesIn taken old new piece left
     → Holds old stream given → IsTooLarge (stream ++ piece)
-refused_large taken old new piece left stream given is takes holds = (subst (λ (t : Taken). TakesIn t old new piece left) is takes).2 stream given holds
+refused_large taken old new piece left stream given is takes
+    holds = (subst (λ (t : Taken). TakesIn t old new piece left) is takes).2 stream given holds
 
 -- no record begins an empty stream
 no_record : (records : List (List ℕ)) (rest : List ℕ) → IsStream [] records rest → records ≡ []
@@ -164,13 +178,16 @@ none_too_large ([], rest, split, large) =
     let whole = large.whole in
     let empty : rest ≡ [] = split.0 in
     omega (arith, simp length-append at (ap length whole), ap length empty)
-none_too_large (content ∷ records, rest, split, large) = let none : (content ∷ records) ≡ [] = no_record (content ∷ records) rest split in cc
+none_too_large (content ∷ records, rest, split, large) = let none : (content ∷ records) ≡ [] = no_record
+    (content ∷ records) rest split in cc
 
 pub nothing_queued : (v : RecordsValue) → Holds v [] [] → v.queued ≡ []
 nothing_queued v holds = no_record v.queued holds.rest holds.split
 
-pub taking_none : {Clock : Type 0} (gives : Clock → Moment → Clock → Type 0) (host : List ℕ) (first : Clock) (old : EngineValue) (before unread : Option (List ℕ)) (records : RecordsValue) (reading writing : ℕ)
-    → Holds records [] [] → Taking gives host first first old old before before unread unread records 0 reading reading writing writing
+pub taking_none : {Clock : Type 0} (gives : Clock → Moment → Clock → Type 0) (host : List ℕ) (first : Clock)
+    (old : EngineValue) (before unread : Option (List ℕ)) (records : RecordsValue) (reading writing : ℕ)
+    → Holds records [] [] → Taking gives host first first old old before before unread unread records 0 reading reading
+    writing writing
 taking_none gives host first old before unread records reading writing holds = record {
   fed = [];
   given = [];
@@ -185,12 +202,16 @@ taking_none gives host first old before unread records reading writing holds = r
 }
 
 -- a fault in taking a piece in is of the reader or of memory
-pub ends_early : {Clock P : Type 0} (gives : Clock → Moment → Clock → Type 0) (clock : Clock) (engine : EngineValue) (e : StreamFault) → ((e ≡ Read) × P) ⊎ (e ≡ Memory)
+pub ends_early : {Clock P : Type 0} (gives : Clock → Moment → Clock → Type 0) (clock : Clock) (engine : EngineValue)
+    (e : StreamFault) → ((e ≡ Read) × P) ⊎ (e ≡ Memory)
     → EndsBy gives e [] [] clock clock engine engine
-ends_early gives clock engine e (inl is) = subst (λ (f : StreamFault). EndsBy gives f [] [] clock clock engine engine) (sym is.0) (refl, (refl, refl, refl))
-ends_early gives clock engine e (inr is) = subst (λ (f : StreamFault). EndsBy gives f [] [] clock clock engine engine) (sym is) (refl, inl (refl, refl, refl))
+ends_early gives clock engine e (inl is) = subst (λ (f : StreamFault). EndsBy gives f [] [] clock clock engine engine)
+    (sym is.0) (refl, (refl, refl, refl))
+ends_early gives clock engine e (inr is) = subst (λ (f : StreamFault). EndsBy gives f [] [] clock clock engine engine)
+    (sym is) (refl, inl (refl, refl, refl))
 
-pub early_fault : {P : Type 0} (e : StreamFault) (fed : List ℕ) → (IsTooLarge fed → ⊥) → ((e ≡ Read) × P) ⊎ (e ≡ Memory) → IsFaultOf e fed
+pub early_fault : {P : Type 0} (e : StreamFault) (fed : List ℕ) → (IsTooLarge fed → ⊥) → ((e ≡ Read) × P) ⊎ (e ≡ Memory)
+    → IsFaultOf e fed
 early_fault e fed within (inl is) = subst (λ (f : StreamFault). IsFaultOf f fed) (sym is.0) within
 early_fault e fed within (inr is) = subst (λ (f : StreamFault). IsFaultOf f fed) (sym is) tt
 
@@ -202,7 +223,8 @@ pub later_not_read : {P : Type 0} (e : StreamFault) → ((e ≡ Write) × P) ⊎
 later_not_read e (inl is) read = let f : Write ≡ Read = sym is.0 ∙ read in cc
 later_not_read e (inr is) read = let f : Memory ≡ Read = sym is ∙ read in cc
 
-pub later_write : (e : StreamFault) (now before first : ℕ) → ((e ≡ Write) × (now ≡ one_more before)) ⊎ (e ≡ Memory) → before ≡ first → e ≡ Write → now ≡ one_more first
+pub later_write : (e : StreamFault) (now before first : ℕ) → ((e ≡ Write) × (now ≡ one_more before)) ⊎ (e ≡ Memory)
+    → before ≡ first → e ≡ Write → now ≡ one_more first
 later_write e now before first (inl is) same write = is.1 ∙ ap one_more same
 later_write e now before first (inr is) same write = let f : Memory ≡ Write = sym is ∙ write in cc
 
@@ -219,7 +241,8 @@ pub refused_write : failed TooLarge ≡ failed Write → ⊥
 refused_write e = let f : TooLarge ≡ Write = cc in cc
 
 -- a fault before the first piece
-pub front_none : {Clock : Type 0} (gives : Clock → Moment → Clock → Type 0) (host : List ℕ) (first : Clock) (old : EngineValue) (before unread : Option (List ℕ)) (records : RecordsValue)
+pub front_none : {Clock : Type 0} (gives : Clock → Moment → Clock → Type 0) (host : List ℕ) (first : Clock)
+    (old : EngineValue) (before unread : Option (List ℕ)) (records : RecordsValue)
     → Holds records [] [] → (input : List ℕ) → unread ≡ Some input →
     ServesFront gives host input unread Memory first first old old before before
 front_none gives host first old before unread records holds input is = record {

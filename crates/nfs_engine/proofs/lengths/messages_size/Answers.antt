@@ -9,7 +9,8 @@ pub loop-message-preserved : goal.loop-message-preserved
 loop-message-preserved c = λ forms.
     let form = form-at c.args.messages.now c.loop-message.message-index c.message-item.result forms
     (omega arith) c.message-item.is in
-    c.saturating_add-size.ensures ∙ sizes-more c.args.messages.now c.loop-message.message-index c.message-item.result _ _ (omega arith)
+    c.saturating_add-size.ensures ∙ sizes-more c.args.messages.now c.loop-message.message-index c.message-item.result _
+    _ (omega arith)
     c.message-item.is (c.loop-message.invariant forms) (c.message_size.ensures form)
 
 pub returns : goal.returns

@@ -11,7 +11,8 @@ pub steps-preserved-in-Acquire : goal.steps-preserved-in-Acquire
 steps-preserved-in-Acquire g c =
     let taken = c.in_ok-acquire-in-Acquire.ensures.taken in
     let next : Addr × Mode = (c.in-Acquire.address, c.in-Acquire.mode) in (
-      reads_twice c.args.txn.now c.steps.txn c.acquire.new.txn c.steps.invariant.0 (reads_so c.steps.txn c.acquire.new.txn _ taken.1),
+      reads_twice c.args.txn.now c.steps.txn c.acquire.new.txn c.steps.invariant.0
+          (reads_so c.steps.txn c.acquire.new.txn _ taken.1),
       taken_on c.steps.txn c.acquire.new.txn next taken.0 c.in-Acquire.after
           (subst (λ (t : TxnValue). TakesNext t next c.in-Acquire.after) c.txn-in-steps.ensures c.in-Acquire.ensures)
           taken.1,
@@ -20,7 +21,8 @@ steps-preserved-in-Acquire g c =
 pub steps-preserved : goal.steps-preserved
 steps-preserved g c =
     let got = c.in_ok-reserve-in-Reserve.ensures.reserved in (
-      reads_twice c.args.txn.now c.steps.txn c.reserve.new.txn c.steps.invariant.0 (reads_so c.steps.txn c.reserve.new.txn _ got.1),
+      reads_twice c.args.txn.now c.steps.txn c.reserve.new.txn c.steps.invariant.0
+          (reads_so c.steps.txn c.reserve.new.txn _ got.1),
       number_on c.steps.txn c.reserve.new.txn got.0 c.in-Reserve.after
           (subst (λ (t : TxnValue). NumbersNext t c.in-Reserve.after) c.txn-in-steps.ensures c.in-Reserve.ensures)
           got.1,

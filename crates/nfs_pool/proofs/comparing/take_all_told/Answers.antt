@@ -53,6 +53,7 @@ returns-clause-told c =
     let none : Taking c.args.before records all 0 rest =
     subst (λ (n : ℕ). Taking c.args.before records all n rest) (omega (arith, c.records-test.false))
     c.records.invariant.0 in (
-      λ _. taking_all c.args.before records all rest (c.requires ∙ sym (length-map c.args.records.now shared_value)) none,
+      λ _. taking_all c.args.before records all rest (c.requires
+          ∙ sym (length-map c.args.records.now shared_value)) none,
       λ _. refl,
     )

@@ -6,4 +6,5 @@ use Rattle.nfs_pool.proofs.marking.mark_written.Given as goal
 
 abbrev pub invariant-loop-write : goal.invariant-loop-write
 invariant-loop-write g l =
-    IsAfter (is_among l.among) (option_copied l.stamp) l.fn.marks l.marks (map write_value (take l.write-index l.writes))
+    IsAfter (is_among l.among) (option_copied l.stamp) l.fn.marks l.marks
+    (map write_value (take l.write-index l.writes))

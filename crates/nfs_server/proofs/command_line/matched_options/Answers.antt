@@ -1,7 +1,8 @@
 -- The command line is taken once its words, its host, its limits and its transport are; what is left is the exports.
 use Rattle.std.proofs.lemmas.Result.{MatchResult-weaker, err_from_is_err_and}
 use Rattle.clap.specs.Words.{found_of, rows_of}
-use Rattle.nfs_server.proofs.CommandLineLemmas.{one_transport, options_read, refused_host, refused_limit, refused_transport}
+use Rattle.nfs_server.proofs.CommandLineLemmas.{one_transport, options_read, refused_host, refused_limit}
+use Rattle.nfs_server.proofs.CommandLineLemmas.{refused_transport}
 use Rattle.nfs_server.proofs.CommandLineLemmas.{refuses_options, taken}
 use Rattle.nfs_server.proofs.command_line.matched_options.Goals as goal
 

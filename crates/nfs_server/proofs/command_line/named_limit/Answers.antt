@@ -7,7 +7,8 @@ use Rattle.clap.specs.Words.{Text, found_of, one_of, rows_of}
 use Rattle.nfs_server.specs.CommandLine.{ReadsNumber}
 use Rattle.nfs_server.proofs.CommandLineLemmas.{number_read, refuses_limit}
 use Rattle.nfs_server.proofs.command_line.named_limit.Goals as goal
-use Rattle.nfs_server.proofs.command_line.named_limit.Goals.{then-value-lt1-via-then-value-lt1, then-value-lt1-via-else-value-lt1+then-value-most}
+use Rattle.nfs_server.proofs.command_line.named_limit.Goals.{then-value-lt1-via-then-value-lt1}
+use Rattle.nfs_server.proofs.command_line.named_limit.Goals.{then-value-lt1-via-else-value-lt1+then-value-most}
 
 -- what `from_str` says of an unsigned number
 abbrev reads : ℕ → List ℕ → Result ℕ ParseIntError → Type 0

@@ -10,4 +10,5 @@ returns-in_err-try_get_matches_from_mut g c =
 
 pub returns : goal.returns
 returns g c =
-    parsed_from _ _ c.in_ok-try_get_matches_from_mut.field-0 c.requires c.in_ok-try_get_matches_from_mut.ensures.kinds c.in_ok-try_get_matches_from_mut.ensures.ok.2
+    parsed_from _ _ c.in_ok-try_get_matches_from_mut.field-0 c.requires c.in_ok-try_get_matches_from_mut.ensures.kinds
+    c.in_ok-try_get_matches_from_mut.ensures.ok.2

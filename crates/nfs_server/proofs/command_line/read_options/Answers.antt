@@ -9,7 +9,8 @@ use Rattle.clap.specs.Words.{Text, found_of, rows_of}
 use Rattle.nfs_server.specs.Callbacks.{AreCallbacks, RefusesCallbacks}
 use Rattle.nfs_server.specs.CommandLine.{callbacks_of, exports_of}
 use Rattle.nfs_server.specs.ExportTexts.{export_parts, parts_of}
-use Rattle.nfs_server.proofs.CommandLineLemmas.{callbacks_read, exports_made, exports_read, number_read, refuses_callbacks}
+use Rattle.nfs_server.proofs.CommandLineLemmas.{callbacks_read, exports_made, exports_read, number_read}
+use Rattle.nfs_server.proofs.CommandLineLemmas.{refuses_callbacks}
 use Rattle.nfs_server.proofs.CommandLineLemmas.{refuses_exports}
 use Rattle.nfs_server.proofs.command_line.read_options.Goals as goal
 
@@ -44,7 +45,8 @@ returns-in_err-callbacks c =
     ∙ callbacks_read found c.get_strs-2.result _ c.get_strs-2.ensures refl in
     rw (exit.1, exit.2) (refuses_callbacks (rows_of found) c.in_ok-exports.exports _
     (c.in_ok-list.list.items, texts, made.0, made.1)
-    (subst (λ (texts : List Text). RefusesCallbacks texts c.in_err-callbacks.field-0.0) same c.in_err-callbacks.ensures.error))
+    (subst (λ (texts : List Text). RefusesCallbacks texts c.in_err-callbacks.field-0.0) same
+    c.in_err-callbacks.ensures.error))
 
 pub returns : goal.returns
 returns c =
@@ -55,11 +57,14 @@ returns c =
     ap (λ b. map (λ (t : Bor Text). t.now) b.now) c.unwrap_or-2.ensures
     ∙ callbacks_read found c.get_strs-2.result _ c.get_strs-2.ensures refl in
     record {
-      start = number_read (reads 64) 64 found (codes "start") c.get_one.result (λ t x g. g.0) c.get_one.ensures.none c.get_one.ensures.value;
-      clock = number_read (reads 32) 32 found (codes "clock") c.get_one-2.result (λ t x g. g.0) c.get_one-2.ensures.none c.get_one-2.ensures.value;
+      start = number_read (reads 64) 64 found (codes "start") c.get_one.result (λ t x g. g.0) c.get_one.ensures.none
+          c.get_one.ensures.value;
+      clock = number_read (reads 32) 32 found (codes "clock") c.get_one-2.result (λ t x g. g.0) c.get_one-2.ensures.none
+          c.get_one-2.ensures.value;
       bytes = (
         c.get_one-3.result,
-        number_read (reads 64) 64 found (codes "bytes") c.get_one-3.result (λ t x g. g.0) c.get_one-3.ensures.none c.get_one-3.ensures.value,
+        number_read (reads 64) 64 found (codes "bytes") c.get_one-3.result (λ t x g. g.0) c.get_one-3.ensures.none
+            c.get_one-3.ensures.value,
         c.unwrap_or-3.ensures,
       );
       host = search rules;

@@ -11,7 +11,8 @@ returns-in-Refused-clause-err c = untold_nothing _ _ _ _ c.in-Refused.ensures.an
 
 pub returns-in-Refused-clause-owed : goal.returns-in-Refused-clause-owed
 returns-in-Refused-clause-owed c =
-    refused_owed _ c.in-Refused.ensures.answers.0 c.requires.record c.reading.ensures.arrival c.in-Refused.ensures.answers.1
+    refused_owed _ c.in-Refused.ensures.answers.0 c.requires.record c.reading.ensures.arrival
+    c.in-Refused.ensures.answers.1
     c.told.result
 
 pub returns-in_default-clause-ok : goal.returns-in_default-clause-ok

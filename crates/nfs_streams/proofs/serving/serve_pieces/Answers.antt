@@ -2,8 +2,10 @@ use Rattle.std.proofs.Common.{◌≡◌, length, refl, rules}
 use Rattle.std.proofs.lemmas.Result.{err_from_is_err_and}
 use Rattle.nfs_streams.proofs.EraLimitLemmas.{keeps_join}
 use Rattle.nfs_streams.proofs.AnswersJoinLemmas.{goes_stops, stops_keeps}
-use Rattle.nfs_streams.proofs.StreamPieceLemmas.{all_taken, taking_none, fault_taking, fault_taken, taking_more, refused_large}
-use Rattle.nfs_streams.proofs.StreamPieceLemmas.{ends_early, early_fault, later_fault, later_not_read, later_write, err_same}
+use Rattle.nfs_streams.proofs.StreamPieceLemmas.{all_taken, taking_none, fault_taking, fault_taken, taking_more}
+use Rattle.nfs_streams.proofs.StreamPieceLemmas.{refused_large}
+use Rattle.nfs_streams.proofs.StreamPieceLemmas.{ends_early, early_fault, later_fault, later_not_read, later_write}
+use Rattle.nfs_streams.proofs.StreamPieceLemmas.{err_same}
 use Rattle.nfs_streams.proofs.StreamPieceLemmas.{refused_other, refused_write}
 use Rattle.nfs_streams.specs.declared.serving.TheConstants.{BUFFER_SIZE}
 use Rattle.nfs_streams.proofs.serving.serve_pieces.Goals as goal

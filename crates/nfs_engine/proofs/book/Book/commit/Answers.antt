@@ -4,7 +4,8 @@ use Rattle.nfs_machine.specs.Run.{Setting}
 use Rattle.nfs_machine.specs.RpcReplies.{success_message}
 use Rattle.nfs_replies.specs.declared.origins.Origin.{Origin}
 use Rattle.nfs_engine.proofs.BookLemmas.{answered, placed_origin, unkept_at}
-use Rattle.nfs_engine.proofs.CommitLeadsLemmas.{committed_leads, committed_steps, journal_commits, led_run, messages_form, reply_form}
+use Rattle.nfs_engine.proofs.CommitLeadsLemmas.{committed_leads, committed_steps, journal_commits, led_run}
+use Rattle.nfs_engine.proofs.CommitLeadsLemmas.{messages_form, reply_form}
 use Rattle.nfs_engine.specs.Book.{BookValue, Commits, IsBook, MayCommit, book_value}
 use Rattle.nfs_engine.specs.Calls.{FinishedValue}
 use Rattle.nfs_engine.specs.Repeats.{Keeps, kept_for, origin_of}

@@ -26,14 +26,16 @@ settle_all-requires-clause-held c =
     (rw (← c.self.view_is) at c.requires) c.is_finished.ensures.promised))
 
 pub invariant_of-self-2 : goal.invariant_of-self-2
-invariant_of-self-2 c = settled_tied c.self.inside.book c.commit.new.self c.self.inside.shards c.settle_all.new.shards c.args.finished (record {
-  id = c.release.inside.id;
-  view = c.release.inside.view;
-  done = c.written_shards-written.result;
-  after = c.release.inside.after;
-}) c.self.invariant (rw (← c.self.view_is) at c.requires) c.is_finished.ensures.promised c.run.ensures.run
+invariant_of-self-2 c = settled_tied c.self.inside.book c.commit.new.self c.self.inside.shards c.settle_all.new.shards
+    c.args.finished (record {
+      id = c.release.inside.id;
+      view = c.release.inside.view;
+      done = c.written_shards-written.result;
+      after = c.release.inside.after;
+    }) c.self.invariant (rw (← c.self.view_is) at c.requires) c.is_finished.ensures.promised c.run.ensures.run
     c.in-Ok.ensures.commits (map write_value c.deref_mut.result.now) (rw c.make_room.ensures at c.settle_all.ensures)
-    (ap (map write_value) c.deref_mut.ensures.value ∙ c.in-Ok.ensures.leaves.writes) (ap (λ (r : ReleaseValue). r.id) (c.release.view_is ∙ c.in-Ok.ensures.leaves.release))
+    (ap (map write_value) c.deref_mut.ensures.value ∙ c.in-Ok.ensures.leaves.writes)
+    (ap (λ (r : ReleaseValue). r.id) (c.release.view_is ∙ c.in-Ok.ensures.leaves.release))
     (ap (λ (r : ReleaseValue). r.view) (c.release.view_is ∙ c.in-Ok.ensures.leaves.release))
     (ap (λ (r : ReleaseValue). r.after) (c.release.view_is ∙ c.in-Ok.ensures.leaves.release))
 
@@ -52,7 +54,8 @@ returns-clause-others c = rw (← c.self.view_is) (settled_others c.self.inside.
       after = c.release.inside.after;
     }) c.self.invariant (rw (← c.self.view_is) at c.requires) c.is_finished.ensures.promised c.run.ensures.run
     c.in-Ok.ensures.commits (map write_value c.deref_mut.result.now) (rw c.make_room.ensures at c.settle_all.ensures)
-    (ap (map write_value) c.deref_mut.ensures.value ∙ c.in-Ok.ensures.leaves.writes) (ap (λ (r : ReleaseValue). r.id) (c.release.view_is ∙ c.in-Ok.ensures.leaves.release))
+    (ap (map write_value) c.deref_mut.ensures.value ∙ c.in-Ok.ensures.leaves.writes)
+    (ap (λ (r : ReleaseValue). r.id) (c.release.view_is ∙ c.in-Ok.ensures.leaves.release))
     (ap (λ (r : ReleaseValue). r.view) (c.release.view_is ∙ c.in-Ok.ensures.leaves.release))
     (ap (λ (r : ReleaseValue). r.after) (c.release.view_is ∙ c.in-Ok.ensures.leaves.release)))
 
@@ -65,7 +68,8 @@ returns-clause-counters c = rw (← c.self.view_is) (settled_counters c.self.ins
       after = c.release.inside.after;
     }) c.self.invariant (rw (← c.self.view_is) at c.requires) c.is_finished.ensures.promised c.run.ensures.run
     c.in-Ok.ensures.commits (map write_value c.deref_mut.result.now) (rw c.make_room.ensures at c.settle_all.ensures)
-    (ap (map write_value) c.deref_mut.ensures.value ∙ c.in-Ok.ensures.leaves.writes) (ap (λ (r : ReleaseValue). r.id) (c.release.view_is ∙ c.in-Ok.ensures.leaves.release))
+    (ap (map write_value) c.deref_mut.ensures.value ∙ c.in-Ok.ensures.leaves.writes)
+    (ap (λ (r : ReleaseValue). r.id) (c.release.view_is ∙ c.in-Ok.ensures.leaves.release))
     (ap (λ (r : ReleaseValue). r.view) (c.release.view_is ∙ c.in-Ok.ensures.leaves.release))
     (ap (λ (r : ReleaseValue). r.after) (c.release.view_is ∙ c.in-Ok.ensures.leaves.release)))
 
@@ -78,7 +82,8 @@ returns-clause-leaving c = settled_leaving c.self.inside.book c.commit.new.self 
       after = c.release.inside.after;
     }) c.self.invariant (rw (← c.self.view_is) at c.requires) c.is_finished.ensures.promised c.run.ensures.run
     c.in-Ok.ensures.commits (map write_value c.deref_mut.result.now) (rw c.make_room.ensures at c.settle_all.ensures)
-    (ap (map write_value) c.deref_mut.ensures.value ∙ c.in-Ok.ensures.leaves.writes) (ap (λ (r : ReleaseValue). r.id) (c.release.view_is ∙ c.in-Ok.ensures.leaves.release))
+    (ap (map write_value) c.deref_mut.ensures.value ∙ c.in-Ok.ensures.leaves.writes)
+    (ap (λ (r : ReleaseValue). r.id) (c.release.view_is ∙ c.in-Ok.ensures.leaves.release))
     (ap (λ (r : ReleaseValue). r.view) (c.release.view_is ∙ c.in-Ok.ensures.leaves.release))
     (ap (λ (r : ReleaseValue). r.after) (c.release.view_is ∙ c.in-Ok.ensures.leaves.release))
 

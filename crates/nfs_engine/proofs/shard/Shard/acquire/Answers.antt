@@ -1,7 +1,8 @@
 use Rattle.std.proofs.Common.{None, refl, ap, ◌∙◌}
 use Rattle.std.proofs.lemmas.Result.{err_from_is_err_and}
 use Rattle.nfs_engine.specs.declared.slot.Slot.{Slot}
-use Rattle.nfs_engine.proofs.SlotStepLemmas.{absent_free, begins, begins_sound, number_acquires, other_acquires, unslotted}
+use Rattle.nfs_engine.proofs.SlotStepLemmas.{absent_free, begins, begins_sound, number_acquires, other_acquires}
+use Rattle.nfs_engine.proofs.SlotStepLemmas.{unslotted}
 use Rattle.nfs_engine.proofs.shard.Shard.acquire.Goals as goal
 
 pub invariant_of-self : goal.invariant_of-self

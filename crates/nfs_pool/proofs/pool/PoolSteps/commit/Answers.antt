@@ -17,7 +17,8 @@ commit_from-requires g c = (
             c.written_shards-written.ensures,
         (
           c.requires.notes,
-          subst (λ (o : Option Writes). IfSome o (λ s. s ≡ c.args.finished.done.change.writes)) (sym c.as_ref.ensures.value)
+          subst (λ (o : Option Writes). IfSome o (λ s. s ≡ c.args.finished.done.change.writes))
+              (sym c.as_ref.ensures.value)
               (subst (λ (ws : Writes). IfSome c.stamp_for-stamp.result (λ s. s ≡ ws)) c.writes-2.ensures
               c.stamp_for-stamp.ensures),
         ),

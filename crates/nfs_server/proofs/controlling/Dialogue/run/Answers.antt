@@ -1,7 +1,8 @@
 use Rattle.std.proofs.Common.{rules, arith, ◌≡◌, ◌∙◌, ap, inl, inr, refl, subst, sym, take}
 use Rattle.std.proofs.KnownBytes.{Keeps-refl}
 use Rattle.nfs_rpc.specs.Streams.{one_more}
-use Rattle.nfs_server.proofs.HeardInputLemmas.{Heard, controls_end, controls_read, controls_write, heard_first, heard_more}
+use Rattle.nfs_server.proofs.HeardInputLemmas.{Heard, controls_end, controls_read, controls_write, heard_first}
+use Rattle.nfs_server.proofs.HeardInputLemmas.{heard_more}
 use Rattle.nfs_server.proofs.HeardInputLemmas.{some_taken}
 use Rattle.nfs_server.specs.Control.{Finishes}
 use Rattle.nfs_server.proofs.controlling.Dialogue.run.Given as given
