@@ -6,7 +6,7 @@ use Rattle.std.proofs.Common.{arith}
 use Rattle.std.proofs.Common.{cond, length, take, option_map, slice_index_or}
 use Rattle.std.proofs.lemmas.Bool.{and_parts, cases_lt, le-ltb, lt-ltb, ltb-false, ltb-true}
 use Rattle.std.proofs.Common.{Result, Ok, Err, get_or, length-append}
-use Rattle.std.specs.Prelude.{MatchResult}
+use Rattle.std.specs.Prelude.{MatchResult, OnOk}
 use Rattle.std.proofs.lemmas.List.{get_or_append_left, get_or_push, length-take, take_all}
 use Rattle.nfs_objects.specs.Attempt.{StopsCall}
 use Rattle.nfs_objects.specs.declared.change.Halt.{Halt}
@@ -106,26 +106,74 @@ module _ (file : ℕ) (pages : Bits) (first : ℕ) where
   pub pages-less : (end : ℕ) (b : Addr) → IsPageIn file pages first end b → IsPageIn file pages first (end + 1) b
   pages-less = wider
 
+  pub pages-whole : (page end : ℕ) → page ≤ max first end → (b : Addr) → IsPageIn file pages first page b →
+      IsPageIn file pages first end b
+  pages-whole page end within b is =
+      let behind = is.behind in
+      let before = is.before in record {
+        page = is.page;
+        behind = behind;
+        before = omega (arith, behind, before, within);
+        there = is.there;
+        is = is.is;
+      }
+
+  pub pages-all : (page end : ℕ) → end ≤ page → (b : Addr) → IsPageIn file pages first end b →
+      IsPageIn file pages first page b
+  pages-all page end over b is =
+      let before = is.before in record {
+        page = is.page;
+        behind = is.behind;
+        before = omega (arith, before, over);
+        there = is.there;
+        is = is.is;
+      }
+
 -- one page more is asked for, or not
-module _ (d : DraftValue) (file : ℕ) (pages : Bits) (first : ℕ) (mid : List (Addr × Mode)) where
+module _ (d : DraftValue) (file : ℕ) (pages : Bits) (first : ℕ) (old mid : List (Addr × Mode)) where
   abbrev Pages : ℕ → Addr → Type 0
   Pages = IsPageIn file pages first
 
   pub pages-more : (end : ℕ) (new : List (Addr × Mode)) → first ≤ end → has pages end ≡ true →
-      new ≡ with_wish d (addresses.Map file end) mid → AsksFor d (Pages end) (Pages end) [] mid →
-      AsksFor d (Pages (end + 1)) (Pages (end + 1)) [] new
+      new ≡ with_wish d (addresses.Map file end) mid → AsksFor d (Pages end) (Pages end) old mid →
+      AsksFor d (Pages (end + 1)) (Pages (end + 1)) old new
   pages-more end new within there is asks =
       asks-as d (λ b. Pages end b ⊎ (addresses.Map file end ≡ b)) (Pages (end + 1))
-      (λ b. Pages end b ⊎ (addresses.Map file end ≡ b)) (Pages (end + 1)) [] new
+      (λ b. Pages end b ⊎ (addresses.Map file end ≡ b)) (Pages (end + 1)) old new
       (pages-wider file pages first end within there) (pages-last file pages first end)
-      (asks-more d (Pages end) (Pages end) (addresses.Map file end) [] mid asks (pages-apart file pages first end) new
+      (asks-more d (Pages end) (Pages end) (addresses.Map file end) old mid asks (pages-apart file pages first end) new
       is)
 
-  pub pages-skip : (end : ℕ) → has pages end ≡ false → AsksFor d (Pages end) (Pages end) [] mid →
-      AsksFor d (Pages (end + 1)) (Pages (end + 1)) [] mid
+  pub pages-skip : (end : ℕ) → has pages end ≡ false → AsksFor d (Pages end) (Pages end) old mid →
+      AsksFor d (Pages (end + 1)) (Pages (end + 1)) old mid
   pages-skip end none asks =
-      asks-as d (Pages end) (Pages (end + 1)) (Pages end) (Pages (end + 1)) [] mid (pages-less file pages first end)
+      asks-as d (Pages end) (Pages (end + 1)) (Pages end) (Pages (end + 1)) old mid (pages-less file pages first end)
       (pages-same file pages first end none) asks
+
+  -- so it is once none is left
+  pub pages-end : (page end : ℕ) → page ≤ max first end → end ≤ page → AsksFor d (Pages page) (Pages page) old mid →
+      AsksFor d (Pages end) (Pages end) old mid
+  pages-end page end within over asks =
+      asks-as d (Pages page) (Pages end) (Pages page) (Pages end) old mid (pages-whole file pages first page end within)
+      (pages-all file pages first page end over) asks
+
+  -- none of them has to be known
+  pub cut-pages : (end : ℕ) → end ≤ 512 → AsksFor d (Pages end) (Pages end) old mid →
+      AsksFor d (IsPageIn file pages 0 512) (λ a. ⊥) old mid
+  cut-pages end small asks =
+      asks-as d (Pages end) (IsPageIn file pages 0 512) (Pages end) (λ a. ⊥) old mid (λ b is.
+      (let before = is.before in record {
+        page = is.page;
+        behind = omega arith;
+        before = omega (arith, before, small);
+        there = is.there;
+        is = is.is;
+      })) (λ a none. absurd none) asks
+
+  pub cut-result : {A E : Type 0} (r : Result A E) (end : ℕ) → end ≤ 512 →
+      OnOk r (AsksFor d (Pages end) (Pages end) old mid) → OnOk r (AsksFor d (IsPageIn file pages 0 512) (λ a. ⊥) old mid)
+  cut-result (Ok x) end small asks = cut-pages end small asks
+  cut-result (Err e) end small asks = tt
 
 -- each of them stands in every store that the draft's view fits
 pub page-there : (d : DraftValue) (file : ℕ) (pages : Bits) (first end : ℕ) → HasPages d file pages → StillStands d →

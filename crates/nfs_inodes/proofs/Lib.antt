@@ -7,6 +7,7 @@ pub mod ClimbLemmas
 pub mod MakerChainLemmas
 pub mod UsageChangeLemmas
 pub mod CutFileLemmas
+pub mod CutAsksLemmas
 pub mod DividePartLemmas
 pub mod DropNameLemmas
 pub mod EditInodeLemmas

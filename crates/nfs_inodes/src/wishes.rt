@@ -9,7 +9,7 @@ ghost use Rattle.nfs_objects.specs.Modes.{led_at};
 ghost use Rattle.nfs_inodes.specs.Gathers.{MayWish};
 
 use crate::burying::is_large;
-use crate::content::cut::ask_data;
+use crate::content::cut::ask_cut;
 use crate::content::listing::ask_pages;
 use crate::content::taking::leaf_of;
 use crate::found::inode;
@@ -177,7 +177,7 @@ pub fn data_wish(draft: &Draft<'_>, number: u64) -> Option<Vec<Wish>>
     if inode.links > 1 || is_large(&inode.content) {
         return None;
     }
-    match ask_data(draft, number, map.pages()) {
+    match ask_cut(draft, number, map.pages(), 0) {
         Err(Halt::Need(asked)) => Some(asked),
         _ => None,
     }

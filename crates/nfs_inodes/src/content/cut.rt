@@ -7,14 +7,15 @@ ghost use Rattle.nfs_objects.specs.Drafts.{MayChange};
 ghost use Rattle.nfs_objects.specs.Values.{known_at};
 ghost use Rattle.nfs_inodes.specs.Asking.{AsksFor};
 ghost use Rattle.nfs_inodes.specs.Blocks.{HasPages};
-ghost use Rattle.nfs_inodes.specs.Cuts.{CutsBlock, CutsBlocks, CutsNext, CutsPage, IsCutAt, IsResized, IsTold};
+ghost use Rattle.nfs_inodes.specs.Cuts.{CutsBlock, CutsBlocks, CutsNext, CutsPage, IsCutAt, IsPageIn, IsResized};
+ghost use Rattle.nfs_inodes.specs.Cuts.{IsTold};
 ghost use Rattle.nfs_inodes.specs.Cuts.{KnowsMaps, KnowsTold, ShowsMap, ShowsMaps, told_at};
 ghost use Rattle.nfs_inodes.specs.Stops.{StillStands, StopsAt};
 
 use crate::content::asking::Asking;
 use crate::content::blocks::BLOCK;
 use nfs_objects::block::cut;
-use nfs_objects::{Addr, Bits, Draft, Halt, MAP_BLOCKS};
+use nfs_objects::{Addr, Bits, Draft, FileMap, Halt, MAP_BLOCKS};
 use std::alloc::AllocError;
 
 /// Cuts a file off that gets smaller. Which map pages are there then.
@@ -100,18 +101,21 @@ fn cut_next(
     }
 }
 
-/// Asks for all data of a file with these map pages: for all of them at once, and then for all blocks.
+/// Asks for what cutting off a file with these map pages has to hold: for all map pages at once, and then for all
+/// blocks.
 ///
 /// # Errors
 ///
 /// `Need` of that, and `Memory`.
-pub(crate) fn ask_data(draft: &Draft<'_>, number: u64, pages: Bits) -> Result<(), Halt>
+pub(crate) fn ask_cut(draft: &Draft<'_>, number: u64, pages: Bits, size: u64) -> Result<(), Halt>
     requires pages { HasPages draft.now number pages }
     requires stands { StillStands draft.now }
     ensures { IfErr result (StopsAt draft.now []) }
 {
-    let maps = read_maps(draft, number, pages, 0, pages.end())?;
-    ask_blocks(draft, number, &maps, 0, pages.end(), 0)
+    let first = size / BLOCK / MAP_BLOCKS;
+    let end = pages.end();
+    let maps = read_maps(draft, number, pages, first, end)?;
+    ask_blocks(draft, number, &maps, first, end, size / BLOCK)
 }
 
 /// What the map pages from one on tell, up to another; of one that is not there, of no block.
@@ -147,12 +151,53 @@ fn ask_maps(draft: &Draft<'_>, number: u64, pages: Bits, first: u64, end: u64) -
         (StopsAt draft.now []) }
 {
     let mut asking = Asking::new(draft.alloc());
+    add_maps(draft, number, pages, first, end, &mut asking)?;
+    asking.ask()
+}
+
+/// Asks for the map pages that go, or get less, where a file gets this size.
+pub(crate) fn add_cut_maps(
+    draft: &Draft<'_>,
+    number: u64,
+    map: &FileMap,
+    size: u64,
+    asking: &mut Asking,
+) -> Result<(), AllocError>
+    ensures { OnOk result (AsksFor draft.now (IsPageIn number map.now.pages 0 512) (λ a. ⊥)
+        asking.old.asked.items asking.new.asked.items) }
+{
+    if size >= map.size() {
+        return Ok(());
+    }
+    let pages = map.pages();
+    add_maps(
+        draft,
+        number,
+        pages,
+        size / BLOCK / MAP_BLOCKS,
+        pages.end(),
+        asking,
+    )
+}
+
+/// Asks for the map pages that are there from one on, up to another.
+fn add_maps(
+    draft: &Draft<'_>,
+    number: u64,
+    pages: Bits,
+    first: u64,
+    end: u64,
+    asking: &mut Asking,
+) -> Result<(), AllocError>
+    ensures { OnOk result (AsksFor draft.now (IsPageIn number pages first end) (IsPageIn number pages first end)
+        asking.old.asked.items asking.new.asked.items) }
+{
     for page in first..end {
         if pages.has(page) {
             asking.add(draft, Addr::Map { file: number, page })?;
         }
     }
-    asking.ask()
+    Ok(())
 }
 
 /// Which blocks a map page tells of; none where it is not there.

@@ -1,6 +1,7 @@
 //! The bytes of files and the texts of links (RFC 1813, 3.3.5 to 3.3.7).
 
-ghost use Rattle.std.specs.Prelude.{◌≡◌, ◌+◌, ◌<◌, ◌≤◌, ℕ, [], IfOk, MatchResult, None, Some};
+ghost use Rattle.std.specs.Prelude.{◌≡◌, ◌+◌, ◌<◌, ◌≤◌, ℕ, [], IfErr, IfOk, MatchResult, None};
+ghost use Rattle.std.specs.Prelude.{Some};
 ghost use Rattle.std.specs.Prelude.{length};
 ghost use Rattle.std.specs.Prelude.{option_copied};
 ghost use Rattle.nfs_machine.specs.Checks.{text_in};
@@ -15,15 +16,15 @@ ghost use Rattle.nfs_objects.specs.Drafts.{MayChange};
 ghost use Rattle.nfs_objects.specs.declared.address.Addr.TheVariants as Addr;
 ghost use Rattle.nfs_inodes.specs.Blocks.{HasMap, HasPages, read_from, written_from};
 ghost use Rattle.nfs_inodes.specs.Cuts.{IsCleared};
-ghost use Rattle.nfs_inodes.specs.Kinds.{IsShown};
+ghost use Rattle.nfs_inodes.specs.Kinds.{HasFile, IsShown};
 ghost use Rattle.nfs_inodes.specs.Known.{bytes_of, content_at};
 ghost use Rattle.nfs_inodes.specs.Makes.{bytes_changed};
 ghost use Rattle.nfs_inodes.specs.Stops.{StillStands, StopsAt, counted_at};
 
 use crate::content::asking::Asking;
 use crate::content::blocks::{Mapped, Range, ask_written, read_range, write_range};
-use crate::content::cut::{cut_off, cut_to};
-use crate::content::{file_at, with_content};
+use crate::content::cut::{add_cut_maps, ask_cut, cut_off, cut_to};
+use crate::content::{KeptFile, file_at, with_content};
 use crate::data::TRANSFER_LIMIT;
 use crate::found::{Known, inode};
 use crate::kinds::File;
@@ -177,6 +178,7 @@ pub fn resize(draft: &mut Draft<'_>, file: &File, size: u64) -> Result<(), Halt>
 {
     let number = file.known.number;
     let kept = file_at(draft, file)?;
+    ask_sized(draft, number, kept, size)?;
     let share = share_of(kept.inode);
     let usage = counted(draft, number, share, Usage::of_one(size))?;
     let pages = kept.map.pages();
@@ -187,6 +189,39 @@ pub fn resize(draft: &mut Draft<'_>, file: &File, size: u64) -> Result<(), Halt>
     let content = Content::Regular(FileMap::new(size, pages)?);
     let new = with_content(&inode, now(draft.ctx()), content);
     Ok(draft.put(number, new)?)
+}
+
+/// Asks for what cutting a file off, or filling it up, to this size has to hold.
+///
+/// # Errors
+///
+/// `Need` of that, and `Memory`.
+pub fn ask_resize(draft: &Draft<'_>, file: &File, size: u64) -> Result<(), Halt>
+    requires none { draft.now.writes ≡ [] }
+    requires shown { IsShown draft.now file.now.known }
+    ensures { IfErr result (StopsAt draft.now (counted_at draft.now file.now.known.number)) }
+{
+    let number = file.known.number;
+    let kept = file_at(draft, file)?;
+    ask_sized(draft, number, kept, size)?;
+    if size < kept.map.size() {
+        ask_cut(draft, number, kept.map.pages(), size)?;
+    }
+    Ok(())
+}
+
+/// Asks at once for what a file has beside its blocks that gets this size: what its group uses, where that changes, and
+/// the map pages that go or get less.
+fn ask_sized(draft: &Draft<'_>, number: u64, kept: KeptFile<'_>, size: u64) -> Result<(), Halt>
+    requires kept { HasFile draft.now number kept.inode.now kept.map.now }
+    requires stands { StillStands draft.now }
+    ensures { IfErr result (StopsAt draft.now (counted_at draft.now number)) }
+{
+    let mut asking = Asking::new(draft.alloc());
+    add_cut_maps(draft, number, kept.map, size, &mut asking)?;
+    let share = share_of(kept.inode);
+    ask_counted(draft, number, share, Usage::of_one(size), &mut asking)?;
+    asking.ask()
 }
 
 /// Frees all blocks and maps of what stands at a number, which is to go; what is no file has none.

@@ -19,6 +19,14 @@ returns-in_err-kept c =
     let p = err_from_is_err_and c.from_residual.result c.from_residual.ensures.1 in
     rw (p.1, p.2) (object-stops c.args.draft.now c.args.file.now.known.number _ c.in_err-kept.ensures)
 
+pub ask_sized-requires-clause-stands : goal.ask_sized-requires-clause-stands
+ask_sized-requires-clause-stands c = stands-first c.args.draft.now c.requires.none
+
+pub returns-in_err-ask_sized : goal.returns-in_err-ask_sized
+returns-in_err-ask_sized c =
+    let p = err_from_is_err_and c.from_residual-in_err-ask_sized.result c.from_residual-in_err-ask_sized.ensures.1 in
+    rw (p.1, p.2) c.in_err-ask_sized.ensures
+
 pub returns-in_err-usage : goal.returns-in_err-usage
 returns-in_err-usage c =
     let p = err_from_is_err_and c.from_residual-in_err-usage.result c.from_residual-in_err-usage.ensures.1 in

@@ -1,5 +1,5 @@
 use Rattle.nfs_inodes.proofs.ReaderHaltLemmas.{halts-only}
-use Rattle.nfs_inodes.proofs.content.cut.ask_data.Goals as goal
+use Rattle.nfs_inodes.proofs.content.cut.ask_cut.Goals as goal
 
 pub returns : goal.returns
 returns c = halts-only _ _ c.ask_blocks.result c.ask_blocks.ensures
