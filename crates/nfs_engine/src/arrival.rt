@@ -13,7 +13,7 @@ use crate::host::Host;
 use crate::lengths::exports_size;
 use bytes::Bytes;
 use nfs_machine::{Call, Exports, Moment, Reply};
-use nfs_replies::{Hashed, Origin};
+use nfs_replies::{Hashed, Origin, RecordKey};
 use nfs_rpc::{Gids, Ids, Record};
 use side_wire::Message;
 use std::alloc::{AllocError, Global};
@@ -46,13 +46,13 @@ impl Received {
         })
     }
 
-    /// What a repeat of it would come with too; it shares the bytes, and reads them for their hash.
-    pub(crate) fn origin(&self) -> Result<Origin, AllocError>
+    /// What a repeat of it would come with too; it shares the bytes, and reads them for their hash under this key.
+    pub(crate) fn origin(&self, key: RecordKey) -> Result<Origin, AllocError>
         ensures { IfOk result (λ origin. origin ≡ origin_in (FromHost (received_value self.now))) }
     {
         Ok(Origin {
             host: self.host.text().clone()?,
-            bytes: Hashed::new(self.message.clone()?),
+            bytes: Hashed::new(key, self.message.clone()?),
         })
     }
 }

@@ -43,7 +43,7 @@ use bytes::Bytes;
 use nfs_machine::laws::side_replies_have_forms;
 use nfs_machine::{Ctx, Limits};
 use nfs_objects::{Addr, Object, View, Write};
-use nfs_replies::{Capacity, Replies, Sought};
+use nfs_replies::{Capacity, RecordKey, Replies, Sought};
 use std::alloc::{AllocError, Global};
 use std::marker::Model;
 use std::sync::Arc;
@@ -114,8 +114,9 @@ impl Book {
         )?;
         let objects = Objects::opening(alloc, &writes)?;
         let journal = Journal::new(alloc, objects);
-        let replies = Replies::new(alloc, capacity);
-        let calls = Calls::new(alloc);
+        let key = RecordKey::new(&config.limits.name_key);
+        let replies = Replies::new(alloc, capacity, key);
+        let calls = Calls::new(alloc, key);
         let book = Book {
             journal,
             replies,
@@ -125,6 +126,11 @@ impl Book {
             era_records: config.era_records,
         };
         Ok((book, writes))
+    }
+
+    /// The key under which records are hashed.
+    pub fn record_key(&self) -> RecordKey {
+        RecordKey::new(&self.limits.name_key)
     }
 
     /// At how many addresses something stands.
@@ -149,7 +155,7 @@ impl Book {
     ) -> Result<Admission, (AdmitError, Arrival)>
         ensures { Admits self.old self.new arrival result }
     {
-        match arrival.prepare(alloc) {
+        match arrival.prepare(alloc, self.record_key()) {
             Ok(Prepared::Call(candidate)) => self.admit_call(alloc, candidate),
             Ok(Prepared::Early(faulted)) => Ok(Admission::Early(faulted)),
             Err(arrival) => self.turn_away(arrival),
@@ -230,7 +236,8 @@ impl Book {
         ensures { Admits self.old self.new
             (record { received = FromHost (received_value received); reading = readings.Asks asked }) result }
     {
-        let recalled = self.recall(received.host.text(), Sought::new(&received.message));
+        let sought = Sought::new(self.record_key(), &received.message);
+        let recalled = self.recall(received.host.text(), sought);
         let received = Incoming::Record(received);
         match recalled {
             Ok(Recalled::Kept(reply)) => {

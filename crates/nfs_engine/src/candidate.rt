@@ -14,7 +14,7 @@ use crate::asking::Asked;
 use crate::changing::is_changing;
 use crate::request::Request;
 use nfs_machine::{Call, Ctx, Limits};
-use nfs_replies::Origin;
+use nfs_replies::{Origin, RecordKey};
 use std::alloc::{AllocError, Global};
 use std::marker::Model;
 
@@ -47,18 +47,19 @@ pub enum Prepared {
 }
 
 impl Arrival {
-    /// Makes what the admission wants memory for, so that an admission under a lock wants little.
+    /// Makes what the admission wants memory for, so that an admission under a lock wants little. A record that changes
+    /// something is hashed under this key, which should be the book's: where it is another, the book hashes it again.
     ///
     /// # Errors
     ///
     /// It asks a call, for which there is no memory: the arrival is handed back.
     #[inline(always)]
-    pub fn prepare(self, alloc: Global) -> Result<Prepared, Arrival>
+    pub fn prepare(self, alloc: Global, key: RecordKey) -> Result<Prepared, Arrival>
         ensures { Prepares self result }
     {
         let (received, reading) = self.into_parts();
         match reading {
-            Reading::Asks(asked) => match Candidate::new(alloc, received, asked) {
+            Reading::Asks(asked) => match Candidate::new(alloc, key, received, asked) {
                 Ok(candidate) => Ok(Prepared::Call(candidate)),
                 Err(arrival) => Err(arrival),
             },
@@ -73,7 +74,12 @@ impl Candidate {
     /// # Errors
     ///
     /// The arrival, where there is no memory for it.
-    fn new(alloc: Global, received: Incoming, asked: Asked) -> Result<Candidate, Arrival>
+    fn new(
+        alloc: Global,
+        key: RecordKey,
+        received: Incoming,
+        asked: Asked,
+    ) -> Result<Candidate, Arrival>
         requires { IsAskedBy (incoming_value received) asked }
         ensures made { IfOk result (λ candidate. candidate ≡ record {
           received = incoming_value received;
@@ -84,7 +90,7 @@ impl Candidate {
           reading = readings.Asks asked;
         }) }
     {
-        let Ok((origin, ctx)) = beginning(&received, &asked) else {
+        let Ok((origin, ctx)) = beginning(key, &received, &asked) else {
             return Err(Arrival::asking(received, asked));
         };
         let Asked { xid, ids: _, call } = asked;
@@ -127,7 +133,11 @@ impl Candidate {
 
 /// What a call came with, if it changes something, and what it is made under. What the server was started with comes at
 /// the admission.
-fn beginning(received: &Incoming, asked: &Asked) -> Result<(Option<Origin>, Ctx), AllocError>
+fn beginning(
+    key: RecordKey,
+    received: &Incoming,
+    asked: &Asked,
+) -> Result<(Option<Origin>, Ctx), AllocError>
     ensures origin { IfOk result (λ b. b.0 ≡ origin_of (incoming_value received.now) asked.now.call) }
     ensures host { IfOk result (λ b. b.1.host ≡ host_in (incoming_value received.now)) }
     ensures ids { IfOk result (λ b. b.1.ids ≡ asked.now.ids) }
@@ -145,25 +155,33 @@ fn beginning(received: &Incoming, asked: &Asked) -> Result<(Option<Origin>, Ctx)
             name_key: [0; 16],
         },
     };
-    Ok((origin_of(received, &asked.call)?, ctx))
+    Ok((origin_of(key, received, &asked.call)?, ctx))
 }
 
 /// What a call came with, if it changes something.
-fn origin_of(received: &Incoming, call: &Call) -> Result<Option<Origin>, AllocError>
+fn origin_of(
+    key: RecordKey,
+    received: &Incoming,
+    call: &Call,
+) -> Result<Option<Origin>, AllocError>
     ensures { IfOk result (λ origin. origin ≡ origin_of (incoming_value received.now) call.now) }
 {
     match received {
-        Incoming::Record(received) => origin_of_record(received, call),
+        Incoming::Record(received) => origin_of_record(key, received, call),
         Incoming::Exports(..) => Ok(None),
     }
 }
 
 /// The same of a call that a record asks.
-fn origin_of_record(received: &Received, call: &Call) -> Result<Option<Origin>, AllocError>
+fn origin_of_record(
+    key: RecordKey,
+    received: &Received,
+    call: &Call,
+) -> Result<Option<Origin>, AllocError>
     ensures { IfOk result (λ origin. origin ≡ origin_of (FromHost (received_value received.now)) call.now) }
 {
     if !is_changing(call) {
         return Ok(None);
     }
-    Ok(Some(received.origin()?))
+    Ok(Some(received.origin(key)?))
 }

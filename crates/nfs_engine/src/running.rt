@@ -14,7 +14,7 @@ use crate::arrival::{Incoming, Received};
 use crate::changing::is_changing;
 use bytes::Bytes;
 use nfs_machine::Call;
-use nfs_replies::{Origin, Origins, Sought};
+use nfs_replies::{Origin, Origins, RecordKey, Sought};
 use slab::Slab;
 use std::alloc::{AllocError, Global};
 use std::marker::Model;
@@ -66,13 +66,13 @@ impl Model for Calls {
 }
 
 impl Calls {
-    /// No call.
-    pub(crate) fn new(alloc: Global) -> Calls
+    /// No call, and the key under which records are hashed.
+    pub(crate) fn new(alloc: Global, key: RecordKey) -> Calls
         ensures { result ≡ record { living = []; next_id = 0 } }
     {
         Calls {
             living: Slab::new(alloc),
-            origins: Origins::new(alloc),
+            origins: Origins::new(alloc, key),
             next_id: 0,
         }
     }

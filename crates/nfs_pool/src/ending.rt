@@ -41,6 +41,7 @@ impl<L: Ledger + Naming> Pool<L> {
             places,
             count,
             log,
+            key,
         } = self;
         let mut desk = desk.into_inner();
         match close_era(alloc, &mut desk, &count, seats) {
@@ -54,6 +55,7 @@ impl<L: Ledger + Naming> Pool<L> {
                         places,
                         count,
                         log,
+                        key,
                     },
                     seats,
                 ))
@@ -115,6 +117,7 @@ impl<L: Ledger + Naming> Pool<L> {
             places,
             count: _,
             log,
+            key: _,
         } = self;
         drop(places);
         drop(log);

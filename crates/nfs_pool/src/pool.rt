@@ -20,6 +20,7 @@ use nfs_engine::{
     Refused, Release, ReserveError, SHARDS, shard_index,
 };
 use nfs_objects::{Addr, Mode};
+use nfs_replies::RecordKey;
 use nfs_stamps::{Log, Naming, Notes, Opened};
 use std::alloc::{AllocError, Global};
 use std::sync::ledger::{Blank, Ledger, Share};
@@ -33,6 +34,8 @@ pub struct Pool<L: Ledger + Naming> {
     pub(crate) count: Count<L>,
     /// The stamps of commits.
     pub(crate) log: Log<L>,
+    /// Under which the book hashes records, so that they are hashed with no lock held.
+    pub(crate) key: RecordKey,
 }
 
 impl<L: Ledger + Naming> Pool<L> {
@@ -66,11 +69,13 @@ impl<L: Ledger + Naming> Pool<L> {
         engine.tie();
         let (book, shards) = engine.into_parts();
         let (marks, first) = mark_opening(alloc, &log, &book, &shards[0]);
+        let key = book.record_key();
         let pool = Pool {
             desk: Mutex::new(Desk::new(alloc, book, counted, nothing, marks)),
             places: lock_all(alloc, shards, first),
             count: Count::new(count),
             log,
+            key,
         };
         Ok((pool, new_seats(alloc, room, all, count)))
     }
@@ -115,7 +120,7 @@ impl<L: Ledger + Naming> Steps<L> for Pool<L> {
         alloc: Global,
         arrival: Arrival,
     ) -> Result<Admission, Unadmitted> {
-        match arrival.prepare(alloc) {
+        match arrival.prepare(alloc, self.key) {
             Ok(Prepared::Call(candidate)) => {
                 let mut guard = take(rt, &self.desk);
                 let desk = &mut *guard;

@@ -1,5 +1,5 @@
 -- A cache of the kit is the list of what it keeps: its look-up, its front and its end are the list's.
-use Rattle.std.proofs.Common.{◌≡◌, ◌≤◌, ◌-◌, ◌<◌, ℕ, zero, suc, Bool, true, false, cond, not}
+use Rattle.std.proofs.Common.{◌≡◌, ◌≤◌, ◌-◌, ◌<◌, ℕ, zero, suc, Bool, true, false, cond, not, ◌&&◌, nat_eq}
 use Rattle.std.proofs.Common.{List, [], ◌∷◌, ◌++◌, Option, Some, None, option_map, length, take, map, find}
 use Rattle.std.proofs.Common.{filter, refl, sym, ap, ◌∙◌, subst, arith}
 use Rattle.std.proofs.lemmas.List.{take-map}
@@ -7,18 +7,34 @@ use Rattle.std.proofs.lemmas.List.Sums.{length-filter}
 use Rattle.std.specs.Map.{lookup, lookup_entry, remove_entry}
 use Rattle.std.specs.Option.{option_map_or}
 use Rattle.lru.proofs.Pairs.{lookup-lookup_entry}
-use Rattle.lru.specs.LruCache.{lru_cache, promoted, put_entries}
+use Rattle.lru.specs.LruCache.{LruCache, lru_cache, promoted, put_entries}
 use Rattle.nfs_replies.specs.Kept.{ReplyEvent, KeptReply, after, is_for, reply_for, same_bytes}
 use Rattle.nfs_replies.specs.Kept.ReplyEvent.{Replied, Repeated}
+use Rattle.nfs_replies.specs.Entries.{IsHashed, keyed, same_key}
+use Rattle.nfs_replies.specs.Keys.{digest}
 use Rattle.nfs_replies.specs.Replies.{Cache, EachOnce, IsListed, kept_in}
+use Rattle.nfs_replies.specs.declared.digest.RecordKey.{RecordKey}
+use Rattle.nfs_replies.specs.declared.key.Keyed.{Keyed}
 use Rattle.nfs_replies.proofs.KeptListLemmas.{once-executed, once-repeated, others-all}
+use Rattle.nfs_replies.proofs.KeyedLemmas.{AllHashed, lookup-plain, plain, promoted-hashed, promoted-plain, put-hashed}
+use Rattle.nfs_replies.proofs.KeyedLemmas.{put-plain}
 
 abbrev Pairs : Type 0
 Pairs = List (List ℕ × List ℕ)
 
+-- a cache of bytes
+abbrev PlainCache : Type 0
+PlainCache = LruCache (List ℕ) (List ℕ)
+
 -- a cache with these pairs keeps this
 abbrev pub kept : Pairs → List KeptReply
 kept pairs = map (λ pair. record { bytes = pair.0; reply = pair.1 }) pairs
+
+-- and so does one whose records have hashes too
+kept-plain : (es : List (Keyed × List ℕ)) →
+    map (λ pair. record { bytes = pair.0.bytes; reply = pair.1 }) es ≡ kept (plain es)
+kept-plain [] = refl
+kept-plain (e ∷ es) = ap (λ l. record { bytes = e.0.bytes; reply = e.1 } ∷ l) (kept-plain es)
 
 module _ (bytes : List ℕ) where
   abbrev test : List ℕ → Bool
@@ -94,9 +110,9 @@ module _ (bytes : List ℕ) where
       ∙ sym (take-map (λ (pair : List ℕ × List ℕ). record { bytes = pair.0; reply = pair.1 }) n pairs))
 
   -- to put a pair that is not there is what a new reply does
-  pub kept-put : (host reply : List ℕ) (cache : Cache) → 0 < cache.cap →
-      reply_for bytes (kept_in cache) ≡ None → kept (put_entries same_bytes cache bytes reply) ≡
-      after cache.cap (Replied host bytes reply) (kept_in cache)
+  pub kept-put : (host reply : List ℕ) (cache : PlainCache) → 0 < cache.cap →
+      reply_for bytes (kept cache.entries) ≡ None → kept (put_entries same_bytes cache bytes reply) ≡
+      after cache.cap (Replied host bytes reply) (kept cache.entries)
   kept-put host reply cache some none =
       let absent = no-entry (lookup_entry test cache.entries)
       (lookup-lookup_entry test cache.entries ∙ sym (reply_for-kept cache.entries) ∙ none) in
@@ -104,40 +120,87 @@ module _ (bytes : List ℕ) where
       ((bytes, reply) ∷ take (cache.cap - 1) cache.entries))) absent
       ∙ put-first cache.cap (record { bytes = bytes; reply = reply }) cache.entries some
 
-module _ (capacity : ℕ) (host bytes : List ℕ) (was : Cache) (is : IsListed capacity was) where
+-- what is looked up with the hash under a key is the record as it is in a table with that key
+abbrev probed : (hash : ℕ) (text : List ℕ) → Keyed → Bool
+probed hash text k = nat_eq hash k.hash && same_bytes text k.bytes
+
+module _ (key : RecordKey) (was : Cache) (bytes : List ℕ) (hash : ℕ) (text : List ℕ) (same : text ≡ bytes)
+    (hashed : hash ≡ digest key bytes) where
+  as_keyed : probed hash text ≡ same_key (keyed key bytes)
+  as_keyed = ap (λ h. probed h text) hashed ∙ ap (λ t. probed (digest key bytes) t) same
+
+  pub found_by : lookup (probed hash text) was.entries ≡ lookup (same_key (keyed key bytes)) was.entries
+  found_by = ap (λ test. lookup test was.entries) as_keyed
+
+pub promoted_by : (key : RecordKey) (was new : Cache) (bytes : List ℕ) (hash : ℕ) (text : List ℕ) → text ≡ bytes →
+    hash ≡ digest key bytes → new ≡ lru_cache (promoted (probed hash text) was.entries) was.cap →
+    new ≡ lru_cache (promoted (same_key (keyed key bytes)) was.entries) was.cap
+promoted_by key was new bytes hash text same hashed is =
+    is ∙ ap (λ test. lru_cache (promoted test was.entries) was.cap) (as_keyed key was bytes hash text same hashed)
+
+-- what a table that has this key finds for a record is the reply that is kept for it
+pub reply_for-found : (key : RecordKey) (bytes : List ℕ) (cache : Cache) → AllHashed key cache.entries →
+    reply_for bytes (kept_in cache) ≡ lookup (same_key (keyed key bytes)) cache.entries
+reply_for-found key bytes cache hashed =
+    ap (reply_for bytes) (kept-plain cache.entries) ∙ reply_for-kept bytes (plain cache.entries)
+    ∙ sym (lookup-plain key (keyed key bytes) refl cache.entries hashed)
+
+module _ (capacity : ℕ) (key : RecordKey) (host bytes : List ℕ) (was : Cache) (is : IsListed capacity key was) where
   abbrev pub IsLeftBy : ReplyEvent → Cache → Type 0
-  IsLeftBy event new = IsListed capacity new × (kept_in new ≡ after capacity event (kept_in was))
+  IsLeftBy event new = IsListed capacity key new × (kept_in new ≡ after capacity event (kept_in was))
+
+  abbrev sought : Keyed
+  sought = keyed key bytes
+
+  once-plain : EachOnce (kept (plain was.entries))
+  once-plain = subst EachOnce (kept-plain was.entries) is.once
 
   -- what is true of a cache stays so when what is kept for a record comes to the front
-  pub promoted-left : (new : Cache) → new ≡ lru_cache (promoted (same_bytes bytes) was.entries) was.cap →
+  pub promoted-left : (new : Cache) → new ≡ lru_cache (promoted (same_key sought) was.entries) was.cap →
       IsLeftBy (Repeated host bytes) new
   promoted-left new by =
-      let left = kept-promoted bytes capacity host was.entries is.once in
-      subst (IsLeftBy (Repeated host bytes)) (sym by) (
+      let event = Repeated host bytes in
+      let left : kept_in (lru_cache (promoted (same_key sought) was.entries) was.cap) ≡
+          after capacity event (kept_in was) =
+          kept-plain (promoted (same_key sought) was.entries)
+          ∙ ap kept (promoted-plain key sought refl was.entries is.hashed)
+          ∙ kept-promoted bytes capacity host (plain was.entries) once-plain
+          ∙ ap (after capacity event) (sym (kept-plain was.entries)) in
+      subst (IsLeftBy event) (sym by) (
         record {
           bound = is.bound;
           roomy = is.roomy;
           once = subst EachOnce (sym left) (once-repeated capacity host bytes (kept_in was) is.once);
+          hashed = promoted-hashed key sought refl was.entries is.hashed;
         },
         left,
       )
 
   -- and when a new reply is put
   pub put-left : (reply : List ℕ) (new : Cache) → reply_for bytes (kept_in was) ≡ None →
-      new ≡ lru_cache (put_entries same_bytes was bytes reply) was.cap → IsLeftBy (Replied host bytes reply) new
+      new ≡ lru_cache (put_entries same_key was sought reply) was.cap → IsLeftBy (Replied host bytes reply) new
   put-left reply new none by =
       let event = Replied host bytes reply in
-      let left = kept-put bytes host reply was (subst (λ n. 0 < n) (sym is.bound) is.roomy) none
-      ∙ ap (λ n. after n event (kept_in was)) is.bound in
+      let bare : PlainCache = lru_cache (plain was.entries) was.cap in
+      let absent : reply_for bytes (kept (plain was.entries)) ≡ None =
+          ap (reply_for bytes) (sym (kept-plain was.entries)) ∙ none in
+      let left : kept_in (lru_cache (put_entries same_key was sought reply) was.cap) ≡
+          after capacity event (kept_in was) =
+          kept-plain (put_entries same_key was sought reply)
+          ∙ ap kept (put-plain key sought refl was reply is.hashed)
+          ∙ kept-put bytes host reply bare (subst (λ n. 0 < n) (sym is.bound) is.roomy) absent
+          ∙ ap (λ n. after n event (kept (plain was.entries))) is.bound
+          ∙ ap (after capacity event) (sym (kept-plain was.entries)) in
       subst (IsLeftBy event) (sym by) (
         record {
           bound = is.bound;
           roomy = is.roomy;
           once = subst EachOnce (sym left) (once-executed capacity host bytes reply (kept_in was) none is.once);
+          hashed = put-hashed key sought refl was reply is.hashed;
         },
         left,
       )
 
 -- a new cache keeps nothing
-pub empty-listed : (capacity : ℕ) → 0 < capacity → IsListed capacity (lru_cache [] capacity)
-empty-listed capacity some = record { bound = refl; roomy = some; once = λ bytes. omega arith }
+pub empty-listed : (capacity : ℕ) (key : RecordKey) → 0 < capacity → IsListed capacity key (lru_cache [] capacity)
+empty-listed capacity key some = record { bound = refl; roomy = some; once = λ bytes. omega arith; hashed = tt }

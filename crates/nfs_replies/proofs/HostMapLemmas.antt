@@ -8,8 +8,10 @@ use Rattle.std.specs.Map.{lookup}
 use Rattle.std.specs.Option.{option_map_or}
 use Rattle.nfs_replies.specs.Kept.{ReplyEvent, KeptReply, KeptLists, after, host_of, lists_after, reply_for, same_bytes}
 use Rattle.nfs_replies.specs.Kept.ReplyEvent.{Repeated}
-use Rattle.nfs_replies.proofs.CacheLemmas.{reply_for-kept}
+use Rattle.nfs_replies.proofs.CacheLemmas.{reply_for-found}
 use Rattle.nfs_replies.proofs.KeptListLemmas.{after-unkept}
+use Rattle.nfs_replies.specs.Entries.{keyed, same_key}
+use Rattle.nfs_replies.specs.declared.digest.RecordKey.{RecordKey}
 use Rattle.nfs_replies.specs.Replies.{AreListed, Cache, IsAfter, HostReplies, IsListed, RepliesValue, host_replies}
 use Rattle.nfs_replies.specs.Replies.{kept_in, kept_of, list_of}
 
@@ -127,29 +129,33 @@ module _ (capacity : ℕ) (event : ReplyEvent) (old new : Hosts) (cache : Cache)
           (left ∙ ap (after capacity event) (sym (kept_of-shown capacity old (host_of event)))) q
 
   -- and what is true of every cache stays so
-  pub listed-written : AreListed capacity old → IsListed capacity cache → AreListed capacity new
-  listed-written each one q = subst (λ o. IfSome o (IsListed capacity)) (sym (writes q))
+  pub listed-written : (key : RecordKey) → AreListed capacity key old → IsListed capacity key cache →
+      AreListed capacity key new
+  listed-written key each one q = subst (λ o. IfSome o (IsListed capacity key)) (sym (writes q))
       (elim (same_bytes (host_of event) q) as
-      (λ b. IfSome (cond b (Some cache) (lookup (same_bytes q) old)) (IsListed capacity)) [
+      (λ b. IfSome (cond b (Some cache) (lookup (same_bytes q) old)) (IsListed capacity key)) [
         | true ↦ one
         | false ↦ each q
       ])
 
 -- what a host's cache has for a record
-abbrev pub reply_in : List ℕ → Option Cache → Option (List ℕ)
-reply_in bytes None = None
-reply_in bytes (Some cache) = lookup (same_bytes bytes) cache.entries
+abbrev pub reply_in : RecordKey → List ℕ → Option Cache → Option (List ℕ)
+reply_in key bytes None = None
+reply_in key bytes (Some cache) = lookup (same_key (keyed key bytes)) cache.entries
 
-reply_in-listed : (bytes : List ℕ) (o : Option Cache) → reply_for bytes (listed o) ≡ reply_in bytes o
-reply_in-listed bytes None = refl
-reply_in-listed bytes (Some cache) = reply_for-kept bytes cache.entries
+reply_in-listed : (capacity : ℕ) (key : RecordKey) (bytes : List ℕ) (o : Option Cache) →
+    IfSome o (IsListed capacity key) → reply_for bytes (listed o) ≡ reply_in key bytes o
+reply_in-listed capacity key bytes None is = refl
+reply_in-listed capacity key bytes (Some cache) is = reply_for-found key bytes cache is.hashed
 
 -- the reply that is kept is the one that the host's cache has
-pub reply-at : (capacity : ℕ) (hosts : Hosts) (host bytes : List ℕ) (o : Option Cache) →
-    o ≡ lookup (same_bytes host) hosts →
-    reply_for bytes (kept_of (shown capacity hosts) host) ≡ reply_in bytes o
-reply-at capacity hosts host bytes o found =
-    ap (reply_for bytes) (kept_of-shown capacity hosts host ∙ ap listed (sym found)) ∙ reply_in-listed bytes o
+pub reply-at : (capacity : ℕ) (key : RecordKey) (hosts : Hosts) (host bytes : List ℕ) (o : Option Cache) →
+    AreListed capacity key hosts → o ≡ lookup (same_bytes host) hosts →
+    reply_for bytes (kept_of (shown capacity hosts) host) ≡ reply_in key bytes o
+reply-at capacity key hosts host bytes o each found =
+    ap (reply_for bytes) (kept_of-shown capacity hosts host ∙ ap listed (sym found))
+    ∙ reply_in-listed capacity key bytes o
+    (subst (λ o. IfSome o (IsListed capacity key)) (sym found) (each host))
 
 no-list : (o : Option HostReplies) → option_map (λ (h : HostReplies). h.list) o ≡ None → o ≡ None
 no-list None e = refl
@@ -174,7 +180,8 @@ module _ {S : Type 0} (capacity : ℕ) (event : ReplyEvent) (old new : IndexMap 
   is-after-lent left = is-after-written capacity event old.entries new.entries cache writes
       (left ∙ ap (λ o. after capacity event (listed o)) found)
 
-  pub listed-lent : AreListed capacity old.entries → IsListed capacity cache → AreListed capacity new.entries
+  pub listed-lent : (key : RecordKey) → AreListed capacity key old.entries → IsListed capacity key cache →
+      AreListed capacity key new.entries
   listed-lent = listed-written capacity event old.entries new.entries cache writes
 
 -- one that stays as it was leaves all as it was
@@ -185,9 +192,10 @@ same-lent host old new was cache found through same =
     through.0 ∙ set_value_same (same_bytes host) old.entries cache (sym found ∙ ap Some (sym same))
 
 -- what is true of the cache that stands at a host
-pub listed-at : (capacity : ℕ) (hosts : Hosts) (host : List ℕ) (cache : Cache) → AreListed capacity hosts →
-    Some cache ≡ lookup (same_bytes host) hosts → IsListed capacity cache
-listed-at capacity hosts host cache each found = subst (λ o. IfSome o (IsListed capacity)) (sym found) (each host)
+pub listed-at : (capacity : ℕ) (key : RecordKey) (hosts : Hosts) (host : List ℕ) (cache : Cache) →
+    AreListed capacity key hosts → Some cache ≡ lookup (same_bytes host) hosts → IsListed capacity key cache
+listed-at capacity key hosts host cache each found =
+    subst (λ o. IfSome o (IsListed capacity key)) (sym found) (each host)
 
 -- a cache comes for a host that has none
 module _ {S : Type 0} (capacity : ℕ) (event : ReplyEvent) (host : List ℕ) (old : Hosts)
@@ -205,5 +213,6 @@ module _ {S : Type 0} (capacity : ℕ) (event : ReplyEvent) (host : List ℕ) (o
   is-after-new none left = is-after-written capacity event old new.entries cache comes
       (left ∙ ap (λ o. after capacity event (listed o)) (sym none))
 
-  pub listed-new : AreListed capacity old → IsListed capacity cache → AreListed capacity new.entries
+  pub listed-new : (key : RecordKey) → AreListed capacity key old → IsListed capacity key cache →
+      AreListed capacity key new.entries
   listed-new = listed-written capacity event old new.entries cache comes

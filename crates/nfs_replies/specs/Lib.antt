@@ -1,3 +1,4 @@
+pub mod Entries
 pub mod Kept
 pub mod Keys
 pub mod Laws

@@ -3,7 +3,11 @@ use Rattle.std.specs.Prelude.{◌≡◌, ◌<◌, ◌≤◌, ℕ, count_by, List
 use Rattle.std.specs.Map.{lookup}
 use Rattle.std.specs.Option.{option_map_or}
 use Rattle.lru.specs.LruCache.{LruCache}
+use Rattle.std.specs.List.{AllByRecursion}
+use Rattle.nfs_replies.specs.Entries.{IsHashed}
 use Rattle.nfs_replies.specs.Kept.{ReplyEvent, KeptReply, KeptLists, is_for, lists_after, same_bytes}
+use Rattle.nfs_replies.specs.declared.digest.RecordKey.{RecordKey}
+use Rattle.nfs_replies.specs.declared.key.Keyed.{Keyed}
 
 -- the list of one host
 pub record HostReplies : Type 0 where
@@ -28,12 +32,12 @@ pub record IsAfter (event : ReplyEvent) (old new : RepliesValue) : Type 0 where
   pub lists : kept_of new ≡ lists_after old.capacity event (kept_of old)
   pub capacity : new.capacity ≡ old.capacity
 
--- a cache of replies by the bytes of their records, and the list that it is
+-- a cache of replies by their records, and the list that it is
 abbrev pub Cache : Type 0
-Cache = LruCache (List ℕ) (List ℕ)
+Cache = LruCache Keyed (List ℕ)
 
 abbrev pub kept_in : Cache → List KeptReply
-kept_in cache = map (λ pair. record { bytes = pair.0; reply = pair.1 }) cache.entries
+kept_in cache = map (λ pair. record { bytes = pair.0.bytes; reply = pair.1 }) cache.entries
 
 -- what stands at a host
 abbrev pub host_replies : List ℕ × Cache → HostReplies
@@ -43,11 +47,12 @@ host_replies pair = record { host = pair.0; list = kept_in pair.1 }
 abbrev pub EachOnce : List KeptReply → Type 0
 EachOnce list = (bytes : List ℕ) → count_by (is_for bytes) list ≤ 1
 
--- what is true of the cache of each host: it has the capacity, which is not 0, and each record once
-pub record IsListed (capacity : ℕ) (cache : Cache) : Type 0 where
+-- what is true of the cache of each host: it has the capacity, which is not 0, and each record once, hashed under the key
+pub record IsListed (capacity : ℕ) (key : RecordKey) (cache : Cache) : Type 0 where
   pub bound : cache.cap ≡ capacity
   pub roomy : 0 < capacity
   pub once : EachOnce (kept_in cache)
+  pub hashed : AllByRecursion (λ (pair : Keyed × List ℕ). IsHashed key pair.0) cache.entries
 
-abbrev pub AreListed : (capacity : ℕ) → List (List ℕ × Cache) → Type 0
-AreListed capacity hosts = (host : List ℕ) → IfSome (lookup (same_bytes host) hosts) (IsListed capacity)
+abbrev pub AreListed : (capacity : ℕ) (key : RecordKey) → List (List ℕ × Cache) → Type 0
+AreListed capacity key hosts = (host : List ℕ) → IfSome (lookup (same_bytes host) hosts) (IsListed capacity key)

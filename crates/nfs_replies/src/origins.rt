@@ -1,13 +1,16 @@
 //! What calls in progress came with, so that a call that comes again meanwhile is not begun once more.
 
-ghost use Rattle.std.specs.Prelude.{◌≡◌, ◌∷◌, ◌&&◌, [], true, IfOk, OnErr, OnOk};
-ghost use Rattle.std.proofs.lemmas.Bool.{and_parts};
+ghost use Rattle.std.specs.Prelude.{◌≡◌, ◌∷◌, ◌&&◌, [], true, IfOk, OnErr, OnOk, nat_eq};
+ghost use Rattle.std.proofs.lemmas.Bool.{and_parts, eqb-true};
+ghost use Rattle.std.specs.Cmp.{nat_eq_equiv};
 ghost use Rattle.std.specs.Cmp.Lexicographic.{bytes_decides, nat_list_eq_equiv};
+ghost use Rattle.nfs_replies.specs.Entries.{same_key};
 ghost use Rattle.nfs_replies.specs.Keys.{digest_input};
 ghost use Rattle.nfs_replies.specs.Kept.{same_bytes};
 ghost use Rattle.nfs_replies.specs.Origins.{Adds, Removes, is_among};
 
-use crate::key::{Hashed, Sought};
+use crate::digest::RecordKey;
+use crate::key::{Hashed, Keyed, Probe, Sought};
 use bytes::Bytes;
 use indexmap::{Equivalent, IndexSet};
 use std::alloc::{AllocError, Global};
@@ -37,82 +40,100 @@ impl Origin {
     }
 }
 
-impl Hash for Origin {
-    ghost hash_input = { λ origin. origin.host ∷ digest_input origin.bytes };
+/// What a call came with, in a table: the record has its hash under the table's key.
+#[derive(Drop, PartialEq, Eq)]
+struct Entry {
+    host: Bytes,
+    sent: Keyed,
+}
+
+impl Hash for Entry {
+    ghost hash_input = { λ entry. entry.host ∷ digest_input entry.sent.hash };
 
     ghost respects_eq = { λ x y same i.
-        let parts = and_parts (same_bytes x.host y.host) (same_bytes x.bytes y.bytes) same in
-        (bytes_decides x.host y.host).0 parts.0 i ∷ digest_input ((bytes_decides x.bytes y.bytes).0 parts.1 i) };
+        let parts = and_parts (same_bytes x.host y.host) (same_key x.sent y.sent) same in
+        let hashes = (and_parts (nat_eq x.sent.hash y.sent.hash) (same_bytes x.sent.bytes y.sent.bytes) parts.1).0 in
+        (bytes_decides x.host y.host).0 parts.0 i ∷ digest_input (eqb-true x.sent.hash y.sent.hash hashes i) };
 
     fn hash<H: Hasher>(&self, state: &mut H) {
         state.write(self.host.as_slice());
-        self.bytes.hash(state);
+        self.sent.hash(state);
     }
 }
 
-/// What is looked up: a host, and a record. It is hashed and compared as an `Origin` is.
+/// What is looked up: a host, and a record. It is hashed and compared as an `Entry` is.
 #[derive(Clone, Copy, PartialEq, Eq)]
 struct Came<'a> {
     host: &'a Bytes,
-    sought: Sought<'a>,
+    probe: Probe<'a>,
 }
 
 impl<'a> Hash for Came<'a> {
-    ghost hash_input = { λ came. came.host.now ∷ digest_input came.sought.bytes.now };
+    ghost hash_input = { λ came. came.host.now ∷ digest_input came.probe.hash };
 
     ghost respects_eq = { λ x y same i.
-        let parts = and_parts (same_bytes x.host.now y.host.now)
-        (same_bytes x.sought.bytes.now y.sought.bytes.now) same in
-        (bytes_decides x.host.now y.host.now).0 parts.0 i ∷
-        digest_input ((bytes_decides x.sought.bytes.now y.sought.bytes.now).0 parts.1 i) };
+        let parts = and_parts (same_bytes x.host.now y.host.now) (nat_eq x.probe.hash y.probe.hash && same_bytes x.probe.bytes.now y.probe.bytes.now) same in
+        let hashes =
+        (and_parts (nat_eq x.probe.hash y.probe.hash) (same_bytes x.probe.bytes.now y.probe.bytes.now) parts.1).0 in
+        (bytes_decides x.host.now y.host.now).0 parts.0 i ∷ digest_input (eqb-true x.probe.hash y.probe.hash hashes i) };
 
     fn hash<H: Hasher>(&self, state: &mut H) {
         state.write(self.host.as_slice());
-        self.sought.hash(state);
+        self.probe.hash(state);
     }
 }
 
-impl<'a> Equivalent<Origin> for Came<'a> {
-    ghost equivalent = { λ came origin.
-        same_bytes came.host.now origin.host && same_bytes came.sought.bytes.now origin.bytes };
+impl<'a> Equivalent<Entry> for Came<'a> {
+    ghost equivalent = { λ came entry. same_bytes came.host.now entry.host &&
+        (nat_eq came.probe.hash entry.sent.hash && same_bytes came.probe.bytes.now entry.sent.bytes) };
 
-    ghost respects_hash = { λ came origin same i.
-        let parts = and_parts (same_bytes came.host.now origin.host)
-        (same_bytes came.sought.bytes.now origin.bytes) same in
-        (bytes_decides came.host.now origin.host).0 parts.0 i ∷
-        digest_input ((bytes_decides came.sought.bytes.now origin.bytes).0 parts.1 i) };
+    ghost respects_hash = { λ came entry same i.
+        let parts = and_parts (same_bytes came.host.now entry.host) (nat_eq came.probe.hash entry.sent.hash && same_bytes came.probe.bytes.now entry.sent.bytes) same in
+        let hashes =
+        (and_parts (nat_eq came.probe.hash entry.sent.hash) (same_bytes came.probe.bytes.now entry.sent.bytes) parts.1).0 in
+        (bytes_decides came.host.now entry.host).0 parts.0 i ∷
+        digest_input (eqb-true came.probe.hash entry.sent.hash hashes i) };
 
     ghost respects_eq = { λ came x y same i.
-        let parts = and_parts (same_bytes came.host.now x.host) (same_bytes came.sought.bytes.now x.bytes) same in
+        let parts = and_parts (same_bytes came.host.now x.host) (nat_eq came.probe.hash x.sent.hash && same_bytes came.probe.bytes.now x.sent.bytes) same in
+        let sent =
+        and_parts (nat_eq came.probe.hash x.sent.hash) (same_bytes came.probe.bytes.now x.sent.bytes) parts.1 in
         nat_list_eq_equiv.congr came.host.now x.host y.host parts.0 i &&
-        nat_list_eq_equiv.congr came.sought.bytes.now x.bytes y.bytes parts.1 i };
+        (nat_eq_equiv.congr came.probe.hash x.sent.hash y.sent.hash sent.0 i &&
+        nat_list_eq_equiv.congr came.probe.bytes.now x.sent.bytes y.sent.bytes sent.1 i) };
 
-    fn equivalent(&self, origin: &Origin) -> bool {
-        *self.host == origin.host && self.sought.is(&origin.bytes)
+    fn equivalent(&self, entry: &Entry) -> bool {
+        *self.host == entry.host && self.probe.is(&entry.sent)
     }
 }
 
-/// What calls in progress came with, each once. It is found by the hashes of the host and of the record.
+/// What calls in progress came with, each once. It is found by the hashes of the host and of the record, under this
+/// key.
 #[derive(Drop)]
 pub struct Origins {
-    set: IndexSet<Origin>,
+    key: RecordKey,
+    set: IndexSet<Entry>,
 }
 
 impl Model for Origins {
     ghost use Rattle.std.specs.Prelude.{List};
+    ghost use Rattle.nfs_replies.specs.Entries.{AreHashed, origins_of};
     ghost use Rattle.nfs_replies.specs.declared.origins.Origin.{Origin as OriginValue};
 
     ghost Value = { List OriginValue };
 
-    ghost view = { λ o. o.set.keys };
+    ghost view = { λ o. origins_of o.set.keys };
+
+    ghost invariant = { λ o. AreHashed o.key o.set.keys };
 }
 
 impl Origins {
-    /// None. It takes no memory.
-    pub fn new(alloc: Global) -> Origins
+    /// None, and the key under which their records are hashed. It takes no memory.
+    pub fn new(alloc: Global, key: RecordKey) -> Origins
         ensures { result ≡ [] }
     {
         Origins {
+            key,
             set: IndexSet::new(alloc),
         }
     }
@@ -121,7 +142,8 @@ impl Origins {
     pub fn has(&self, host: &Bytes, sought: Sought<'_>) -> bool
         ensures { result ≡ is_among self.now (record { host = host.now; bytes = sought.entry.bytes.now }) }
     {
-        self.set.contains(Came { host, sought })
+        let probe = sought.probe(self.key);
+        self.set.contains(Came { host, probe })
     }
 
     /// Adds one.
@@ -133,7 +155,9 @@ impl Origins {
         ensures added { OnOk result (Adds origin self.old self.new) }
         ensures err { OnErr result (self.new ≡ self.old) }
     {
-        self.set.insert(origin)?;
+        let Origin { host, bytes } = origin;
+        let sent = bytes.keyed(self.key);
+        self.set.insert(Entry { host, sent })?;
         Ok(())
     }
 
@@ -141,7 +165,9 @@ impl Origins {
     pub fn remove(&mut self, origin: &Origin)
         ensures { Removes origin.now self.old self.new }
     {
-        self.set.swap_remove(origin);
+        let probe = origin.bytes.sought().probe(self.key);
+        let host = &origin.host;
+        self.set.swap_remove(Came { host, probe });
     }
 
     /// Takes out one that is among them. Where there is no other, its bytes are not compared.

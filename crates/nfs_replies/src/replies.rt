@@ -3,12 +3,14 @@
 ghost use Rattle.std.specs.Prelude.{◌≡◌, ◌<◌, [], IfErr, IfOk, IsSome, None, OnErr, OnOk};
 ghost use Rattle.std.specs.Option.{option_copied};
 ghost use Rattle.lru.specs.LruCache.{lru_cache, put_entries};
-ghost use Rattle.nfs_replies.specs.Kept.{reply_for, same_bytes};
+ghost use Rattle.nfs_replies.specs.Entries.{keyed, same_key};
+ghost use Rattle.nfs_replies.specs.Kept.{reply_for};
 ghost use Rattle.nfs_replies.specs.Kept.ReplyEvent.{Replied, Repeated};
 ghost use Rattle.nfs_replies.specs.Replies.{IsAfter, kept_of, list_of};
 
 use crate::capacity::Capacity;
-use crate::key::{Hashed, Sought};
+use crate::digest::RecordKey;
+use crate::key::{Hashed, Keyed, Sought};
 use bytes::Bytes;
 use indexmap::IndexMap;
 use lru::LruCache;
@@ -20,7 +22,9 @@ use std::marker::Model;
 #[derive(Drop)]
 pub struct Replies {
     capacity: Capacity,
-    lists: IndexMap<Bytes, LruCache<Hashed, Bytes>>,
+    /// Under which the records in the lists are hashed.
+    key: RecordKey,
+    lists: IndexMap<Bytes, LruCache<Keyed, Bytes>>,
 }
 
 impl Model for Replies {
@@ -31,16 +35,18 @@ impl Model for Replies {
 
     ghost view = { λ r. record { capacity = r.capacity; hosts = map host_replies r.lists.entries } };
 
-    ghost invariant = { λ r. AreListed r.capacity r.lists.entries };
+    ghost invariant = { λ r. AreListed r.capacity r.key r.lists.entries };
 }
 
 impl Replies {
-    /// No reply, and this capacity for the list of each host. It takes no memory.
-    pub fn new(alloc: Global, capacity: Capacity) -> Replies
+    /// No reply, this capacity for the list of each host, and the key under which records are hashed. It takes no
+    /// memory.
+    pub fn new(alloc: Global, capacity: Capacity, key: RecordKey) -> Replies
         ensures { result ≡ record { capacity = capacity; hosts = [] } }
     {
         Replies {
             capacity,
+            key,
             lists: IndexMap::new(alloc),
         }
     }
@@ -84,9 +90,10 @@ impl Replies {
         ensures returned { IfErr result (λ refused. refused.value ≡ (bytes, reply)) }
         ensures err { OnErr result (self.new ≡ self.old) }
     {
+        let key = self.key;
         match self.lists.get_mut(host) {
-            Some(list) => match list.put(bytes, reply) {
-                Ok(_) => Ok(()),
+            Some(list) => match put(key, list, bytes, reply) {
+                Ok(()) => Ok(()),
                 Err(refused) => Err(refused),
             },
             None => self.keep_first(alloc, host, bytes, reply),
@@ -97,15 +104,17 @@ impl Replies {
     fn reply(&self, host: &Bytes, sought: Sought<'_>) -> Option<&Bytes>
         ensures { option_copied result ≡ reply_for sought.entry.bytes.now (kept_of self.now host.now) }
     {
-        self.lists.get(host)?.peek(sought)
+        let list = self.lists.get(host)?;
+        list.peek(sought.probe(self.key))
     }
 
     /// What is kept for a record goes to the front of its host's list.
     fn bring_to_front(&mut self, host: &Bytes, sought: Sought<'_>)
         ensures { IsAfter (Repeated host.now sought.entry.bytes.now) self.old self.new }
     {
+        let probe = sought.probe(self.key);
         if let Some(list) = self.lists.get_mut(host) {
-            list.promote(sought);
+            list.promote(probe);
         }
     }
 
@@ -127,9 +136,29 @@ impl Replies {
                 value: (bytes, reply),
             });
         };
-        let (host, list) = first_list(alloc, host, &self.capacity, bytes, reply)?;
+        let (host, list) = first_list(alloc, host, &self.capacity, self.key, bytes, reply)?;
         self.lists.insert(host, list).unwrap();
         Ok(())
+    }
+}
+
+/// Puts a reply in front of a list whose records are hashed under this key. Where the memory is refused the list stays.
+fn put(
+    key: RecordKey,
+    list: &mut LruCache<Keyed, Bytes>,
+    bytes: Hashed,
+    reply: Bytes,
+) -> Result<(), AllocFailed<(Hashed, Bytes)>>
+    ensures put { OnOk result
+        (list.new ≡ lru_cache (put_entries same_key list.old (keyed key bytes) reply) list.old.cap) }
+    ensures returned { IfErr result (λ refused. refused.value ≡ (bytes, reply)) }
+    ensures err { OnErr result (list.new ≡ list.old) }
+{
+    match list.put(bytes.keyed(key), reply) {
+        Ok(_) => Ok(()),
+        Err(AllocFailed { value: (keyed, reply) }) => Err(AllocFailed {
+            value: (keyed.into_hashed(key), reply),
+        }),
     }
 }
 
@@ -138,12 +167,13 @@ fn first_list(
     alloc: Global,
     host: &Bytes,
     capacity: &Capacity,
+    key: RecordKey,
     bytes: Hashed,
     reply: Bytes,
-) -> Result<(Bytes, LruCache<Hashed, Bytes>), AllocFailed<(Hashed, Bytes)>>
+) -> Result<(Bytes, LruCache<Keyed, Bytes>), AllocFailed<(Hashed, Bytes)>>
     ensures host { IfOk result (λ made. made.0 ≡ host.now) }
     ensures list { IfOk result (λ made. made.1 ≡ lru_cache
-        (put_entries same_bytes (lru_cache [] capacity.now) bytes reply) capacity.now) }
+        (put_entries same_key (lru_cache [] capacity.now) (keyed key bytes) reply) capacity.now) }
     ensures some { OnOk result (0 < capacity.now) }
     ensures returned { IfErr result (λ refused. refused.value ≡ (bytes, reply)) }
 {
@@ -152,10 +182,8 @@ fn first_list(
             value: (bytes, reply),
         });
     };
-    match list.put(bytes, reply) {
-        Ok(_) => Ok((host, list)),
-        Err(refused) => Err(refused),
-    }
+    put(key, &mut list, bytes, reply)?;
+    Ok((host, list))
 }
 
 /// An empty list, with the host that it will be of. The host is copied, so that it keeps nothing alive that it was cut
@@ -164,7 +192,7 @@ fn new_list(
     alloc: Global,
     host: &Bytes,
     capacity: &Capacity,
-) -> Result<(Bytes, LruCache<Hashed, Bytes>), AllocError>
+) -> Result<(Bytes, LruCache<Keyed, Bytes>), AllocError>
     ensures host { IfOk result (λ made. made.0 ≡ host.now) }
     ensures list { IfOk result (λ made. made.1 ≡ lru_cache [] capacity.now) }
     ensures some { OnOk result (0 < capacity.now) }

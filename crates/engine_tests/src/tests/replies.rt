@@ -5,7 +5,7 @@ ghost use Rattle.nfs_replies.specs.Kept.{reply_for};
 ghost use Rattle.nfs_replies.specs.Replies.{kept_of};
 
 use bytes::Bytes;
-use nfs_replies::{Capacity, Hashed, Replies, Sought};
+use nfs_replies::{Capacity, Hashed, RecordKey, Replies, Sought};
 use std::alloc::{AllocError, Global};
 use std::test::Fail;
 
@@ -31,10 +31,15 @@ const LONG: &[u8] = &[7; 300];
 
 const LONGER: &[u8] = &[7; 301];
 
+/// The random bytes under which records are hashed, and others.
+const KEY: [u8; 16] = [7; 16];
+
+const OTHER_KEY: [u8; 16] = [8; 16];
+
 /// Room for so many replies of each host.
 fn replies(alloc: Global, capacity: usize) -> Result<Replies, Fail> {
     let capacity = Capacity::new(capacity).ok_or("a capacity")?;
-    Ok(Replies::new(alloc, capacity))
+    Ok(Replies::new(alloc, capacity, RecordKey::new(&KEY)))
 }
 
 /// The reply that a record gets: the kept one, or else this one, which is kept then.
@@ -48,10 +53,11 @@ fn answered(
     let host = Bytes::from_static(host);
     let bytes = Bytes::from_static(bytes);
     let reply = Bytes::from_static(reply);
-    if let Some(kept) = replies.find(&host, Sought::new(&bytes))? {
+    let key = RecordKey::new(&KEY);
+    if let Some(kept) = replies.find(&host, Sought::new(key, &bytes))? {
         return Ok(kept);
     }
-    replies.keep(alloc, &host, Hashed::new(bytes), reply.clone()?)?;
+    replies.keep(alloc, &host, Hashed::new(key, bytes), reply.clone()?)?;
     Ok(reply)
 }
 
@@ -180,7 +186,7 @@ fn kept_at_last(
 {
     let host = Bytes::from_static(host);
     let reply = Bytes::from_static(OK);
-    let record = Hashed::new(Bytes::from_static(bytes));
+    let record = Hashed::new(RecordKey::new(&KEY), Bytes::from_static(bytes));
     let Err(refused) = replies.keep(alloc, &host, record, reply) else {
         return Ok(true);
     };
@@ -207,7 +213,10 @@ fn a_refused_growth_changes_nothing(rt: HostRuntime) -> Result<(), Fail> {
     ] {
         let key = Bytes::from_static(host);
         if replies
-            .find(&key, Sought::new(&Bytes::from_static(record)))?
+            .find(
+                &key,
+                Sought::new(RecordKey::new(&KEY), &Bytes::from_static(record)),
+            )?
             .is_none()
         {
             assert!(rt; kept_at_last(rt.alloc(), &mut replies, host, record)?);
@@ -220,8 +229,54 @@ fn a_refused_growth_changes_nothing(rt: HostRuntime) -> Result<(), Fail> {
         (FIRST, REMOVE, true),
     ] {
         let key = Bytes::from_static(host);
-        let found = replies.find(&key, Sought::new(&Bytes::from_static(record)))?;
+        let record = Bytes::from_static(record);
+        let found = replies.find(&key, Sought::new(RecordKey::new(&KEY), &record))?;
         assert_eq!(rt; found.is_some(), is_kept);
+    }
+    Ok(())
+}
+
+/// Records of 0 to 200 bytes, each the beginning of the next, and each again with its last byte another.
+#[test]
+fn records_are_told_apart_by_all_their_bytes(rt: HostRuntime) -> Result<(), Fail> {
+    let mut replies = replies(rt.alloc(), 512)?;
+    let host = Bytes::from_static(FIRST);
+    let key = RecordKey::new(&KEY);
+    for last in [7, 8] {
+        for length in 0..200 {
+            let mut bytes = Vec::from_elem(rt.alloc(), 7, length)?;
+            bytes.push(last)?;
+            let bytes = Bytes::from_vec(bytes)?;
+            assert!(rt; replies.find(&host, Sought::new(key, &bytes))?.is_none());
+            replies.keep(rt.alloc(), &host, Hashed::new(key, bytes.clone()?), bytes)?;
+        }
+    }
+    for last in [7, 8] {
+        for length in 0..200 {
+            let mut bytes = Vec::from_elem(rt.alloc(), 7, length)?;
+            bytes.push(last)?;
+            let bytes = Bytes::from_vec(bytes)?;
+            let found = replies.find(&host, Sought::new(key, &bytes))?;
+            assert!(rt; found == Some(bytes));
+        }
+    }
+    Ok(())
+}
+
+/// A record that was hashed under another key than the lists have is found, kept and handed back all the same.
+#[test]
+fn a_record_of_another_key_is_hashed_again(rt: HostRuntime) -> Result<(), Fail> {
+    let mut replies = replies(rt.alloc(), 2)?;
+    let host = Bytes::from_static(FIRST);
+    let (own, other) = (RecordKey::new(&KEY), RecordKey::new(&OTHER_KEY));
+    let (first, second) = (Bytes::from_static(CREATE), Bytes::from_static(LONG));
+    let reply = Bytes::from_static(OK);
+    replies.keep(rt.alloc(), &host, Hashed::new(other, first.clone()?), reply.clone()?)?;
+    replies.keep(rt.alloc(), &host, Hashed::new(own, second.clone()?), reply)?;
+    for key in [own, other] {
+        assert!(rt; replies.find(&host, Sought::new(key, &first))?.is_some());
+        assert!(rt; replies.find(&host, Sought::new(key, &second))?.is_some());
+        assert!(rt; replies.find(&host, Sought::new(key, &Bytes::from_static(LONGER)))?.is_none());
     }
     Ok(())
 }

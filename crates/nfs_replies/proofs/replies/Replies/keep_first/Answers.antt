@@ -12,13 +12,14 @@ abbrev event : goal.Joined-unwrap → ReplyEvent
 event c = Replied c.args.host.now c.args.bytes c.args.reply
 
 -- the new list has this reply alone
-left : (c : goal.Joined-unwrap) → IsLeftBy c.self.inside.capacity c.args.host.now c.args.bytes
-    (lru_cache [] c.self.inside.capacity) (empty-listed c.self.inside.capacity c.in_ok-host.ensures.some)
-    (event c) c.in_ok-host.list
+left : (c : goal.Joined-unwrap) → IsLeftBy c.self.inside.capacity c.self.inside.key c.args.host.now c.args.bytes
+    (lru_cache [] c.self.inside.capacity)
+    (empty-listed c.self.inside.capacity c.self.inside.key c.in_ok-host.ensures.some) (event c) c.in_ok-host.list
 left c =
     let capacity = c.self.inside.capacity in
-    put-left capacity c.args.host.now c.args.bytes (lru_cache [] capacity)
-    (empty-listed capacity c.in_ok-host.ensures.some) c.args.reply c.in_ok-host.list refl c.in_ok-host.ensures.list
+    let key = c.self.inside.key in
+    put-left capacity key c.args.host.now c.args.bytes (lru_cache [] capacity)
+    (empty-listed capacity key c.in_ok-host.ensures.some) c.args.reply c.in_ok-host.list refl c.in_ok-host.ensures.list
 
 -- and stands at the host, with all others as they were
 inserted : (c : goal.Joined-unwrap) →
@@ -29,7 +30,7 @@ pub invariant_of-self-2 : goal.invariant_of-self-2
 invariant_of-self-2 c =
     listed-new c.self.inside.capacity (event c) c.in_ok-host.host c.self.inside.lists.entries c.reserve.new.self
     c.insert.new.self c.in_ok-host.list c.in_ok-host.ensures.host c.reserve.ensures.entries (inserted c)
-    c.self.invariant (left c).0
+    c.self.inside.key c.self.invariant (left c).0
 
 pub returns-clause-front : goal.returns-clause-front
 returns-clause-front c =
