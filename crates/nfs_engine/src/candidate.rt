@@ -159,11 +159,7 @@ fn beginning(
 }
 
 /// What a call came with, if it changes something.
-fn origin_of(
-    key: RecordKey,
-    received: &Incoming,
-    call: &Call,
-) -> Result<Option<Origin>, AllocError>
+fn origin_of(key: RecordKey, received: &Incoming, call: &Call) -> Result<Option<Origin>, AllocError>
     ensures { IfOk result (λ origin. origin ≡ origin_of (incoming_value received.now) call.now) }
 {
     match received {

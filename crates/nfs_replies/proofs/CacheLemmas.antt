@@ -161,11 +161,11 @@ module _ (capacity : ℕ) (key : RecordKey) (host bytes : List ℕ) (was : Cache
   promoted-left new by =
       let event = Repeated host bytes in
       let left : kept_in (lru_cache (promoted (same_key sought) was.entries) was.cap) ≡
-          after capacity event (kept_in was) =
-          kept-plain (promoted (same_key sought) was.entries)
-          ∙ ap kept (promoted-plain key sought refl was.entries is.hashed)
-          ∙ kept-promoted bytes capacity host (plain was.entries) once-plain
-          ∙ ap (after capacity event) (sym (kept-plain was.entries)) in
+      after capacity event (kept_in was) =
+      kept-plain (promoted (same_key sought) was.entries)
+      ∙ ap kept (promoted-plain key sought refl was.entries is.hashed)
+      ∙ kept-promoted bytes capacity host (plain was.entries) once-plain
+      ∙ ap (after capacity event) (sym (kept-plain was.entries)) in
       subst (IsLeftBy event) (sym by) (
         record {
           bound = is.bound;
@@ -183,14 +183,14 @@ module _ (capacity : ℕ) (key : RecordKey) (host bytes : List ℕ) (was : Cache
       let event = Replied host bytes reply in
       let bare : PlainCache = lru_cache (plain was.entries) was.cap in
       let absent : reply_for bytes (kept (plain was.entries)) ≡ None =
-          ap (reply_for bytes) (sym (kept-plain was.entries)) ∙ none in
+      ap (reply_for bytes) (sym (kept-plain was.entries)) ∙ none in
       let left : kept_in (lru_cache (put_entries same_key was sought reply) was.cap) ≡
-          after capacity event (kept_in was) =
-          kept-plain (put_entries same_key was sought reply)
-          ∙ ap kept (put-plain key sought refl was reply is.hashed)
-          ∙ kept-put bytes host reply bare (subst (λ n. 0 < n) (sym is.bound) is.roomy) absent
-          ∙ ap (λ n. after n event (kept (plain was.entries))) is.bound
-          ∙ ap (after capacity event) (sym (kept-plain was.entries)) in
+      after capacity event (kept_in was) =
+      kept-plain (put_entries same_key was sought reply)
+      ∙ ap kept (put-plain key sought refl was reply is.hashed)
+      ∙ kept-put bytes host reply bare (subst (λ n. 0 < n) (sym is.bound) is.roomy) absent
+      ∙ ap (λ n. after n event (kept (plain was.entries))) is.bound
+      ∙ ap (after capacity event) (sym (kept-plain was.entries)) in
       subst (IsLeftBy event) (sym by) (
         record {
           bound = is.bound;

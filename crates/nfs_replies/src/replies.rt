@@ -156,7 +156,11 @@ fn put(
 {
     match list.put(bytes.keyed(key), reply) {
         Ok(_) => Ok(()),
-        Err(AllocFailed { value: (keyed, reply) }) => Err(AllocFailed {
+        Err(
+            AllocFailed {
+                value: (keyed, reply),
+            },
+        ) => Err(AllocFailed {
             value: (keyed.into_hashed(key), reply),
         }),
     }

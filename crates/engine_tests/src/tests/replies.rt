@@ -271,12 +271,21 @@ fn a_record_of_another_key_is_hashed_again(rt: HostRuntime) -> Result<(), Fail> 
     let (own, other) = (RecordKey::new(&KEY), RecordKey::new(&OTHER_KEY));
     let (first, second) = (Bytes::from_static(CREATE), Bytes::from_static(LONG));
     let reply = Bytes::from_static(OK);
-    replies.keep(rt.alloc(), &host, Hashed::new(other, first.clone()?), reply.clone()?)?;
+    replies.keep(
+        rt.alloc(),
+        &host,
+        Hashed::new(other, first.clone()?),
+        reply.clone()?,
+    )?;
     replies.keep(rt.alloc(), &host, Hashed::new(own, second.clone()?), reply)?;
     for key in [own, other] {
         assert!(rt; replies.find(&host, Sought::new(key, &first))?.is_some());
         assert!(rt; replies.find(&host, Sought::new(key, &second))?.is_some());
-        assert!(rt; replies.find(&host, Sought::new(key, &Bytes::from_static(LONGER)))?.is_none());
+        assert!(rt;
+            replies
+                .find(&host, Sought::new(key, &Bytes::from_static(LONGER)))?
+                .is_none()
+        );
     }
     Ok(())
 }
