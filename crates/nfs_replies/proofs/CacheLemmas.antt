@@ -10,7 +10,7 @@ use Rattle.lru.proofs.Pairs.{lookup-lookup_entry}
 use Rattle.lru.specs.LruCache.{LruCache, lru_cache, promoted, put_entries}
 use Rattle.nfs_replies.specs.Kept.{ReplyEvent, KeptReply, after, is_for, reply_for, same_bytes}
 use Rattle.nfs_replies.specs.Kept.ReplyEvent.{Replied, Repeated}
-use Rattle.nfs_replies.specs.Entries.{IsHashed, keyed, same_key}
+use Rattle.nfs_replies.specs.Entries.{keyed, same_key}
 use Rattle.nfs_replies.specs.Keys.{digest}
 use Rattle.nfs_replies.specs.Replies.{Cache, EachOnce, IsListed, kept_in}
 use Rattle.nfs_replies.specs.declared.digest.RecordKey.{RecordKey}

@@ -1,6 +1,6 @@
 -- What calls came with, in a table whose records are hashed under one key: the table finds it by host and bytes.
-use Rattle.std.proofs.Common.{◌≡◌, ℕ, Bool, true, false, cond, not, ◌&&◌, ◌||◌, nat_eq, List, [], ◌∷◌, map, refl, sym}
-use Rattle.std.proofs.Common.{ap, ◌∙◌, subst}
+use Rattle.std.proofs.Common.{◌≡◌, ℕ, Bool, true, false, cond, not, ◌&&◌, ◌||◌, nat_eq, List, [], ◌∷◌, refl, sym}
+use Rattle.std.proofs.Common.{ap, ◌∙◌}
 use Rattle.std.proofs.lemmas.Bool.{and_parts, eq-eqb, eqb-true}
 use Rattle.std.specs.Cmp.Lexicographic.{bytes_decides}
 use Rattle.std.specs.List.{list_any}
@@ -25,6 +25,9 @@ same_itself : (e : Entry) → same_entry e e ≡ true
 same_itself e = both (same_bytes e.host e.host) (same_key e.sent e.sent) ((bytes_decides e.host e.host).1 refl)
     (both (nat_eq e.sent.hash e.sent.hash) (same_bytes e.sent.bytes e.sent.bytes)
     (eq-eqb e.sent.hash e.sent.hash refl) ((bytes_decides e.sent.bytes e.sent.bytes).1 refl))
+
+pub none-hashed : (key : RecordKey) → AreHashed key []
+none-hashed key e among = cc
 
 -- what a call came with, as it is in a table with this key
 abbrev pub entry_of : RecordKey → Origin → Entry

@@ -1,14 +1,15 @@
 -- The map of hosts: one cache written is one event, and no other host's list changes.
 use Rattle.std.proofs.Common.{◌≡◌, ℕ, true, false, cond, List, [], ◌∷◌, Option, Some, None, IfSome}
-use Rattle.std.proofs.Common.{IsSome, option_map, map, find, refl, sym, ap, ◌∙◌, subst}
+use Rattle.std.proofs.Common.{IsSome, Result, Ok, Err, OnOk, OnErr, option_map, map, find, refl, sym, ap, ◌∙◌, subst}
 use Rattle.indexmap.specs.IndexMap.{IndexMap, Updates, WritesThrough}
 use Rattle.std.proofs.lemmas.Map.Steps.{set_value_same}
 use Rattle.std.specs.Cmp.Lexicographic.{bytes_decides}
 use Rattle.std.specs.Map.{lookup}
 use Rattle.std.specs.Option.{option_map_or}
+use Rattle.lru.specs.LruCache.{lru_cache, put_entries}
 use Rattle.nfs_replies.specs.Kept.{ReplyEvent, KeptReply, KeptLists, after, host_of, lists_after, reply_for, same_bytes}
-use Rattle.nfs_replies.specs.Kept.ReplyEvent.{Repeated}
-use Rattle.nfs_replies.proofs.CacheLemmas.{reply_for-found}
+use Rattle.nfs_replies.specs.Kept.ReplyEvent.{Repeated, Replied}
+use Rattle.nfs_replies.proofs.CacheLemmas.{IsLeftBy, put-left, reply_for-found}
 use Rattle.nfs_replies.proofs.KeptListLemmas.{after-unkept}
 use Rattle.nfs_replies.specs.Entries.{keyed, same_key}
 use Rattle.nfs_replies.specs.declared.digest.RecordKey.{RecordKey}
@@ -196,6 +197,43 @@ pub listed-at : (capacity : ℕ) (key : RecordKey) (hosts : Hosts) (host : List 
     AreListed capacity key hosts → Some cache ≡ lookup (same_bytes host) hosts → IsListed capacity key cache
 listed-at capacity key hosts host cache each found =
     subst (λ o. IfSome o (IsListed capacity key)) (sym found) (each host)
+
+-- a reply is put into a cache that was lent, or the cache stays as it was
+module _ {S : Type 0} (capacity : ℕ) (key : RecordKey) (host bytes reply : List ℕ)
+    (old new : IndexMap (List ℕ) Cache S) (was cache : Cache) (each : AreListed capacity key old.entries)
+    (found : Some was ≡ lookup (same_bytes host) old.entries)
+    (through : WritesThrough same_bytes (same_bytes host) old cache new) where
+  abbrev IsPut : Type 0
+  IsPut = cache ≡ lru_cache (put_entries same_key was (keyed key bytes) reply) was.cap
+
+  abbrev event : ReplyEvent
+  event = Replied host bytes reply
+
+  is : IsListed capacity key was
+  is = listed-at capacity key old.entries host was each found
+
+  left : reply_for bytes (kept_of (shown capacity old.entries) host) ≡ None → IsPut →
+      IsLeftBy capacity key host bytes was is event cache
+  left none put = put-left capacity key host bytes was is reply cache
+      (reply_for-found key bytes was is.hashed
+      ∙ sym (reply-at capacity key old.entries host bytes (Some was) each found) ∙ none) put
+
+  pub listed-put : {A B : Type 0} (r : Result A B) → reply_for bytes (kept_of (shown capacity old.entries) host) ≡ None →
+      OnOk r IsPut → OnErr r (cache ≡ was) → AreListed capacity key new.entries
+  listed-put (Ok _) none put stays =
+      listed-lent capacity event old new was cache found through key each (left none put).0
+  listed-put (Err _) none put stays =
+      subst (AreListed capacity key) (sym (same-lent host old new was cache found through stays)) each
+
+  pub is-after-put : {A B : Type 0} (r : Result A B) → reply_for bytes (kept_of (shown capacity old.entries) host) ≡ None →
+      OnOk r IsPut → OnOk r (IsAfter event (shown capacity old.entries) (shown capacity new.entries))
+  is-after-put (Ok _) none put = is-after-lent capacity event old new was cache found through (left none put).1
+  is-after-put (Err _) none put = tt
+
+  pub same-unput : {A B : Type 0} (r : Result A B) → OnErr r (cache ≡ was) →
+      OnErr r (shown capacity new.entries ≡ shown capacity old.entries)
+  same-unput (Ok _) stays = tt
+  same-unput (Err _) stays = ap (shown capacity) (same-lent host old new was cache found through stays)
 
 -- a cache comes for a host that has none
 module _ {S : Type 0} (capacity : ℕ) (event : ReplyEvent) (host : List ℕ) (old : Hosts)

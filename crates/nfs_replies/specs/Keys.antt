@@ -1,14 +1,19 @@
 -- What is hashed of a record.
-use Rattle.std.specs.Prelude.{ℕ, zero, suc, ◌+◌, ◌*◌, ◌/◌, ◌%◌, ◌^◌, List, [], ◌∷◌, ◌++◌, drop, length, replicate}
+use Rattle.std.specs.Prelude.{ℕ, zero, suc, ◌+◌, ◌*◌, ◌/◌, ◌%◌, ◌^◌, bit_xor, List, ◌++◌, drop, length}
+use Rattle.std.specs.Prelude.{replicate}
 use Rattle.std.specs.Hash as fed
+use Rattle.std.specs.Int.{rotate_left, w64}
 use Rattle.byteorder.specs.Endian.{little_number}
 use Rattle.nfs_replies.specs.declared.digest.Lanes.{Lanes}
 use Rattle.nfs_replies.specs.declared.digest.RecordKey.{RecordKey}
 
--- one lane after two words: the halves of the product of two sums, added
-abbrev pub mixed : (word lane a b : ℕ) → ℕ
-mixed word lane a b =
-    let product = (a + word) % 2 ^ 64 * ((b + lane) % 2 ^ 64) in (product / 2 ^ 64 + product) % 2 ^ 64
+-- the two halves of a number of 128 bits, put together bit by bit, with the lower one turned
+abbrev pub folded : ℕ → ℕ
+folded product = bit_xor (product / 2 ^ 64) (rotate_left w64 (product % 2 ^ 64) 13)
+
+-- one lane after two words: the product of two sums, folded
+unfoldable pub mixed : (word lane a b : ℕ) → ℕ
+mixed word lane a b = folded ((a + word) % 2 ^ 64 * ((b + lane) % 2 ^ 64))
 
 -- a word of 64 bits
 abbrev pub word : List ℕ → (at : ℕ) → ℕ

@@ -123,8 +123,8 @@ impl<'a> Sought<'a> {
 
     /// The same in a table that has this key. The bytes are read again where it was hashed under another.
     pub(crate) fn probe(self, key: RecordKey) -> Probe<'a>
-        ensures bytes { result.bytes.now ≡ self.bytes.now }
-        ensures hash { result.hash ≡ digest key self.bytes.now }
+        ensures bytes { result.bytes.now ≡ self.entry.bytes.now }
+        ensures hash { result.hash ≡ digest key self.entry.bytes.now }
     {
         Probe {
             hash: self.hash_under(key),
@@ -133,8 +133,9 @@ impl<'a> Sought<'a> {
     }
 
     /// Its hash under this key.
+    #[tactic(auto, using(crate::proofs::DigestLemmas::same_digest))]
     fn hash_under(self, key: RecordKey) -> u64
-        ensures { result ≡ digest key self.bytes.now }
+        ensures { result ≡ digest key self.entry.bytes.now }
     {
         if self.key == key {
             self.hash

@@ -92,10 +92,7 @@ impl Replies {
     {
         let key = self.key;
         match self.lists.get_mut(host) {
-            Some(list) => match put(key, list, bytes, reply) {
-                Ok(()) => Ok(()),
-                Err(refused) => Err(refused),
-            },
+            Some(list) => put(key, list, bytes, reply),
             None => self.keep_first(alloc, host, bytes, reply),
         }
     }

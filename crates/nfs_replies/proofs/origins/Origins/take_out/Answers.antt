@@ -1,7 +1,8 @@
 use Rattle.std.proofs.Common.{◌≡◌, ◌∙◌, List, length, ap, arith, sym, subst}
+use Rattle.nfs_replies.proofs.EntryLemmas.{none-hashed}
 use Rattle.nfs_replies.proofs.OneOriginLemmas.{alone_out}
 use Rattle.std.proofs.lemmas.List.{length-map}
-use Rattle.nfs_replies.specs.Entries.{origin_in_entry, origins_of}
+use Rattle.nfs_replies.specs.Entries.{AreHashed, origin_in_entry, origins_of}
 use Rattle.nfs_replies.specs.Origins.{is_among}
 use Rattle.nfs_replies.specs.declared.origins.Entry.{Entry}
 use Rattle.nfs_replies.specs.declared.origins.Origin.{Origin}
@@ -12,13 +13,12 @@ returns-then-len-eq1 c origin =
     ap (λ (es : List Entry). is_among (origins_of es) origin) c.clear.ensures.empty
     ∙ alone_out c.args.self.now c.args.origin.now
     (subst (λ (os : List Origin). length os ≡ 1) c.self.view_is
-    (length-map origin_in_entry c.self.inside.set.keys ∙ sym c.len.ensures.len ∙ one))
+    (length-map c.self.inside.set.keys origin_in_entry ∙ sym c.len.ensures.len ∙ one))
     c.requires origin
   where
     one : c.len.result ≡ 1
     one = omega arith
 
-pub invariant_of-self-then-len-eq1 : goal.invariant_of-self-then-len-eq1
-invariant_of-self-then-len-eq1 c e among =
-    absurd (let no : false ≡ true = ap (λ (es : List Entry). list_any (same_entry e) es) (sym c.clear.ensures.empty)
-    ∙ among in cc)
+pub invariant_of-self : goal.invariant_of-self
+invariant_of-self c =
+    subst (AreHashed c.self.inside.key) (sym c.clear.ensures.empty) (none-hashed c.self.inside.key)
