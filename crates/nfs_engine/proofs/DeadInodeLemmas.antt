@@ -1,6 +1,6 @@
 -- Which inode is dead, and what may go of it.
-use Rattle.std.proofs.Common.{◌≡◌, ◌==◌, ◌&&◌, ◌||◌, ◌-◌, ◌%◌, ◌<◌, ◌≤◌, ℕ, Bool, true, false, not, cond, max, List, [], ◌∷◌}
-use Rattle.std.proofs.Common.{nat_lt, Option, Some, None, IsSome, find, is_some, refl, sym, ◌∙◌, ap, subst, arith}
+use Rattle.std.proofs.Common.{◌≡◌, ◌==◌, ◌&&◌, ◌||◌, ◌-◌, ◌%◌, ◌<◌, ◌≤◌, ℕ, Bool, true, false, not, cond, List, [], ◌∷◌}
+use Rattle.std.proofs.Common.{nat_lt, Option, Some, None, find, is_some, refl, sym, ◌∙◌, ap, subst, arith}
 use Rattle.std.proofs.lemmas.Bool.{le-ltb, lt-ltb}
 use Rattle.std.specs.Cmp.{unsigned_Decides}
 use Rattle.std.specs.List.{list_any}
@@ -10,7 +10,6 @@ use Rattle.nfs_objects.specs.FileMaps.{FileMapValue}
 use Rattle.nfs_objects.specs.Stands.{bucket_there, exports_of, inode_of, lives_in}
 use Rattle.nfs_objects.specs.Store.{Store}
 use Rattle.nlm_ranges.specs.Buckets.{LockedValue, bucket_count, file_in}
-use Rattle.nfs_objects.specs.declared.address.Addr.{Addr}
 use Rattle.nfs_objects.specs.declared.address.Addr.TheVariants as addresses
 use Rattle.nfs_objects.specs.declared.bits.Bits.{Bits}
 use Rattle.nfs_objects.specs.declared.object.Content.TheVariants as contents
@@ -108,7 +107,8 @@ module _ (s : Store) (n : ℕ) (i : Inode) (there : inode_of (s.at (addresses.In
   pub not-living : (es : List LivingExport) (r : Bool) → es ≡ exports_of (s.at addresses.Exports) → r ≡ listed es →
       r ≡ true → (j : Inode) → IsDead s n j → ⊥
   not-living es r same is lives j dead =
-      (let no : false ≡ true = sym (subst (λ (x : Inode). lives_in (exports_of (s.at addresses.Exports)) x.export ≡ false)
+      (let no : false ≡ true = sym
+          (subst (λ (x : Inode). lives_in (exports_of (s.at addresses.Exports)) x.export ≡ false)
       (same-inode j dead) dead.export) ∙ lives-listed es r same is ∙ lives in cc)
 
   pub not-locked : (r : Bool) → r ≡ is_some (file_in (bucket_there s (n % bucket_count)) n) → r ≡ true →
@@ -129,10 +129,12 @@ module _ (s : Store) (n : ℕ) (i : Inode) (there : inode_of (s.at (addresses.In
 
 -- ---- what is left of an inode
 pub inode-none : (i : Inode) (map : FileMapValue) → same_bits map.pages no_bits ≡ true → inode_with i map ≡ None
-inode-none i map none = ap (λ (b : Bool). cond b None (Some (stored.Inode (record i { content = contents.Regular map }))))
+inode-none i map none = ap
+    (λ (b : Bool). cond b None (Some (stored.Inode (record i { content = contents.Regular map }))))
     none
 
 pub inode-some : (i : Inode) (map : FileMapValue) → same_bits map.pages no_bits ≡ false →
     inode_with i map ≡ Some (stored.Inode (record i { content = contents.Regular map }))
-inode-some i map some = ap (λ (b : Bool). cond b None (Some (stored.Inode (record i { content = contents.Regular map }))))
+inode-some i map some = ap
+    (λ (b : Bool). cond b None (Some (stored.Inode (record i { content = contents.Regular map }))))
     some

@@ -1,5 +1,5 @@
 -- What stands at an address is another now, or it went with its slot, where nobody holds it.
-use Rattle.std.proofs.Common.{◌≡◌, ◌≢◌, ℕ, ◌==◌, Bool, true, false, cond, Option, Some, None, IsSome, option_map, unwrap_or}
+use Rattle.std.proofs.Common.{◌≡◌, ◌≢◌, ℕ, true, false, cond, Option, Some, None, IsSome, option_map, unwrap_or}
 use Rattle.std.proofs.Common.{refl, sym, ◌∙◌, ap, subst}
 use Rattle.std.specs.Arc.{arc_value}
 use Rattle.std.specs.Map.{lookup}
@@ -15,8 +15,7 @@ use Rattle.nfs_engine.proofs.SlotChangeLemmas.{put, sound}
 use Rattle.nfs_engine.proofs.SlotPlaceLemmas.{Becomes, other_becomes}
 use Rattle.nfs_engine.proofs.SlotStepLemmas.{changed_twice, is_some, number_here, number_turns, other_here, other_turns}
 use Rattle.nfs_engine.specs.Found.{Changes, found}
-use Rattle.nfs_engine.specs.Holders.{HoldersValue}
-use Rattle.nfs_engine.specs.Shards.{Fills, IsSound, ShardValue, SlotValue, empty_slot, hold_at, key_in, numbered}
+use Rattle.nfs_engine.specs.Shards.{Fills, IsSound, ShardValue, SlotValue, empty_slot, key_in, numbered}
 use Rattle.nfs_engine.specs.Shards.{shard_value, slot_at, slot_of, slot_value, slots_seen}
 use Rattle.nfs_engine.specs.declared.slot.Slot.{Slot}
 

@@ -1,5 +1,6 @@
 -- One write of a table of objects that leaves no slot of nothing.
-use Rattle.std.proofs.Common.{◌≡◌, ◌&&◌, ◌||◌, Bool, true, false, not, List, [], ◌∷◌, Option, Some, None, IsSome, is_some}
+use Rattle.std.proofs.Common.{◌≡◌, ◌&&◌, ◌||◌, Bool, true, false, not, List, [], ◌∷◌, Option, Some, None, IsSome}
+use Rattle.std.proofs.Common.{is_some}
 use Rattle.std.proofs.Common.{refl, sym, ◌∙◌, ap, subst, unwrap_or, ℕ}
 use Rattle.nfs_objects.specs.Store.{Store, with_write}
 use Rattle.nfs_objects.specs.Values.{is_addr}
@@ -43,5 +44,6 @@ needs-none slots a (Some x) stands = by (found slots a) refl
     by : (k : Option KeptValue) → found slots a ≡ k → not (is_some (found slots a)) ≡ false
     by (Some k) is = ap (λ (y : Option KeptValue). not (is_some y)) is
     by None is =
-        (let no : false ≡ true = subst (λ (y : Option KeptValue). IsSome (unwrap_or y empty_kept).object) is (stands refl) in
+        (let no : false ≡ true = subst (λ (y : Option KeptValue). IsSome (unwrap_or y empty_kept).object) is
+            (stands refl) in
         cc)

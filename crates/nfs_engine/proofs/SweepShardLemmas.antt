@@ -1,16 +1,17 @@
 -- A map page of a file goes from a shard address by address.
-use Rattle.std.proofs.Common.{◌≡◌, ◌+◌, ◌*◌, ◌<◌, ℕ, Bool, true, false, Option, Some, None, IsSome, is_some, not, refl, sym, ◌∙◌, ap, subst}
+use Rattle.std.proofs.Common.{◌≡◌, ◌+◌, ◌*◌, ◌<◌, ℕ, Bool, true, false, Option, Some, None, IsSome, is_some, not, refl}
+use Rattle.std.proofs.Common.{sym, ◌∙◌, subst}
 use Rattle.std.specs.Bool.{Decides}
 use Rattle.nfs_objects.specs.declared.address.Addr.{Addr}
 use Rattle.nfs_objects.specs.declared.address.Addr.TheVariants.{Block, Inode, Map}
 use Rattle.nfs_objects.specs.declared.modes.Mode.{Mode}
 use Rattle.nfs_objects.specs.declared.modes.Mode.TheVariants.{Exclusive}
 use Rattle.nfs_objects.specs.declared.object.Object.{Object}
-use Rattle.nfs_engine.proofs.SweepStepLemmas.{AllBlocks, IsGoneTo, block-of-page, blocks-next, gone-all, gone-first}
+use Rattle.nfs_engine.proofs.SweepStepLemmas.{AllBlocks, IsGoneTo, block-of-page, gone-all, gone-first}
 use Rattle.nfs_engine.proofs.SweepStepLemmas.{gone-next, map-of-page, page-has}
 use Rattle.nfs_engine.specs.Holders.{HoldersValue, IsExcluder, hold_of}
 use Rattle.nfs_engine.specs.Shards.{Fills, ShardValue, hold_at, slot_at}
-use Rattle.nfs_engine.specs.Sweeps.{IsFreeOf, IsPageFree, SweepValue, SweepsShard, is_of_page}
+use Rattle.nfs_engine.specs.Sweeps.{IsFreeOf, IsPageFree, SweepValue, SweepsShard}
 
 -- the page is gone from the shard with its first so many blocks
 pub record ShardGoneTo (old new : ShardValue) (file page count : ℕ) : Type 0 where
@@ -92,7 +93,8 @@ pub block-held : (s : ShardValue) (file page count : ℕ) (a : Addr) → a ≡ B
 block-held s file page count a is within free held decides = (
   λ e. cc,
   λ so. (let no : true ≡ false = sym (decides.1 (subst (λ (b : Addr). IsFree s b) (sym is)
-      (so (Block file (page * 512 + count)) (block-of-page file page count (page * 512 + count) refl within)))) ∙ held in
+      (so (Block file (page * 512 + count)) (block-of-page file page count (page * 512 + count) refl within))))
+          ∙ held in
       cc),
 )
 

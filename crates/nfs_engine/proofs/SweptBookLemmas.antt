@@ -1,18 +1,15 @@
 -- A book that is swept: its store stands for the same state.
-use Rattle.std.proofs.Common.{◌≡◌, ◌==◌, ◌&&◌, ◌||◌, ◌-◌, ◌%◌, ◌<◌, ◌≤◌, ℕ, Bool, true, false, not, cond, max, List, [], ◌∷◌}
-use Rattle.std.proofs.Common.{nat_lt, Option, Some, None, IsSome, find, is_some, refl, sym, ◌∙◌, ap, subst, arith}
+use Rattle.std.proofs.Common.{◌≡◌, ◌==◌, ◌-◌, ◌≤◌, ℕ, Bool, true, false, not, cond, max, List}
+use Rattle.std.proofs.Common.{Some, None, IsSome, refl, sym, ◌∙◌, ap, subst, arith}
 use Rattle.std.specs.Cmp.{unsigned_Decides}
 use Rattle.nfs_machine.specs.Run.{Record, Run, Setting}
 use Rattle.nfs_machine.specs.State.{State}
 use Rattle.nfs_objects.specs.Bits.{no_bits, same_bits}
-use Rattle.nfs_objects.specs.FileMaps.{FileMapValue}
 use Rattle.nfs_objects.specs.Store.{Store, give}
 use Rattle.nfs_objects.specs.declared.address.Addr.{Addr}
 use Rattle.nfs_objects.specs.declared.address.Addr.TheVariants as addresses
-use Rattle.nfs_objects.specs.declared.bits.Bits.{Bits}
 use Rattle.nfs_objects.specs.declared.object.Content.TheVariants as contents
 use Rattle.nfs_objects.specs.declared.object.Inode.{Inode}
-use Rattle.nfs_objects.specs.declared.object.Object.{Object}
 use Rattle.nfs_objects.specs.declared.object.Object.TheVariants as stored
 use Rattle.nfs_engine.proofs.SweptStoreLemmas.{swept-stands}
 use Rattle.nfs_engine.proofs.CommitLeadsLemmas.{led_run}
@@ -31,7 +28,8 @@ sweep-stands s w may some = subst (λ o. IsSome o) (sym may.dead.stands) refl
 -- no generation is given that was not
 last-stays : (s : Store) (w : SweepValue) (may : MaySweep s w) → may.old.generation ≤ s.last w.file → (q : ℕ) →
     give s.last (addresses.Inode w.file) w.inode q ≡ s.last q
-last-stays s w may given q = ap (λ o. give s.last (addresses.Inode w.file) o q) may.left ∙ by (same_bits may.pages no_bits)
+last-stays s w may given q = ap (λ o. give s.last (addresses.Inode w.file) o q) may.left
+    ∙ by (same_bits may.pages no_bits)
   where
     left : Inode
     left = record may.old { content = contents.Regular (record may.map { pages = may.pages }) }
@@ -42,7 +40,8 @@ last-stays s w may given q = ap (λ o. give s.last (addresses.Inode w.file) o q)
         cond b (max (s.last q) may.old.generation) (s.last q) ≡ s.last q) [
           | true ↦ λ same.
               (let is : may.old.generation ≤ s.last q =
-              subst (λ n. may.old.generation ≤ s.last n) ((unsigned_Decides w.file q).0 same) given in omega (arith, is))
+              subst (λ n. may.old.generation ≤ s.last n) ((unsigned_Decides w.file q).0 same) given in omega
+                  (arith, is))
           | false ↦ λ other. refl
         ] refl
 

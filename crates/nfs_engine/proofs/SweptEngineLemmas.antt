@@ -1,5 +1,5 @@
 -- The book and its shards stay tied where both are swept.
-use Rattle.std.proofs.Common.{◌≡◌, ◌≢◌, ℕ, ◌<◌, ◌≤◌, ◌%◌, ◌/◌, ◌==◌, Bool, true, false, cond, List}
+use Rattle.std.proofs.Common.{◌≡◌, ◌≢◌, ℕ, ◌<◌, ◌%◌, ◌/◌, ◌==◌, true, cond, List}
 use Rattle.std.proofs.Common.{get_or, set, length, Option, Some, None, IsSome, refl, sym, ◌∙◌, ap, subst, arith}
 use Rattle.std.proofs.lemmas.Bool.{and_parts, false_from_ne_true}
 use Rattle.std.specs.Cmp.{unsigned_Decides}
@@ -64,7 +64,8 @@ module _ (shards : List ShardValue) (k : ℕ) (was s : ShardValue) (within : k <
         (λ b is. went.objects b) (λ b apart x. other b x.object apart);
     holds = λ b j. each_slot shards k s within (λ b x y. hold_of y.holders j ≡ hold_of x.holders j)
         (λ b is. went.holds b j) (λ b apart x. refl) b;
-    inode = λ j. ap (λ i. hold_of (slot_at (shard_among shards i) (Inode w.file)).holders j) (sym place) ∙ unheld.inode j;
+    inode = λ j. ap (λ i. hold_of (slot_at (shard_among shards i) (Inode w.file)).holders j) (sym place)
+        ∙ unheld.inode j;
     page = λ b of j.
         ap (λ i. hold_of (slot_at (shard_among shards i) b).holders j) (page-in b of) ∙ unheld.page b of j;
     counters = each_shard shards k s within (λ x y. y.next_generation ≡ x.next_generation) went.next_generation

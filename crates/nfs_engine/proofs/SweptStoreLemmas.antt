@@ -1,22 +1,24 @@
 -- A store from which a page of a dead file was swept stands for what it stood for.
-use Rattle.std.proofs.Common.{◌≡◌, ◌==◌, ◌&&◌, ◌/◌, ◌%◌, ◌≤◌, ◌<◌, ◌⊎◌, ◌^◌, ℕ, Bool, true, false, not, cond, List, [], ◌∷◌}
+use Rattle.std.proofs.Common.{◌≡◌, ◌==◌, ◌&&◌, ◌/◌, ◌%◌, ◌≤◌, ◌<◌, ◌⊎◌, ◌^◌, ℕ, Bool, true, false, not, cond, List, []}
+use Rattle.std.proofs.Common.{◌∷◌}
 use Rattle.std.proofs.Common.{Option, Some, None, IsSome, find, option_map, refl, sym, ◌∙◌, ap, subst, arith}
 use Rattle.std.specs.Cmp.{unsigned_Decides}
 use Rattle.std.specs.List.{AllByRecursion, Contains}
 use Rattle.std.specs.Prelude.{◌↔◌, nat_le, nat_lt}
 use Rattle.nfs_machine.specs.Attributes.{size_of}
 use Rattle.nfs_machine.specs.Exports.{LivingExport}
-use Rattle.nfs_machine.specs.State.{Entry, Request}
+use Rattle.nfs_machine.specs.State.{Entry}
 use Rattle.nlm_ranges.specs.Buckets.{LockedValue, bucket_count, file_in}
 use Rattle.nfs_objects.proofs.BitSetLemmas.{has-none}
 use Rattle.nfs_objects.specs.Bits.{has, no_bits, same_bits}
 use Rattle.nfs_objects.specs.Directories.{led_in_part, width_in}
 use Rattle.nfs_objects.specs.FileMaps.{FileMapValue, IsContent}
 use Rattle.nfs_objects.specs.SameLaws.{bits_decides}
-use Rattle.nfs_objects.specs.Stands.{HasBlocks, HasEntries, HoldsEntries, IsMapped, IsPart, IsPendingIn, IsPlaced, IsStored}
-use Rattle.nfs_objects.specs.Stands.{Kept, Represents, StandEntries, StandLocks, beside_at, bucket_at, bucket_there}
-use Rattle.nfs_objects.specs.Stands.{bytes_at, content_of, entry_map_in, entry_map_of, export_table_of, exported_file, exports_of, inode_in, inode_there, links_kept}
-use Rattle.nfs_objects.specs.Stands.{lives_in, living_of_inode, map_in, map_of, pages_of, parent_kept, stored_bucket}
+use Rattle.nfs_objects.specs.Stands.{HasBlocks, HoldsEntries, IsMapped, IsPart, IsPendingIn, IsPlaced, IsStored}
+use Rattle.nfs_objects.specs.Stands.{Kept, Represents, StandLocks, beside_at, bucket_at, bucket_there}
+use Rattle.nfs_objects.specs.Stands.{bytes_at, content_of, entry_map_in, entry_map_of, export_table_of, exported_file}
+use Rattle.nfs_objects.specs.Stands.{exports_of, inode_in, inode_there, links_kept}
+use Rattle.nfs_objects.specs.Stands.{lives_in, living_of_inode, map_of, pages_of, parent_kept, stored_bucket}
 use Rattle.nfs_objects.specs.Stands.{mounts_of, stored_in}
 use Rattle.nfs_objects.specs.Store.{Store, put_at}
 use Rattle.nfs_objects.specs.Values.{is_addr}
@@ -66,7 +68,8 @@ left-pages i map page = elim (same_bits map.pages no_bits) as (λ b. same_bits m
 
 left-entries : (i : Inode) (map : FileMapValue) → entry_map_of (inode_with i map) ≡ None
 left-entries i map = elim (same_bits map.pages no_bits) as (λ b. entry_map_of
-    (cond b None (Some (stored.Inode (record i { content = contents.Regular map })))) ≡ None) [ true ↦ refl | false ↦ refl ]
+    (cond b None (Some (stored.Inode (record i { content = contents.Regular map })))) ≡ None)
+        [ true ↦ refl | false ↦ refl ]
 
 -- an inode that is left is the old one but for the pages of its map
 left-is : (i j : Inode) (map : FileMapValue) → inode_with i map ≡ Some (stored.Inode j) →
@@ -167,7 +170,8 @@ module _ (old new : Store) (w : SweepValue) (sweeps : Sweeps old new w) where
     }
 
     old-pages : pages_of (old.at (addresses.Inode n)) ≡ may.map.pages
-    old-pages = ap pages_of stood ∙ ap (λ c. pages_of (Some (stored.Inode (record may.old { content = c })))) may.regular
+    old-pages = ap pages_of stood ∙ ap (λ c. pages_of (Some (stored.Inode (record may.old { content = c }))))
+        may.regular
 
     new-pages : (page : ℕ) → has (pages_of (new.at (addresses.Inode n))) page ≡
         (has may.map.pages page && not (w.page == page))
@@ -189,7 +193,8 @@ module _ (old new : Store) (w : SweepValue) (sweeps : Sweeps old new w) where
           IsMapped (has (pages_of (new.at (addresses.Inode n))) page) (new.at (addresses.Map n page))) [
             | true ↦ λ same.
                 subst (λ b. IsMapped b (new.at (addresses.Map n page)))
-                (sym (new-pages page ∙ ap (λ b. has may.map.pages page && not b) same ∙ and-not (has may.map.pages page)))
+                (sym (new-pages page ∙ ap (λ b. has may.map.pages page && not b) same
+                    ∙ and-not (has may.map.pages page)))
                 (gone (addresses.Map n page) ((λ i. is-itself n i && same i)))
             | false ↦ λ other.
                 subst (λ b. IsMapped b (new.at (addresses.Map n page)))
@@ -202,7 +207,8 @@ module _ (old new : Store) (w : SweepValue) (sweeps : Sweeps old new w) where
           IsStored (has (map_of (new.at (addresses.Map n (i / 512)))) (i % 512)) (new.at (addresses.Block n i))) [
             | true ↦ λ same.
                 subst (λ b. IsStored b (new.at (addresses.Block n i)))
-                (sym (ap (λ o. has (map_of o) (i % 512)) (gone (addresses.Map n (i / 512)) ((λ j. is-itself n j && same j)))
+                (sym (ap (λ o. has (map_of o) (i % 512))
+                    (gone (addresses.Map n (i / 512)) ((λ j. is-itself n j && same j)))
                 ∙ has-none (i % 512)))
                 (gone (addresses.Block n i) ((λ j. is-itself n j && same j)))
             | false ↦ λ other.
@@ -215,7 +221,8 @@ module _ (old new : Store) (w : SweepValue) (sweeps : Sweeps old new w) where
 
     swept-blocks : (m : ℕ) → HasBlocks new m (pages_of (new.at (addresses.Inode m)))
     swept-blocks m = elim (n == m) as (λ b. (n == m) ≡ b → HasBlocks new m (pages_of (new.at (addresses.Inode m)))) [
-      | true ↦ λ same. subst (λ q. HasBlocks new q (pages_of (new.at (addresses.Inode q)))) (same-number n m same) own-blocks
+      | true ↦ λ same. subst (λ q. HasBlocks new q (pages_of (new.at (addresses.Inode q)))) (same-number n m same)
+          own-blocks
       | false ↦ λ other. others-blocks m other
     ] refl
 
@@ -284,7 +291,8 @@ module _ (old new : Store) (w : SweepValue) (sweeps : Sweeps old new w) where
       where
         apart : (b : Bool) → (f.number == n) ≡ b → (f.number == n) ≡ false
         apart true is = (
-            let same : index ≡ n % bucket_count = sym all.0.bucket ∙ ap (λ q. q % bucket_count) (same-number f.number n is) in
+            let same : index ≡ n % bucket_count = sym all.0.bucket
+                ∙ ap (λ q. q % bucket_count) (same-number f.number n is) in
             let no : Some f ≡ None = sym (ap (λ b. cond b (Some f) (find (λ (g : LockedValue). g.number == n) fs)) is)
             ∙ none same in cc)
         apart false is = is
@@ -306,7 +314,8 @@ module _ (old new : Store) (w : SweepValue) (sweeps : Sweeps old new w) where
       stored = λ index. subst (λ o. o ≡ stored_bucket (bucket_at o)) (sym (same-locks index)) (was.locks.stored index);
       placed = λ index. subst (λ o. AllByRecursion (IsPlaced new index) (bucket_at o).files) (sym (same-locks index))
           (placed-on index (bucket_there old index).files
-          (λ same. ap (λ q. find (λ (f : LockedValue). f.number == n) (bucket_there old q).files) same ∙ may.dead.unlocked)
+          (λ same. ap (λ q. find (λ (f : LockedValue). f.number == n) (bucket_there old q).files) same
+              ∙ may.dead.unlocked)
           (was.locks.placed index));
     }
 

@@ -322,9 +322,9 @@ impl Engine {
         self.book.new_era(alloc)
     }
 
-    /// Sweeps the last map page of the file at a number, if that is dead: whether nothing is left of the file then. None
-    /// where nothing is swept: no such file stands there, somebody holds what would go, or something of locks stands
-    /// for it. What stood is handed out, so that it can be dropped apart.
+    /// Sweeps the last map page of the file at a number, if that is dead: whether nothing is left of the file then.
+    /// None where nothing is swept: no such file stands there, somebody holds what would go, or something of locks
+    /// stands for it. What stood is handed out, so that it can be dropped apart.
     ///
     /// # Errors
     ///

@@ -64,8 +64,8 @@ impl Slot {
 }
 
 impl Slot {
-    /// Puts an object, or nothing, in the place of what stands there, which comes in its place. Answers whether the slot
-    /// is idle then.
+    /// Puts an object, or nothing, in the place of what stands there, which comes in its place. Answers whether the
+    /// slot is idle then.
     pub(crate) fn replace(&mut self, object: &mut Option<Arc<Object>>) -> bool
         ensures put { slot_value self.new
             ≡ record (slot_value self.old) { object = option_map arc_value object.old } }

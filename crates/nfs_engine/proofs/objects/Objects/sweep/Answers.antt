@@ -1,7 +1,8 @@
 use Rattle.std.proofs.Common.{arith, option_map, ◌≡◌, ℕ, subst}
 use Rattle.std.specs.Arc.{arc_value}
 use Rattle.nfs_engine.proofs.SlotWriteLemmas.{needs-none}
-use Rattle.nfs_engine.proofs.SweepStoreStepLemmas.{StoreGoneTo, store-all, store-first, store-inode, store-last, store-next}
+use Rattle.nfs_engine.proofs.SweepStoreStepLemmas.{StoreGoneTo, store-all, store-first, store-inode, store-last}
+use Rattle.nfs_engine.proofs.SweepStoreStepLemmas.{store-next}
 use Rattle.nfs_engine.specs.Tables.{store_of}
 use Rattle.nfs_objects.specs.declared.address.Addr.TheVariants.{Inode}
 use Rattle.nfs_engine.proofs.objects.Objects.sweep.Goals as goal
@@ -13,8 +14,10 @@ loop-place-init c =
 
 pub loop-place-preserved : goal.loop-place-preserved
 loop-place-preserved c =
-    store-next (store_of c.args.self.now.slots) (store_of c.loop-place.self.slots) (store_of c.write-in-loop-place.new.self.slots)
-    c.args.sweep.file c.args.sweep.page c.loop-place.place c.block.result c.loop-place.invariant c.write-in-loop-place.ensures
+    store-next (store_of c.args.self.now.slots) (store_of c.loop-place.self.slots)
+        (store_of c.write-in-loop-place.new.self.slots)
+    c.args.sweep.file c.args.sweep.page c.loop-place.place c.block.result c.loop-place.invariant
+        c.write-in-loop-place.ensures
     c.block.ensures
 
 pub write-requires-2 : goal.write-requires-2

@@ -1,4 +1,4 @@
-use Rattle.std.proofs.Common.{arith, subst, sym, ◌∙◌, ◌≡◌, ℕ, true, false}
+use Rattle.std.proofs.Common.{arith, subst, ◌≡◌, ℕ}
 use Rattle.std.specs.Bool.{Decides}
 use Rattle.nfs_objects.specs.declared.address.Addr.{Addr}
 use Rattle.nfs_engine.proofs.SweepShardLemmas.{IsFree, block-held, page-decides}
