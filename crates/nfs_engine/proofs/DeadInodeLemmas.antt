@@ -108,7 +108,7 @@ module _ (s : Store) (n : ℕ) (i : Inode) (there : inode_of (s.at (addresses.In
       r ≡ true → (j : Inode) → IsDead s n j → ⊥
   not-living es r same is lives j dead =
       (let no : false ≡ true = sym
-          (subst (λ (x : Inode). lives_in (exports_of (s.at addresses.Exports)) x.export ≡ false)
+      (subst (λ (x : Inode). lives_in (exports_of (s.at addresses.Exports)) x.export ≡ false)
       (same-inode j dead) dead.export) ∙ lives-listed es r same is ∙ lives in cc)
 
   pub not-locked : (r : Bool) → r ≡ is_some (file_in (bucket_there s (n % bucket_count)) n) → r ≡ true →

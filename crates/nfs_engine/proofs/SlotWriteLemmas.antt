@@ -45,5 +45,5 @@ needs-none slots a (Some x) stands = by (found slots a) refl
     by (Some k) is = ap (λ (y : Option KeptValue). not (is_some y)) is
     by None is =
         (let no : false ≡ true = subst (λ (y : Option KeptValue). IsSome (unwrap_or y empty_kept).object) is
-            (stands refl) in
+        (stands refl) in
         cc)

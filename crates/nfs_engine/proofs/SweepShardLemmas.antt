@@ -94,7 +94,7 @@ block-held s file page count a is within free held decides = (
   λ e. cc,
   λ so. (let no : true ≡ false = sym (decides.1 (subst (λ (b : Addr). IsFree s b) (sym is)
       (so (Block file (page * 512 + count)) (block-of-page file page count (page * 512 + count) refl within))))
-          ∙ held in
+      ∙ held in
       cc),
 )
 

@@ -41,7 +41,7 @@ last-stays s w may given q = ap (λ o. give s.last (addresses.Inode w.file) o q)
           | true ↦ λ same.
               (let is : may.old.generation ≤ s.last q =
               subst (λ n. may.old.generation ≤ s.last n) ((unsigned_Decides w.file q).0 same) given in omega
-                  (arith, is))
+              (arith, is))
           | false ↦ λ other. refl
         ] refl
 

@@ -69,7 +69,7 @@ left-pages i map page = elim (same_bits map.pages no_bits) as (λ b. same_bits m
 left-entries : (i : Inode) (map : FileMapValue) → entry_map_of (inode_with i map) ≡ None
 left-entries i map = elim (same_bits map.pages no_bits) as (λ b. entry_map_of
     (cond b None (Some (stored.Inode (record i { content = contents.Regular map })))) ≡ None)
-        [ true ↦ refl | false ↦ refl ]
+    [ true ↦ refl | false ↦ refl ]
 
 -- an inode that is left is the old one but for the pages of its map
 left-is : (i j : Inode) (map : FileMapValue) → inode_with i map ≡ Some (stored.Inode j) →
@@ -194,7 +194,7 @@ module _ (old new : Store) (w : SweepValue) (sweeps : Sweeps old new w) where
             | true ↦ λ same.
                 subst (λ b. IsMapped b (new.at (addresses.Map n page)))
                 (sym (new-pages page ∙ ap (λ b. has may.map.pages page && not b) same
-                    ∙ and-not (has may.map.pages page)))
+                ∙ and-not (has may.map.pages page)))
                 (gone (addresses.Map n page) ((λ i. is-itself n i && same i)))
             | false ↦ λ other.
                 subst (λ b. IsMapped b (new.at (addresses.Map n page)))
@@ -208,7 +208,7 @@ module _ (old new : Store) (w : SweepValue) (sweeps : Sweeps old new w) where
             | true ↦ λ same.
                 subst (λ b. IsStored b (new.at (addresses.Block n i)))
                 (sym (ap (λ o. has (map_of o) (i % 512))
-                    (gone (addresses.Map n (i / 512)) ((λ j. is-itself n j && same j)))
+                (gone (addresses.Map n (i / 512)) ((λ j. is-itself n j && same j)))
                 ∙ has-none (i % 512)))
                 (gone (addresses.Block n i) ((λ j. is-itself n j && same j)))
             | false ↦ λ other.
@@ -292,7 +292,7 @@ module _ (old new : Store) (w : SweepValue) (sweeps : Sweeps old new w) where
         apart : (b : Bool) → (f.number == n) ≡ b → (f.number == n) ≡ false
         apart true is = (
             let same : index ≡ n % bucket_count = sym all.0.bucket
-                ∙ ap (λ q. q % bucket_count) (same-number f.number n is) in
+            ∙ ap (λ q. q % bucket_count) (same-number f.number n is) in
             let no : Some f ≡ None = sym (ap (λ b. cond b (Some f) (find (λ (g : LockedValue). g.number == n) fs)) is)
             ∙ none same in cc)
         apart false is = is
@@ -315,7 +315,7 @@ module _ (old new : Store) (w : SweepValue) (sweeps : Sweeps old new w) where
       placed = λ index. subst (λ o. AllByRecursion (IsPlaced new index) (bucket_at o).files) (sym (same-locks index))
           (placed-on index (bucket_there old index).files
           (λ same. ap (λ q. find (λ (f : LockedValue). f.number == n) (bucket_there old q).files) same
-              ∙ may.dead.unlocked)
+          ∙ may.dead.unlocked)
           (was.locks.placed index));
     }
 

@@ -15,9 +15,9 @@ loop-place-init c =
 pub loop-place-preserved : goal.loop-place-preserved
 loop-place-preserved c =
     store-next (store_of c.args.self.now.slots) (store_of c.loop-place.self.slots)
-        (store_of c.write-in-loop-place.new.self.slots)
+    (store_of c.write-in-loop-place.new.self.slots)
     c.args.sweep.file c.args.sweep.page c.loop-place.place c.block.result c.loop-place.invariant
-        c.write-in-loop-place.ensures
+    c.write-in-loop-place.ensures
     c.block.ensures
 
 pub write-requires-2 : goal.write-requires-2

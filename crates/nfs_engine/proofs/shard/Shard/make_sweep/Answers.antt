@@ -14,7 +14,7 @@ loop-place-init c =
 pub loop-place-preserved : goal.loop-place-preserved
 loop-place-preserved c =
     shard-next c.args.self.now c.loop-place.self c.replace-in-loop-place.new.self c.args.sweep.now.file
-        c.args.sweep.now.page
+    c.args.sweep.now.page
     c.loop-place.place c.block.result c.block.ensures c.loop-place.invariant c.replace-in-loop-place.ensures.fills
 
 pub replace-requires-2 : goal.replace-requires-2
