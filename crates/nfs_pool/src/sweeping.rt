@@ -45,6 +45,7 @@ impl<L: Ledger + Naming> Pool<L> {
             places,
             count: _,
             log: _,
+            key: _,
         } = self;
         let desk = desk.get_mut();
         let mut pages: usize = 0;
