@@ -1,7 +1,9 @@
-//! What READ and WRITE read ahead of their attempts (RFC 1813, 3.3.6 and 3.3.7): their plan, as far as the view tells.
+//! What READ, WRITE and a SETATTR of a size read ahead of their attempts (RFC 1813, 3.3.2, 3.3.6 and 3.3.7): their
+//! plan, as far as the view tells.
 //!
 //! Behind what its handle names, where its checks pass, READ goes to the blocks of its range, and WRITE to these and to
-//! what it changes with them: all that the attempt asks for there.
+//! what it changes with them: all that the attempt asks for there. SETATTR goes to what its file is counted in and to
+//! the map pages that are cut off, and then to the blocks that these tell of.
 
 ghost use Rattle.std.specs.Prelude.{IfErr, IfSome};
 ghost use Rattle.nfs_machine.specs.declared.calls.Call.TheVariants as calls;
@@ -11,7 +13,7 @@ ghost use Rattle.nfs_objects.specs.Modes.{Suits, modes_of};
 ghost use Rattle.nfs_inodes.specs.Wants.{IsWanted};
 ghost use Rattle.nfs_data.specs.Plans.{MayGoOn, MayHalt};
 
-use crate::{read, write};
+use crate::{read, setattr, write};
 use nfs_inodes::wishes::Want;
 use nfs_machine::{Call, Ctx};
 use nfs_objects::{Draft, Halt, Modes, View};
@@ -21,6 +23,8 @@ use std::alloc::Global;
 /// How far a call is in its plan: what it wants next, if it lacks that.
 #[derive(Clone, Copy)]
 pub enum Plan {
+    /// What tells where its data is.
+    Maps,
     /// What its data is in.
     Data,
     /// Nothing.
@@ -34,6 +38,7 @@ type Next = Option<(Want, Plan)>;
 pub fn behind_first(call: &NfsCall) -> Plan {
     match call {
         NfsCall::Read(_) | NfsCall::Write(_) => Plan::Data,
+        NfsCall::Setattr(arguments) if arguments.attributes.size.is_some() => Plan::Maps,
         _ => Plan::Over,
     }
 }
@@ -47,22 +52,22 @@ pub fn next(alloc: Global, call: &Call, ctx: &Ctx, view: &View, plan: Plan) -> N
     let Call::Nfs(nfs) = call else {
         return None;
     };
-    match plan {
-        Plan::Data => {
-            let mut draft = Draft::new(alloc, ctx, view, Modes::of(call));
-            go_on(&mut draft, nfs)
-        }
-        Plan::Over => None,
-    }
+    let after = match plan {
+        Plan::Maps => Plan::Data,
+        Plan::Data => Plan::Over,
+        Plan::Over => return None,
+    };
+    let mut draft = Draft::new(alloc, ctx, view, Modes::of(call));
+    go_on(&mut draft, nfs, after)
 }
 
-/// The same of its draft, which is of no use then.
-fn go_on(draft: &mut Draft<'_>, call: &NfsCall) -> Next
+/// The same of its draft, which is of no use then; and where the plan is once it is taken.
+fn go_on(draft: &mut Draft<'_>, call: &NfsCall, after: Plan) -> Next
     requires { Begins (calls.Nfs call.now) draft.old }
     ensures { MayGoOn call.now draft.old result }
 {
     match ask(draft, call) {
-        Err(Halt::Need(asked)) => Some((Want::Addresses(asked), Plan::Over)),
+        Err(Halt::Need(asked)) => Some((Want::Addresses(asked), after)),
         _ => None,
     }
 }
@@ -77,6 +82,7 @@ fn ask(draft: &mut Draft<'_>, call: &NfsCall) -> Result<(), Halt>
     ensures { IfErr result (MayHalt call.now draft.old) }
 {
     match call {
+        NfsCall::Setattr(arguments) => setattr::ask(draft, arguments),
         NfsCall::Read(arguments) => read::ask(draft, arguments),
         NfsCall::Write(arguments) => write::ask(draft, arguments),
         _ => Ok(()),

@@ -1,6 +1,6 @@
 //! SETATTR: new attributes of an object (RFC 1813, 3.3.2).
 
-ghost use Rattle.std.specs.Prelude.{◌≡◌, ◌%◌, ◌==◌, ◌||◌, ◌&&◌, [], true, not, IfOk, IfSome};
+ghost use Rattle.std.specs.Prelude.{◌≡◌, ◌%◌, ◌==◌, ◌||◌, ◌&&◌, [], true, not, IfErr, IfOk, IfSome};
 ghost use Rattle.std.specs.Prelude.{MatchResult, if◌then◌else◌, is_none, is_some, option_map, unwrap_or};
 ghost use Rattle.nfs_machine.specs.AttributeSteps.{set_object};
 ghost use Rattle.nfs_machine.specs.Attributes.{type_of};
@@ -8,23 +8,26 @@ ghost use Rattle.nfs_machine.specs.Permission.{ToWrite, is_member, may, mode_lim
 ghost use Rattle.nfs_machine.specs.State.{Content, Socket};
 ghost use Rattle.nfs_machine.specs.Times.{is_client_time, is_server_time, time_of};
 ghost use Rattle.nfs_machine.specs.declared.calls.Call.TheVariants as calls;
+ghost use Rattle.nfs_objects.specs.Asks.{IsThere};
 ghost use Rattle.nfs_objects.specs.Attempt.{EndsCall, EndsFirst};
 ghost use Rattle.nfs_objects.specs.Begins.{Begins};
 ghost use Rattle.nfs_objects.specs.Calls.{named_by};
 ghost use Rattle.nfs_objects.specs.Knows.{Does, Knows, Turns};
 ghost use Rattle.nfs_objects.specs.Modes.{changing};
 ghost use Rattle.nfs_objects.specs.Only.{AsksNothing, EndsFirstOnly};
+ghost use Rattle.nfs_objects.specs.declared.address.Addr.TheVariants as Addr;
 ghost use Rattle.nfs_inodes.specs.Kinds.{IsShown};
 ghost use Rattle.nfs_inodes.specs.Known.{Names, shell};
 ghost use Rattle.nfs_inodes.specs.Makes.{size_set};
 ghost use Rattle.nfs_inodes.specs.Stops.{KnowsAt, StopsAt, counted_at};
+ghost use Rattle.nfs_data.specs.Plans.{MayHalt};
 ghost use Rattle.nfs_data.specs.Settings.{IsSetEnd, IsSizeOf, content_found};
 ghost use Rattle.nfs_data.specs.Settings.{content_set, set_found, settings_after};
 
 use nfs_inodes::{
-    File, Known, MODE_LIMIT, Right, SIZE_LIMIT, Settings, changeable, exports, is_client_time,
-    is_member, is_server_time, is_time, may, named, nothing_shown, now, object, regular, resize,
-    set_attributes, time_set, touch, wcc_of,
+    File, Known, MODE_LIMIT, Right, SIZE_LIMIT, Settings, ask_resize, changeable, exports,
+    is_client_time, is_member, is_server_time, is_time, may, named, nothing_shown, now, object,
+    regular, resize, set_attributes, time_set, touch, wcc_of,
 };
 use nfs_machine::{Ctx, Reply};
 use nfs_objects::{Change, Draft, Halt, LivingExport};
@@ -56,6 +59,35 @@ pub(crate) fn attempt(mut draft: Draft<'_>, arguments: &SetattrArguments) -> Res
         },
     };
     Ok(draft.answer(Reply::Nfs(NfsReply::Setattr(reply))))
+}
+
+/// Asks for what SETATTR has to hold for a new size, where its checks pass.
+///
+/// # Errors
+///
+/// `Need` of what it lacks, and `Memory`.
+pub(crate) fn ask(draft: &Draft<'_>, arguments: &SetattrArguments) -> Result<(), Halt>
+    requires { Begins (calls.Nfs (NfsCall.Setattr arguments.now)) draft.now }
+    ensures { IfErr result (MayHalt (NfsCall.Setattr arguments.now) draft.now) }
+{
+    if let Ok(known) = named(draft, arguments.object.as_slice())? {
+        ask_size(draft, &known, arguments)?;
+    }
+    Ok(())
+}
+
+/// The same of the object that its handle names.
+fn ask_size(draft: &Draft<'_>, known: &Known, arguments: &SetattrArguments) -> Result<(), Halt>
+    requires none { draft.now.writes ≡ [] }
+    requires lives { IsThere draft.now.view (Addr.Inode known.now.number) }
+    requires shown { IsShown draft.now known.now }
+    ensures { IfErr result (StopsAt draft.now []) }
+{
+    let exports = exports(draft)?;
+    if let Ok(Some(new)) = settable(draft.ctx(), exports, known, arguments) {
+        ask_resize(draft, &new.file, new.size)?;
+    }
+    Ok(())
 }
 
 fn attributes_of(known: Option<Known>) -> Option<Attributes>

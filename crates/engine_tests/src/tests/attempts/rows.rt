@@ -183,8 +183,8 @@ pub(super) const IN_THE_DEEPEST: &[Row<'static>] = &[
     (EXPORT, &[], 1),
 ];
 
-/// Calls on a file. WRITE asks for the blocks, and once more for what their absence tells it to change. An attempt of
-/// SETATTR that cuts it off asks for what its export uses, then for all map pages, and then for all blocks.
+/// Calls on a file. WRITE asks for the blocks, and once more for what their absence tells it to change. SETATTR goes to
+/// what its export uses and to all map pages that are cut off, and then to all blocks.
 pub(super) const ON_A_FILE: &[Row<'static>] = &[
     (READ, &[Word::Made, Word::Zeros(2), Word::Is(4096)], 1),
     (READ, &[Word::Made, Word::Zeros(2), Word::Is(65_536)], 1),
@@ -213,7 +213,19 @@ pub(super) const ON_A_FILE: &[Row<'static>] = &[
     (
         SETATTR,
         &[Word::Made, Word::Zeros(3), Word::Is(1), Word::Zeros(5)],
-        4,
+        1,
+    ),
+    (
+        SETATTR,
+        &[
+            Word::Made,
+            Word::Zeros(3),
+            Word::Is(1),
+            Word::Zeros(1),
+            Word::Is(5000),
+            Word::Zeros(3),
+        ],
+        1,
     ),
     (COMMIT, &[Word::Made, Word::Zeros(3)], 1),
     (LINK, &[Word::Made, Word::Root, Word::Absent], 1),

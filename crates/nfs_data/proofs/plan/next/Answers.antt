@@ -8,7 +8,7 @@ go_on-requires c =
     begun c.args.call.now c.in-Nfs.nfs c.args.ctx.now c.args.view.now c.new-draft.result c.in-Nfs.is
     (c.new-draft.ensures ∙ ap (new_draft c.args.ctx.now c.args.view.now) c.of.ensures)
 
-pub returns-in-Data : goal.returns-in-Data
-returns-in-Data c =
+pub returns : goal.returns
+returns c =
     goes-on c.args.call.now c.in-Nfs.nfs c.args.ctx.now c.args.view.now c.new-draft.result c.in-Nfs.is
     (c.new-draft.ensures ∙ ap (new_draft c.args.ctx.now c.args.view.now) c.of.ensures) c.go_on.result c.go_on.ensures
