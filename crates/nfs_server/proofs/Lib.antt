@@ -1,10 +1,12 @@
 mod AnsweredLinesLemmas
 mod AnswersToLemmas
 pub mod CallbackTextLemmas
+mod ConversationLemmas
 mod CrossingLemmas
 mod FragmentPieceLemmas
 mod HeardInputLemmas
 mod LineLemmas
+mod SentLineLemmas
 mod FragmentHeaderLemmas
 pub mod CommandLineLemmas
 pub mod GrantedAnswerLemmas

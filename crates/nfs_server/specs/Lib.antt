@@ -4,9 +4,11 @@ pub mod Callbacks
 pub mod Clocks
 pub mod CommandLine
 pub mod Control
+pub mod Conversations
 pub mod Exits
 pub mod ExportTexts
 pub mod Limits
+pub mod Lines
 pub mod PassedOver
 pub mod Queued
 pub mod Stages

@@ -1,19 +1,23 @@
 //! What answers records: each is executed on a place, and no place is held while answers are sent.
 
-ghost use Rattle.std.specs.Prelude.{◌≡◌, ℕ, false, true, IfErr, IfOk, IsSome};
+ghost use Rattle.std.specs.Prelude.{◌≡◌, ◌++◌, ℕ, List, Option, [], false, true};
+ghost use Rattle.std.specs.Prelude.{IfErr, IfNone, IfOk, IsSome, OnErr, OnOk};
 ghost use Rattle.nfs_machine.specs.Run as machine;
 ghost use Rattle.nfs_engine.specs.Arrivals.{incoming_value, received_value};
 ghost use Rattle.nfs_engine.specs.Asked.{IsAskedBy};
+ghost use Rattle.nfs_schedule.specs.Answers.{reply_bytes};
 ghost use Rattle.nfs_pool.specs.Seats.{IsDeclined};
+ghost use Rattle.nfs_streams.specs.Connections.{waiting};
 ghost use Rattle.nfs_server.specs.AnswersTo.{AnswersRecord, HandsBack, HasReceipt, IsAnswerTo, IsTold};
 ghost use Rattle.nfs_server.specs.AnswersTo.{number_after};
 ghost use Rattle.nfs_server.specs.CalledBack.{MayHavePosted};
+ghost use Rattle.nfs_server.specs.Conversations.{Adds, Cuts, GoesOn, IsCutOff};
 
 use crate::clock::ServerClock;
 use crate::controlling::Applied;
 use crate::network::bell::Bell;
 use crate::network::counters::Counters;
-use crate::network::line::Line;
+use crate::network::line::{Line, Peer};
 use crate::network::places::{Place, Places};
 use nfs_engine::{Arrival, Asked, Faulted, Host, Incoming, Reading, Receipt, Received};
 use nfs_machine::{Exports, Moments};
@@ -78,39 +82,49 @@ pub(crate) struct Clerk<L: Ledger + Naming, C> {
 }
 
 impl<L: Ledger + Naming, C: Clock> Clerk<L, C> {
-    /// Answers a record of a connection and those behind it, one after the other and so many at most, and sends the
-    /// answers. The place is given back behind the last one, and whenever the answers that wait are to be sent before
-    /// the next one. Whether a call was refused.
+    /// Answers the next record of a connection and those behind it, one after the other and so many at most, and sends
+    /// the answers. The place is given back behind the last one, and whenever the answers that wait are to be sent
+    /// before the next one. Whether a call was refused; None where there was no record.
     ///
     /// # Errors
     ///
     /// There was no memory to take a record in or to answer it, or the answers can't be sent.
-    pub(crate) fn answer_all<R: Wait + Clock>(
+    pub(crate) fn answer_all<R: Wait + Clock, P: Peer>(
         &mut self,
         rt: &R,
         alloc: Global,
-        line: &mut Line,
-        place: Place<L>,
-        first: Record,
+        line: &mut Line<P>,
         connection: &mut Connection,
-    ) -> Result<bool, Closed>
-        requires { connection.old.full ≡ false }
-        ensures { connection.new.full ≡ false }
+    ) -> Result<Option<bool>, Closed>
+        requires room { connection.old.full ≡ false }
+        ensures room { connection.new.full ≡ false }
+        ensures goes { OnOk result ((unread : Option (List ℕ)) → GoesOn line.old.host self.old.last self.new.last
+            connection.old connection.new unread unread (P.written line.old.peer) (P.written line.new.peer)) }
+        ensures sent { OnOk result (waiting connection.old ≡ [] → waiting connection.new ≡ []) }
+        ensures none { IfOk result (λ some. IfNone some (connection.new.records.queued ≡ [])) }
+        ensures breaks { OnErr result ((unread : Option (List ℕ)) → IsCutOff line.old.host self.old.last connection.old
+            unread (P.written line.old.peer) (P.written line.new.peer)) }
+        ensures unread { P.unread line.new.peer ≡ P.unread line.old.peer }
+        ensures host { line.new.host ≡ line.old.host }
     {
+        let Some(first) = connection.next() else {
+            return Ok(None);
+        };
+        let place = self.places.take(rt);
         let (mut place, mut is_refused) = self.answer_next(
             rt, alloc, line, place, first, connection,
         )?;
         'records: for _ in 1..MOST_RECORDS {
-            let Some(record) = connection.next() else {
+            let Some(message) = connection.next() else {
                 break;
             };
-            let (left, refused) = self.answer_next(rt, alloc, line, place, record, connection)?;
+            let (left, refused) = self.answer_next(rt, alloc, line, place, message, connection)?;
             place = left;
             is_refused = is_refused || refused;
         }
         self.places.give(rt, place);
         line.send(rt, connection)?;
-        Ok(is_refused)
+        Ok(Some(is_refused))
     }
 
     /// Answers the next record of a connection, and sends the answers that wait, where they are to be sent before the
@@ -119,19 +133,25 @@ impl<L: Ledger + Naming, C: Clock> Clerk<L, C> {
     /// # Errors
     ///
     /// As `answer_all`. The place is given back.
-    fn answer_next<R: Wait + Clock>(
+    fn answer_next<R: Wait + Clock, P: Peer>(
         &mut self,
         rt: &R,
         alloc: Global,
-        line: &mut Line,
+        line: &mut Line<P>,
         place: Place<L>,
-        record: Record,
+        message: Record,
         connection: &mut Connection,
     ) -> Result<(Place<L>, bool), Closed>
-        requires { connection.old.full ≡ false }
-        ensures { connection.new.full ≡ false }
+        requires room { connection.old.full ≡ false }
+        ensures room { connection.new.full ≡ false }
+        ensures adds { OnOk result (Adds line.old.host self.old.last self.new.last message connection.old connection.new
+            (P.written line.old.peer) (P.written line.new.peer)) }
+        ensures cuts { OnErr result (Cuts line.old.host self.old.last message connection.old
+            (P.written line.old.peer) (P.written line.new.peer)) }
+        ensures unread { P.unread line.new.peer ≡ P.unread line.old.peer }
+        ensures host { line.new.host ≡ line.old.host }
     {
-        let (place, answered) = self.answer(rt, alloc, &line.host, place, record);
+        let (place, answered) = self.answer(rt, alloc, &line.host, place, message);
         self.counters.answered(&answered);
         match answered {
             Ok(answer) => {
@@ -302,12 +322,14 @@ pub(crate) fn is_refusal(answer: &Answer) -> bool {
 }
 
 /// Puts an answer behind those that wait. Whether these are to be sent before the next one.
-fn put(waiting: &mut Connection, answer: Answer) -> bool
-    requires { waiting.old.full ≡ false }
-    ensures { result ≡ waiting.new.full }
+fn put(connection: &mut Connection, answer: Answer) -> bool
+    requires { connection.old.full ≡ false }
+    ensures full { result ≡ connection.new.full }
+    ensures waits { waiting connection.new ≡ waiting connection.old ++ reply_bytes answer }
+    ensures records { connection.new.records ≡ connection.old.records }
 {
-    waiting.put(answer);
-    waiting.is_full()
+    connection.put(answer);
+    connection.is_full()
 }
 
 /// The number of the last receipt, behind an answer.

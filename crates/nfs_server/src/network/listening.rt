@@ -7,7 +7,7 @@ use crate::network::bell::Bell;
 use crate::network::clerk::Clerk;
 use crate::network::counters::{Counters, Event};
 use crate::network::jobs::Job;
-use crate::network::line::Line;
+use crate::network::line::{Line, Socket};
 use crate::network::places::Places;
 use crate::network::reading::Reader;
 use crate::options::{Network, Options, Transport};
@@ -245,7 +245,11 @@ fn start<
 ) -> io::Result<()> {
     let host = host_at(alloc, peer.ip())?;
     let mut reader = Reader {
-        line: Line::new(stream, host, patience)?,
+        line: Line {
+            peer: Socket::new(stream, patience)?,
+            host,
+            patience,
+        },
         clerk: service.clerk(*rt)?,
     };
     let attendance = Arc::try_clone(attendance)?;

@@ -1,11 +1,14 @@
 //! The thread of a connection: it reads, and answers what it has read.
 
 ghost use Rattle.std.specs.Io.{ReadsAtMost};
-ghost use Rattle.std.specs.Prelude.{◌≡◌, false, length, OnOk};
+ghost use Rattle.std.specs.Io.KnownBytes.{Consumes};
+ghost use Rattle.std.specs.Prelude.{◌≡◌, ◌⊎◌, ℕ, List, Option, [], false, length, IfOk, OnErr, OnOk, take};
+ghost use Rattle.nfs_streams.specs.Connections.{IsNew, waiting};
+ghost use Rattle.nfs_server.specs.Conversations.{GoesOn, IsCutOff};
 
 use crate::network::clerk::{Clerk, Closed};
 use crate::network::counters::Event;
-use crate::network::line::Line;
+use crate::network::line::{Line, Peer};
 use crate::patience::Watch;
 use nfs_pool::Naming;
 use nfs_rpc::RecordError;
@@ -24,12 +27,12 @@ const BUFFER_SIZE: usize = 262_144;
 
 /// What reads a connection.
 #[derive(Drop)]
-pub(crate) struct Reader<L: Ledger + Naming, C> {
-    pub(crate) line: Line,
+pub(crate) struct Reader<L: Ledger + Naming, C, P> {
+    pub(crate) line: Line<P>,
     pub(crate) clerk: Clerk<L, C>,
 }
 
-impl<L: Ledger + Naming, C: Clock> Reader<L, C> {
+impl<L: Ledger + Naming, C: Clock, P: Peer> Reader<L, C, P> {
     /// Serves the connection to its end. Where that is for want of memory the era is ended.
     pub(crate) fn work<R: Wait + Clock>(&mut self, rt: &R, alloc: Global) {
         let served = self.read(rt, alloc);
@@ -48,7 +51,8 @@ impl<L: Ledger + Naming, C: Clock> Reader<L, C> {
         served
     }
 
-    /// Reads what comes over the connection and answers it, to its end. The time in which that is answered is the
+    /// Reads what comes over the connection and answers it, to its end: each record in order, and each answer whole.
+    /// Where it is closed before, a beginning of the answers is sent. The time in which that is answered is the
     /// server's, and no peer's.
     fn read_pieces<R: Wait + Clock>(
         &mut self,
@@ -56,7 +60,14 @@ impl<L: Ledger + Naming, C: Clock> Reader<L, C> {
         alloc: Global,
         connection: &mut Connection,
     ) -> Result<(), Closed>
-        requires { connection.old.full ≡ false }
+        requires { IsNew connection.old }
+        ensures goes { OnOk result (GoesOn self.old.line.host self.old.clerk.last self.new.clerk.last
+            connection.old connection.new (P.unread self.old.line.peer) (P.unread self.new.line.peer)
+            (P.written self.old.line.peer) (P.written self.new.line.peer)) }
+        ensures all { OnOk result ((connection.new.records.queued ≡ []) ⊎ (connection.new ≡ connection.old)) }
+        ensures sent { OnOk result (waiting connection.new ≡ []) }
+        ensures breaks { OnErr result (IsCutOff self.old.line.host self.old.clerk.last connection.old
+            (P.unread self.old.line.peer) (P.written self.old.line.peer) (P.written self.new.line.peer)) }
     {
         let mut buffer = Vec::from_elem(alloc, 0u8, FIRST_SIZE)?;
         let mut now = Instant::now(rt)?;
@@ -86,14 +97,18 @@ impl<L: Ledger + Naming, C: Clock> Reader<L, C> {
         now: Instant,
         buffer: &mut [u8],
     ) -> Result<usize, Closed>
-        ensures { ReadsAtMost result buffer.new }
+        ensures count { ReadsAtMost result buffer.new }
+        ensures reads { IfOk result (λ count. Consumes (P.unread self.old.line.peer) (P.unread self.new.line.peer)
+            (take count buffer.new)) }
+        ensures written { P.written self.new.line.peer ≡ P.written self.old.line.peer }
+        ensures same { (self.new.line.host ≡ self.old.line.host) × (self.new.clerk.last ≡ self.old.clerk.last) }
     {
         let mut now = now;
         let patience = self.line.patience;
         'waits: for _ in rt.forever() {
             let seconds = watch.left(patience, now).ok_or(Closed::Late)?;
             // No wait is longer than that for a record: so in most reads the socket's own need not be set.
-            if let Some(count) = self.line.read(seconds.min(patience.record), buffer)? {
+            if let Some(count) = self.line.peer.read(seconds.min(patience.record), buffer)? {
                 return Ok(count);
             }
             now = Instant::now(rt)?;
@@ -109,8 +124,18 @@ impl<L: Ledger + Naming, C: Clock> Reader<L, C> {
         connection: &mut Connection,
         piece: &[u8],
     ) -> Result<bool, Closed>
-        requires { connection.old.full ≡ false }
-        ensures { connection.new.full ≡ false }
+        requires room { connection.old.full ≡ false }
+        ensures sent { OnOk result (waiting connection.old ≡ [] → waiting connection.new ≡ []) }
+        ensures room { connection.new.full ≡ false }
+        ensures goes { OnOk result ((unread left : Option (List ℕ)) → Consumes unread left piece.now →
+            GoesOn self.old.line.host self.old.clerk.last self.new.clerk.last connection.old connection.new
+            unread left (P.written self.old.line.peer) (P.written self.new.line.peer)) }
+        ensures breaks { OnErr result ((unread left : Option (List ℕ)) → Consumes unread left piece.now →
+            IsCutOff self.old.line.host self.old.clerk.last connection.old
+            unread (P.written self.old.line.peer) (P.written self.new.line.peer)) }
+        ensures all { OnOk result (connection.new.records.queued ≡ []) }
+        ensures unread { P.unread self.new.line.peer ≡ P.unread self.old.line.peer }
+        ensures host { self.new.line.host ≡ self.old.line.host }
     {
         let taken = connection.take_in(piece);
         let is_refused = self.answer_piece(rt, alloc, connection)?;
@@ -128,18 +153,27 @@ impl<L: Ledger + Naming, C: Clock> Reader<L, C> {
         alloc: Global,
         connection: &mut Connection,
     ) -> Result<bool, Closed>
-        requires { connection.old.full ≡ false }
-        ensures { connection.new.full ≡ false }
+        requires room { connection.old.full ≡ false }
+        ensures sent { OnOk result (waiting connection.old ≡ [] → waiting connection.new ≡ []) }
+        ensures room { connection.new.full ≡ false }
+        ensures goes { OnOk result ((unread : Option (List ℕ)) →
+            GoesOn self.old.line.host self.old.clerk.last self.new.clerk.last connection.old connection.new
+            unread unread (P.written self.old.line.peer) (P.written self.new.line.peer)) }
+        ensures all { OnOk result (connection.new.records.queued ≡ []) }
+        ensures breaks { OnErr result ((unread : Option (List ℕ)) →
+            IsCutOff self.old.line.host self.old.clerk.last connection.old
+            unread (P.written self.old.line.peer) (P.written self.new.line.peer)) }
+        ensures unread { P.unread self.new.line.peer ≡ P.unread self.old.line.peer }
+        ensures host { self.new.line.host ≡ self.old.line.host }
     {
         let mut is_refused = false;
         'batches: for _ in rt.forever() {
-            let Some(first) = connection.next() else {
+            let answered = self
+                .clerk
+                .answer_all(rt, alloc, &mut self.line, connection)?;
+            let Some(refused) = answered else {
                 return Ok(is_refused);
             };
-            let place = self.clerk.places.take(rt);
-            let refused = self
-                .clerk
-                .answer_all(rt, alloc, &mut self.line, place, first, connection)?;
             is_refused = is_refused || refused;
         }
         unreachable!()
