@@ -11,6 +11,7 @@ use Rattle.nfs_stamps.proofs.marks.Marks.TheSendSync as marks
 use Rattle.nfs_stamps.specs.declared.log.Naming as naming
 use Rattle.nfs_stamps.specs.contracts.log.Log as Log
 use Rattle.std.specs.contracts.sync.Mutex as Mutex
+use Rattle.nfs_replies.proofs.digest.RecordKey.TheSendSync as key
 use Rattle.nfs_replies.proofs.replies.Replies.TheSendSync as replies
 use Rattle.nfs_engine.proofs.dead.Dead.TheSendSync as dead
 use Rattle.nfs_engine.proofs.objects.Objects.TheSendSync as objects
@@ -63,7 +64,21 @@ module _ (L : RattleType) (g : Ghosts L.Denot) (n : naming.Ghosts L.Denot) (s : 
   log_sync = search (sendable, log.the_sync) depth 20
 
   pub pool_send : IsSend (Pool.the_row L g n)
-  pool_send = declared_send (Pool.the_type L g n) (desk_mutex_send, (search (sendable, place.the_send) depth 20, (count_send, (log_send, tt))))
+  pool_send =
+      declared_send (Pool.the_type L g n) (
+        desk_mutex_send,
+        (
+          search (sendable, place.the_send) depth 20,
+          (count_send, (log_send, (search (sendable, key.the_send) depth 20, tt))),
+        ),
+      )
 
   pub pool_sync : IsSync (Pool.the_row L g n)
-  pool_sync = declared_sync (Pool.the_type L g n) (desk_mutex_sync, (search (sendable, place.the_sync) depth 20, (count_sync, (log_sync, tt))))
+  pool_sync =
+      declared_sync (Pool.the_type L g n) (
+        desk_mutex_sync,
+        (
+          search (sendable, place.the_sync) depth 20,
+          (count_sync, (log_sync, (search (sendable, key.the_sync) depth 20, tt))),
+        ),
+      )
