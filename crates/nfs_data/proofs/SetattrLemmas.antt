@@ -1,7 +1,7 @@
 -- What SETATTR answers, and the object after it, are an end of the machine.
 use Rattle.std.proofs.Common.{◌≡◌, ◌==◌, ℕ, true, false, Bool, cond, List, Option, Some, None, Result, Ok}
 use Rattle.std.proofs.Common.{Err, refl}
-use Rattle.std.proofs.Common.{IfOk, IfSome, is_none, sym, ap, option_map, subst, ◌∙◌}
+use Rattle.std.proofs.Common.{IfSome, is_none, sym, ap, option_map, subst, ◌∙◌}
 use Rattle.std.specs.Cmp.{nat_cmp_total, unsigned_Decides}
 use Rattle.std.specs.FinMap.{FinMap, get, insert, nat_cmp-IsAntisymmetric, same_map}
 use Rattle.std.specs.Ordering.{nat_cmp}
@@ -104,15 +104,9 @@ file-as x None (Some new) sized = absurd sized
 file-as x (Some wanted) None sized = absurd sized
 file-as x (Some wanted) (Some new) sized = ap (λ (y : Known). y.number) sized.0
 
--- the file that gets it is that of the handle
-pub file-found : (x : Known) (wanted : Option ℕ) (found : Result (Option NewSize) NfsStatus) (new : NewSize) →
-    found ≡ Ok (Some new) → IfOk found (IsSizeOf x wanted) → new.file.known ≡ x
-file-found x wanted found new is sized =
-    by wanted (subst (λ f. IfOk f (IsSizeOf x wanted)) is sized)
-  where
-    by : (wanted : Option ℕ) → IsSizeOf x wanted (Some new) → new.file.known ≡ x
-    by None sized = absurd sized
-    by (Some size) sized = sized.0
+pub file-found : (x : Known) (wanted : Option ℕ) (new : NewSize) → IsSizeOf x wanted (Some new) → new.file.known ≡ x
+file-found x None new sized = absurd sized
+file-found x (Some size) new sized = sized.0
 
 pub file-shown : (d : DraftValue) (x : Known) (wanted : Option ℕ) (size : Option NewSize) → IsSizeOf x wanted size
     → IsShown d x → IfSome size (λ (s : NewSize). IsShown d s.file.known)

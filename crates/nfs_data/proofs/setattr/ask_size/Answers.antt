@@ -16,9 +16,10 @@ returns-in_err-exports c =
     rw (p.1, p.2) (exports-stop-at c.args.draft.now [] _ c.in_err-exports.ensures.exports)
 
 pub ask_resize-requires-clause-shown : goal.ask_resize-requires-clause-shown
-ask_resize-requires-clause-shown c = subst (λ (x : Known). IsShown c.args.draft.now x)
-    (sym (file-found c.args.known.now c.args.arguments.now.attributes.size c.settable.result c.in-Ok-Some.new
-    c.in-Ok-Some.is c.settable.ensures.size)) c.requires.shown
+ask_resize-requires-clause-shown c =
+    subst (λ (x : Known). IsShown c.args.draft.now x)
+    (sym (file-found c.args.known.now c.args.arguments.now.attributes.size c.in-Ok-Some.new
+    (rw c.in-Ok-Some.field-0-is at c.in-Ok-Some.ensures.size))) c.requires.shown
 
 pub returns-in_err-ask_resize : goal.returns-in_err-ask_resize
 returns-in_err-ask_resize c =
@@ -27,6 +28,6 @@ returns-in_err-ask_resize c =
     let number = c.in-Ok-Some.new.file.known.number in
     rw (p.1, p.2) (counted-stops d number _
     (subst (λ (x : Known). IsThere d.view (addresses.Inode x.number))
-    (sym (file-found c.args.known.now c.args.arguments.now.attributes.size c.settable.result c.in-Ok-Some.new
-    c.in-Ok-Some.is c.settable.ensures.size)) c.requires.lives)
+    (sym (file-found c.args.known.now c.args.arguments.now.attributes.size c.in-Ok-Some.new
+    (rw c.in-Ok-Some.field-0-is at c.in-Ok-Some.ensures.size))) c.requires.lives)
     (usage-lives-first d number c.requires.none) c.in_err-ask_resize.ensures)
