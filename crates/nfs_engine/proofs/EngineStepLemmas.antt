@@ -1,8 +1,9 @@
 -- What the steps of a call in one shard are for the engine.
-use Rattle.std.proofs.Common.{◌≡◌, ℕ, ◌<◌, ◌+◌, ◌==◌, true}
+use Rattle.std.proofs.Common.{◌≡◌, ℕ, ◌<◌, ◌+◌, ◌-◌, ◌%◌, ◌^◌, ◌==◌, true}
 use Rattle.std.proofs.Common.{false, cond, List}
 use Rattle.std.proofs.Common.{get_or, set, length, Option, Some, None, Result, Ok, Err, option_map, refl, sym}
 use Rattle.std.proofs.Common.{◌∙◌, ap, subst}
+use Rattle.std.specs.Prelude.{◌≢◌}
 use Rattle.nfs_objects.specs.Rooms.{with_seen, with_number}
 use Rattle.nfs_objects.specs.Values.{Seen, ViewValue, seen_at}
 use Rattle.nfs_objects.specs.declared.address.Addr.{Addr}
@@ -17,7 +18,7 @@ use Rattle.nfs_objects.specs.declared.view.Reserved.{Reserved}
 use Rattle.nfs_engine.specs.Book.{BookValue, store_in}
 use Rattle.nfs_engine.specs.Calls.{TxnValue}
 use Rattle.nfs_engine.specs.Engine.{CountsReserved, EngineValue, IsTied, KeepsCounters, KeepsOthers, Lives, mode_in}
-use Rattle.nfs_engine.specs.Engine.{shard_among}
+use Rattle.nfs_engine.specs.Engine.{IsReserved, shard_among}
 use Rattle.nfs_engine.specs.Taking.{Gains, HoldsIn, IsGained, IsGot, ShardView, Stays, TakesAddress}
 use Rattle.nfs_engine.specs.Holders.{hold_of}
 use Rattle.nfs_engine.specs.Shards.{Reserves, Retakes, SameShard, ShardValue, SlotValue, hold_at, shard_of, slot_at}
@@ -166,3 +167,27 @@ module _ (book : BookValue) (shards : List ShardValue) (i : ℕ) (was s : ShardV
   }
   gained_counters u (Err Memory) is = counted is.0.shard.next_generation
   gained_counters u (Err Spent) is = counted is.0.shard.next_generation
+
+  -- a number is reserved just where the shard gives one
+  pub gained_number : (u : TxnValue) (r : Result Unit ReserveError) → i < 16 → u ≡ record t { view = u.view } →
+      IsGained old_place (record { shard = s; view = u.view }) t.id r → IsReserved before t u i r
+  gained_number u (Ok done) sixteen rest g =
+      let n : Reserved = g.reserved in
+      let reserves = subst (λ (x : ShardValue). Reserves x s t.id n) there g.shard in
+      let index : n.number % 16 ≡ i = reserves.shard ∙ tied.indices i sixteen in
+      record {
+        reserved = n;
+        from = reserves.from;
+        shard = index;
+        empty = ap (λ k. slot_at (shard_among shards k) (Inode n.number)) index ∙ reserves.empty;
+        generation = reserves.generation;
+        call = rest ∙ ap (λ (v : ViewValue). record t { view = v }) g.view;
+      }
+  gained_number u (Err Memory) sixteen rest is = (
+    subst (λ (x : ShardValue). x.next_generation ≢ 2 ^ 64 - 1) there is.1,
+    rest ∙ ap (λ (v : ViewValue). record t { view = v }) is.0.view,
+  )
+  gained_number u (Err Spent) sixteen rest is = (
+    subst (λ (x : ShardValue). x.next_generation ≡ 2 ^ 64 - 1) there is.1,
+    rest ∙ ap (λ (v : ViewValue). record t { view = v }) is.0.view,
+  )

@@ -1,5 +1,5 @@
 use Rattle.std.proofs.Common.{arith}
-use Rattle.nfs_engine.proofs.EngineStepLemmas.{gained_counters, gained_on, holds_there}
+use Rattle.nfs_engine.proofs.EngineStepLemmas.{gained_counters, gained_number, gained_on, holds_there}
 use Rattle.nfs_engine.proofs.engine.Engine.reserve.Goals as goal
 
 pub reserve_in-requires : goal.reserve_in-requires
@@ -31,3 +31,9 @@ pub returns-clause-counters : goal.returns-clause-counters
 returns-clause-counters c = rw (← c.self.view_is) (gained_counters c.self.inside.book c.self.inside.shards c.args.shard
     c.index-self-shard.result c.reserve_in.new.shard (omega arith) c.self.invariant c.args.txn.now
     (rw (← c.self.view_is) at c.requires.lives) c.reserve_in.new.self c.reserve_in.result c.reserve_in.ensures.gained)
+
+pub returns-clause-reserved : goal.returns-clause-reserved
+returns-clause-reserved c = rw (← c.self.view_is) (gained_number c.self.inside.book c.self.inside.shards c.args.shard
+    c.index-self-shard.result c.reserve_in.new.shard (omega arith) c.self.invariant c.args.txn.now
+    (rw (← c.self.view_is) at c.requires.lives) c.reserve_in.new.self c.reserve_in.result c.requires.shard
+    c.reserve_in.ensures.rest c.reserve_in.ensures.gained)
