@@ -54,7 +54,12 @@ unmark-more old now new file page first end u marked = record {
   on = kept-on now new (Block file end) marked
 
   before : (i : ℕ) → i < end + 1 → (i == end) ≡ false → i < end
-  before i below other = omega (arith, below, λ (same : i ≡ end). false≢true (sym other ∙ (unsigned_Decides i end).1 same))
+  before i below other = omega (
+    arith,
+    below,
+    λ (same : i ≡ end). false≢true (sym other
+        ∙ (unsigned_Decides i end).1 same),
+  )
 
 -- a mark that is left is of what is not swept
 unswept : (file page : ℕ) (old new : MarksValue) → Unmarks old new file page (page * 512) (page * 512 + 512)

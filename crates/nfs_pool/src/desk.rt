@@ -1,7 +1,7 @@
 //! What lies under the book's lock.
 
-ghost use Rattle.std.specs.Prelude.{◌≡◌, ◌+◌, ◌*◌, ◌^◌, ◌<◌, ◌≤◌, ℕ, [], IfErr, IfOk, IfSome, OnErr, OnOk, length, option_copied};
-ghost use Rattle.std.specs.Prelude.{slice_get};
+ghost use Rattle.std.specs.Prelude.{◌≡◌, ◌+◌, ◌*◌, ◌^◌, ◌<◌, ◌≤◌, ℕ, [], IfErr, IfOk, IfSome, OnErr, OnOk, length};
+ghost use Rattle.std.specs.Prelude.{option_copied, slice_get};
 ghost use Rattle.std.specs.Bool.{Decides};
 ghost use Rattle.nfs_engine.specs.Book.{Commits, GivesUp, MayCommit, TakesMessage, store_in};
 ghost use Rattle.nfs_engine.specs.Commits.{Leaves};
@@ -27,9 +27,9 @@ use std::sync::ledger;
 use std::sync::ledger::{Ledger, Share};
 
 /// The book, and a ledger of its records: each counts for the seat that has its receipt. The type of `Book` keeps that
-/// the records are a run of the machine to its store; so it is whenever the lock is free. What is counted is never taken
-/// back, and tells the records of the era from those of eras that are over: so no book without them has its place here.
-/// Beside the store stands by which commits its large objects were put.
+/// the records are a run of the machine to its store; so it is whenever the lock is free. What is counted is never
+/// taken back, and tells the records of the era from those of eras that are over: so no book without them has its place
+/// here. Beside the store stands by which commits its large objects were put.
 #[derive(Drop)]
 pub struct Desk<L: Ledger + Naming> {
     pub(crate) book: Book,

@@ -1,15 +1,15 @@
 //! A shard with the marks of what stands in it, as it lies under a lock.
 
-ghost use Rattle.std.specs.Prelude.{◌≡◌, ◌==◌, IfSome, OnErr, false, map, option_copied, true};
-ghost use Rattle.nfs_objects.specs.Values.{seen_at, write_value, written_at};
+ghost use Rattle.std.specs.Prelude.{◌≡◌, IfSome, false, map, option_copied, true};
+ghost use Rattle.nfs_objects.specs.Values.{seen_at, write_value};
 ghost use Rattle.nfs_objects.specs.declared.address.Addr.{Addr};
 ghost use Rattle.nfs_engine.specs.Apart.{GetsNumber};
 ghost use Rattle.nfs_engine.specs.Engine.{freed_more};
-ghost use Rattle.nfs_engine.specs.Settling.{AreHeldIn, ReplacesWritten, spent_in};
-ghost use Rattle.nfs_engine.specs.Shards.{shard_of, slot_at};
+ghost use Rattle.nfs_engine.specs.Settling.{AreHeldIn, spent_in};
+ghost use Rattle.nfs_engine.specs.Shards.{slot_at};
 ghost use Rattle.nfs_engine.specs.Sweeps.{SweepsShard};
 ghost use Rattle.nfs_engine.specs.Taking.{IsGot};
-ghost use Rattle.nfs_stamps.specs.Marking.{AreMarks, Puts};
+ghost use Rattle.nfs_stamps.specs.Marking.{Puts};
 ghost use Rattle.nfs_pool.specs.Marked.{AreMarksIn, AreStampsOf};
 
 use crate::marking::mark_written;

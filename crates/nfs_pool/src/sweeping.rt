@@ -16,8 +16,8 @@ use std::alloc::Global;
 use std::sync::ledger::Ledger;
 use std::sync::{Arc, Wait};
 
-/// How many objects go at most at the end of an era: eight map pages of 512 blocks. All callers wait meanwhile, for some
-/// milliseconds.
+/// How many objects go at most at the end of an era: eight map pages of 512 blocks. All callers wait meanwhile, for
+/// some milliseconds.
 pub(crate) const MOST_GONE: usize = 8 * SWEPT;
 
 /// How many map pages go then at most, where they have few blocks.

@@ -6,7 +6,8 @@ ghost use Rattle.nfs_engine.specs.Book.{is_full};
 ghost use Rattle.nfs_machine.specs.Run.{FromHost, bytes_in};
 ghost use Rattle.nfs_schedule.specs.Worlds.{IsAtRest};
 ghost use Rattle.nfs_streams.specs.Connections.{bytes_of};
-ghost use Rattle.nfs_streams.specs.Served.{AreAnswered, ExecutesNothing, HasEraRoom, HasNoAnswer, IsAnswered, IsRecord, StandsOn};
+ghost use Rattle.nfs_streams.specs.Served.{AreAnswered, ExecutesNothing, HasEraRoom, HasNoAnswer, IsAnswered};
+ghost use Rattle.nfs_streams.specs.Served.{IsRecord, StandsOn};
 
 use nfs_engine::{Arrival, Engine, Host};
 use nfs_machine::{Moment, Moments};

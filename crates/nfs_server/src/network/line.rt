@@ -2,7 +2,7 @@
 
 ghost use Rattle.std.specs.Io.{ReadsAtMost, WritesAtMost};
 ghost use Rattle.std.specs.Io.KnownBytes.{Appends, WriteAppends};
-ghost use Rattle.std.specs.Prelude.{◌≡◌, ◌<◌, ◌≤◌, ℕ, List, Option, None, false, length, IfOk, IfSome, OnErr, OnOk};
+ghost use Rattle.std.specs.Prelude.{◌≡◌, ◌<◌, ◌≤◌, ℕ, List, Option, None, length, IfOk, IfSome, OnErr, OnOk};
 ghost use Rattle.nfs_streams.specs.Connections.{SendsAll, waiting};
 ghost use Rattle.nfs_streams.specs.Sent.{WritesPart};
 ghost use Rattle.nfs_server.specs.Lines.{ReadsWithin};

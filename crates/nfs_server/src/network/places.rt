@@ -215,8 +215,8 @@ impl<L: Ledger + Naming> Keeper<L> {
         unreachable!()
     }
 
-    /// The first place of those whose era is to be ended, once one is handed in. While dead files are left a free one is
-    /// taken after a while. None where nobody has a place any more.
+    /// The first place of those whose era is to be ended, once one is handed in. While dead files are left a free one
+    /// is taken after a while. None where nobody has a place any more.
     fn first<R: Wait + Clock>(&self, rt: &R, has_dead: bool) -> Option<Place<L>> {
         let pause = Duration::from_millis(if has_dead { HURRY } else { LOOK });
         for _ in rt.forever() {
