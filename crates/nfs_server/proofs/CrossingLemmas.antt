@@ -72,10 +72,8 @@ module _ (L : RattleType) (g : Ghosts L.Denot) (n : naming.Ghosts L.Denot) (s : 
 
   pub reader_send : (C P : RattleType) → IsSend C → IsSend P → IsSend (Reader.the_row L C P g n)
   reader_send C P c p =
-      declared_send (Reader.the_type L C P g n) (
-        search (sendable, crosses, line.the_send) depth 20,
-        (clerk_send C c, tt),
-      )
+      declared_send (Reader.the_type L C P g n)
+      (search (sendable, crosses, line.the_send) depth 20, (clerk_send C c, tt))
 
   pub sender_send : (C : RattleType) → IsSend C → IsSend (Sender.the_row L C g n)
   sender_send C c =

@@ -31,8 +31,8 @@ pieces-preserved g c = (
       (g.P.Peer.unread c.take_piece.new.self.line.peer)
       (read_kept (g.P.Peer.unread c.pieces.self.line.peer) (g.P.Peer.unread c.next_piece.new.self.line.peer)
       (g.P.Peer.unread c.take_piece.new.self.line.peer) c.next_piece.new.buffer c.deref.result.now c.in_ok-count.count
-      c.in_ok-is_refused.ensures.unread (still_there c.deref.result.now c.next_piece.new.buffer
-      c.as_mut_slice.result.now
+      c.in_ok-is_refused.ensures.unread
+      (still_there c.deref.result.now c.next_piece.new.buffer c.as_mut_slice.result.now
       (drop (length c.next_piece.new.buffer) c.pieces.buffer.items) c.pieces.buffer.len c.next_piece.auto.buffer
       c.as_mut_slice.ensures.len c.deref.ensures.value)
       c.in_ok-count.ensures.reads)),
@@ -50,9 +50,8 @@ returns-in_err-is_refused-clause-breaks g c =
     (c.in_err-is_refused.ensures.breaks (g.P.Peer.unread c.pieces.self.line.peer)
     (g.P.Peer.unread c.next_piece.new.self.line.peer)
     (read_kept (g.P.Peer.unread c.pieces.self.line.peer) (g.P.Peer.unread c.next_piece.new.self.line.peer)
-    (g.P.Peer.unread c.next_piece.new.self.line.peer) c.next_piece.new.buffer c.deref.result.now
-    c.in_ok-count.count refl
-    (still_there c.deref.result.now c.next_piece.new.buffer c.as_mut_slice.result.now
+    (g.P.Peer.unread c.next_piece.new.self.line.peer) c.next_piece.new.buffer c.deref.result.now c.in_ok-count.count
+    refl (still_there c.deref.result.now c.next_piece.new.buffer c.as_mut_slice.result.now
     (drop (length c.next_piece.new.buffer) c.pieces.buffer.items) c.pieces.buffer.len c.next_piece.auto.buffer
     c.as_mut_slice.ensures.len c.deref.ensures.value) c.in_ok-count.ensures.reads)))
 
@@ -60,13 +59,14 @@ pub returns-in_err-now-2-clause-breaks : goal.returns-in_err-now-2-clause-breaks
 returns-in_err-now-2-clause-breaks g c =
     on_err c.from_residual-in_err-now-2.result
     (closed_there _ _ _ _ _ _ _ _ _ (further_goes _ _ _ _ _ _ _ _ _ c.pieces.invariant.0 _ _ _ _
-    (c.in_ok-count.ensures.same.0 ∙ c.pieces.invariant.4)
-    c.in_ok-count.ensures.same.1 c.in_ok-count.ensures.written _ _ _
+    (c.in_ok-count.ensures.same.0 ∙ c.pieces.invariant.4) c.in_ok-count.ensures.same.1 c.in_ok-count.ensures.written
+    _ _ _
     (c.in_ok-is_refused.ensures.goes (g.P.Peer.unread c.pieces.self.line.peer)
     (g.P.Peer.unread c.take_piece.new.self.line.peer)
     (read_kept (g.P.Peer.unread c.pieces.self.line.peer) (g.P.Peer.unread c.next_piece.new.self.line.peer)
     (g.P.Peer.unread c.take_piece.new.self.line.peer) c.next_piece.new.buffer c.deref.result.now c.in_ok-count.count
-    c.in_ok-is_refused.ensures.unread (still_there c.deref.result.now c.next_piece.new.buffer c.as_mut_slice.result.now
+    c.in_ok-is_refused.ensures.unread
+    (still_there c.deref.result.now c.next_piece.new.buffer c.as_mut_slice.result.now
     (drop (length c.next_piece.new.buffer) c.pieces.buffer.items) c.pieces.buffer.len c.next_piece.auto.buffer
     c.as_mut_slice.ensures.len c.deref.ensures.value)
     c.in_ok-count.ensures.reads))) _ refl)
@@ -75,13 +75,14 @@ pub returns-in_err-fit-clause-breaks : goal.returns-in_err-fit-clause-breaks
 returns-in_err-fit-clause-breaks g c =
     on_err c.from_residual-in_err-fit.result
     (closed_there _ _ _ _ _ _ _ _ _ (further_goes _ _ _ _ _ _ _ _ _ c.pieces.invariant.0 _ _ _ _
-    (c.in_ok-count.ensures.same.0 ∙ c.pieces.invariant.4)
-    c.in_ok-count.ensures.same.1 c.in_ok-count.ensures.written _ _ _
+    (c.in_ok-count.ensures.same.0 ∙ c.pieces.invariant.4) c.in_ok-count.ensures.same.1 c.in_ok-count.ensures.written
+    _ _ _
     (c.in_ok-is_refused.ensures.goes (g.P.Peer.unread c.pieces.self.line.peer)
     (g.P.Peer.unread c.take_piece.new.self.line.peer)
     (read_kept (g.P.Peer.unread c.pieces.self.line.peer) (g.P.Peer.unread c.next_piece.new.self.line.peer)
     (g.P.Peer.unread c.take_piece.new.self.line.peer) c.next_piece.new.buffer c.deref.result.now c.in_ok-count.count
-    c.in_ok-is_refused.ensures.unread (still_there c.deref.result.now c.next_piece.new.buffer c.as_mut_slice.result.now
+    c.in_ok-is_refused.ensures.unread
+    (still_there c.deref.result.now c.next_piece.new.buffer c.as_mut_slice.result.now
     (drop (length c.next_piece.new.buffer) c.pieces.buffer.items) c.pieces.buffer.len c.next_piece.auto.buffer
     c.as_mut_slice.ensures.len c.deref.ensures.value)
     c.in_ok-count.ensures.reads))) _ refl)

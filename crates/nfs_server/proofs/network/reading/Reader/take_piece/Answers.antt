@@ -7,8 +7,7 @@ returns-in_err-is_refused-clause-breaks g c =
     on_err c.from_residual.result
     (λ unread left read.
     taken_breaks _ _ c.args.connection.now c.take_in-taken.new.self c.args.piece.now unread left _ _
-    c.take_in-taken.result
-    c.take_in-taken.ensures.ok c.take_in-taken.ensures.too_large c.take_in-taken.ensures.memory
+    c.take_in-taken.result c.take_in-taken.ensures.ok c.take_in-taken.ensures.too_large c.take_in-taken.ensures.memory
     c.take_in-taken.ensures.answers read
     c.in_err-is_refused.ensures.breaks)
 
@@ -21,15 +20,13 @@ returns-in-Ok-clause-goes g c = λ unread left read.
 pub returns-in-Err-TooLarge-clause-breaks : goal.returns-in-Err-TooLarge-clause-breaks
 returns-in-Err-TooLarge-clause-breaks g c = λ unread left read.
     taken_breaks _ _ c.args.connection.now c.take_in-taken.new.self c.args.piece.now unread left _ _
-    c.take_in-taken.result
-    c.take_in-taken.ensures.ok c.take_in-taken.ensures.too_large c.take_in-taken.ensures.memory
+    c.take_in-taken.result c.take_in-taken.ensures.ok c.take_in-taken.ensures.too_large c.take_in-taken.ensures.memory
     c.take_in-taken.ensures.answers read
     (λ at. goes_closed _ _ _ _ _ at at _ _ (c.in_ok-is_refused.ensures.goes at))
 
 pub returns-in-Err-Memory-clause-breaks : goal.returns-in-Err-Memory-clause-breaks
 returns-in-Err-Memory-clause-breaks g c = λ unread left read.
     taken_breaks _ _ c.args.connection.now c.take_in-taken.new.self c.args.piece.now unread left _ _
-    c.take_in-taken.result
-    c.take_in-taken.ensures.ok c.take_in-taken.ensures.too_large c.take_in-taken.ensures.memory
+    c.take_in-taken.result c.take_in-taken.ensures.ok c.take_in-taken.ensures.too_large c.take_in-taken.ensures.memory
     c.take_in-taken.ensures.answers read
     (λ at. goes_closed _ _ _ _ _ at at _ _ (c.in_ok-is_refused.ensures.goes at))
