@@ -6,15 +6,15 @@ use Rattle.nfs_server.proofs.network.clerk.Clerk.answer_next.Goals as goal
 pub returns-then-not-put-clause-adds : goal.returns-then-not-put-clause-adds
 returns-then-not-put-clause-adds g c =
     adds_waiting _ _ _ _ _
-    (replied _ _ _ _ c.in-Ok.answer (rw c.in-Ok.is at c.answer-answered.ensures.answers)
-    (rw c.in-Ok.is at c.answer-answered.ensures.last))
+    (replied _ _ _ _ c.in-Ok.answer (rw c.in-Ok.is at c.answer-place.ensures.answers)
+    (rw c.in-Ok.is at c.answer-place.ensures.last))
     c.args.connection.now c.put.new.connection c.put.ensures.records c.put.ensures.waits _
 
 pub returns-in_ok-send-in-Ok-clause-adds : goal.returns-in_ok-send-in-Ok-clause-adds
 returns-in_ok-send-in-Ok-clause-adds g c =
     adds_sent _ _ _ _ _
-    (replied _ _ _ _ c.in-Ok.answer (rw c.in-Ok.is at c.answer-answered.ensures.answers)
-    (rw c.in-Ok.is at c.answer-answered.ensures.last))
+    (replied _ _ _ _ c.in-Ok.answer (rw c.in-Ok.is at c.answer-place.ensures.answers)
+    (rw c.in-Ok.is at c.answer-place.ensures.last))
     c.args.connection.now c.put.new.connection c.put.ensures.records c.put.ensures.waits _ _ _ c.send.ensures.sent
     c.in_ok-send-in-Ok.ensures.ok
 
@@ -22,8 +22,8 @@ pub returns-in_err-send-in-Ok-clause-cuts : goal.returns-in_err-send-in-Ok-claus
 returns-in_err-send-in-Ok-clause-cuts g c =
     on_err c.from_residual.result
     (cuts_reply _ _ _ _ _
-    (replied _ _ _ _ c.in-Ok.answer (rw c.in-Ok.is at c.answer-answered.ensures.answers)
-    (rw c.in-Ok.is at c.answer-answered.ensures.last))
+    (replied _ _ _ _ c.in-Ok.answer (rw c.in-Ok.is at c.answer-place.ensures.answers)
+    (rw c.in-Ok.is at c.answer-place.ensures.last))
     c.args.connection.now c.put.new.connection c.put.ensures.records c.put.ensures.waits _ _
     c.in_err-send-in-Ok.ensures.part)
 
