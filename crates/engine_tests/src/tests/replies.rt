@@ -271,12 +271,14 @@ fn a_record_of_another_key_is_hashed_again(rt: HostRuntime) -> Result<(), Fail> 
     let (own, other) = (RecordKey::new(&KEY), RecordKey::new(&OTHER_KEY));
     let (first, second) = (Bytes::from_static(CREATE), Bytes::from_static(LONG));
     let reply = Bytes::from_static(OK);
+    assert!(rt; replies.find(&host, Sought::new(other, &first))?.is_none());
     replies.keep(
         rt.alloc(),
         &host,
         Hashed::new(other, first.clone()?),
         reply.clone()?,
     )?;
+    assert!(rt; replies.find(&host, Sought::new(own, &second))?.is_none());
     replies.keep(rt.alloc(), &host, Hashed::new(own, second.clone()?), reply)?;
     for key in [own, other] {
         assert!(rt; replies.find(&host, Sought::new(key, &first))?.is_some());
