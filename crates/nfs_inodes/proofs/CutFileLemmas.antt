@@ -171,7 +171,8 @@ module _ (d : DraftValue) (file : ℕ) (pages : Bits) (first : ℕ) (old mid : L
       })) (λ a none. absurd none) asks
 
   pub cut-result : {A E : Type 0} (r : Result A E) (end : ℕ) → end ≤ 512 →
-      OnOk r (AsksFor d (Pages end) (Pages end) old mid) → OnOk r (AsksFor d (IsPageIn file pages 0 512) (λ a. ⊥) old mid)
+      OnOk r (AsksFor d (Pages end) (Pages end) old mid)
+      → OnOk r (AsksFor d (IsPageIn file pages 0 512) (λ a. ⊥) old mid)
   cut-result (Ok x) end small asks = cut-pages end small asks
   cut-result (Err e) end small asks = tt
 

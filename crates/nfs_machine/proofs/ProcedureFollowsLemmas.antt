@@ -525,7 +525,8 @@ module _ (m : State) (ctx : Ctx) where
           → IfOk (elim size as (λ (_ : Option ℕ). Result (Option Living) NfsStatus) [
             | None ↦ Ok None
             | Some size ↦ permitted ctx file ToWrite >>= λ _. holding (nat_le size size_limit)
-                status.FileTooBig >>= λ _. Ok (Some (with_content file (time_of ctx.moment) (Regular (resized bytes size))))
+                status.FileTooBig >>= λ _. Ok
+                (Some (with_content file (time_of ctx.moment) (Regular (resized bytes size))))
           ]) (λ after. IfSome after (Alters (time_of ctx.moment) file))
       sized None = tt
       sized (Some size) =

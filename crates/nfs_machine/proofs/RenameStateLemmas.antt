@@ -431,7 +431,8 @@ module _ (m : State) (now : Time) (move : Move) (is : IsMove m move) (w : WellFo
         out (
           kind,
           within-less m target move.directory freed is.lives less-freed number target
-              (within-less free place (fd (target == place)) (left_of (target == place)) is-leaving.lives less-left number
+              (within-less free place (fd (target == place)) (left_of (target == place)) is-leaving.lives
+              less-left number
               target within),
         )
 

@@ -46,14 +46,16 @@ module _ (key : RecordKey) where
       ∙ ap (λ b. same_origin o (origin_in_entry e) || b) (among o es rest)
 
   -- so what is looked up with its hash under the key is found
-  module _ (host bytes : List ℕ) (hash : ℕ) (text : List ℕ) (same : text ≡ bytes) (hashed : hash ≡ digest key bytes) where
+  module _ (host bytes : List ℕ) (hash : ℕ) (text : List ℕ) (same : text ≡ bytes)
+      (hashed : hash ≡ digest key bytes) where
     abbrev came : Entry → Bool
     came e = same_bytes host e.host && (nat_eq hash e.sent.hash && same_bytes text e.sent.bytes)
 
     pub came_as : came ≡ same_entry (entry_of key (record { host = host; bytes = bytes }))
     came_as =
         ap (λ h e. same_bytes host e.host && (nat_eq h e.sent.hash && same_bytes text e.sent.bytes)) hashed
-        ∙ ap (λ t e. same_bytes host e.host && (nat_eq (digest key bytes) e.sent.hash && same_bytes t e.sent.bytes)) same
+        ∙ ap (λ t e. same_bytes host e.host && (nat_eq (digest key bytes) e.sent.hash && same_bytes t
+        e.sent.bytes)) same
 
     pub came-among : (es : List Entry) → AreHashed key es →
         list_any came es ≡ is_among (origins_of es) (record { host = host; bytes = bytes })
@@ -74,7 +76,8 @@ module _ (key : RecordKey) where
           by : (b : Bool) → same_entry (entry_of key o) q ≡ b → IsHashed key q.sent
           by true same =
               let parts = and_parts (same_bytes o.host q.host) (same_key (keyed key o.bytes) q.sent) same in
-              let sent = and_parts (nat_eq (digest key o.bytes) q.sent.hash) (same_bytes o.bytes q.sent.bytes) parts.1 in
+              let sent = and_parts (nat_eq (digest key o.bytes) q.sent.hash) (same_bytes o.bytes q.sent.bytes)
+              parts.1 in
               sym (eqb-true (digest key o.bytes) q.sent.hash sent.0)
               ∙ ap (digest key) ((bytes_decides o.bytes q.sent.bytes).0 sent.1)
           by false same = was q (ap (λ b. cond b true (list_any (same_entry q) old)) (sym same) ∙ sym (updates q) ∙ is)
@@ -136,7 +139,8 @@ module _ (key : RecordKey) (o : Origin) (hash : ℕ) (text : List ℕ) (same : t
   without : (q : Entry) → list_any (same_entry q) new ≡
       cond (same_entry (entry_of key o) q) false (list_any (same_entry q) old)
   without q = updates q
-      ∙ ap (λ test. cond (test q) false (list_any (same_entry q) old)) (came_as key o.host o.bytes hash text same hashed)
+      ∙ ap (λ test. cond (test q) false (list_any (same_entry q) old)) (came_as key o.host o.bytes hash text same
+      hashed)
 
   pub removed_entries : AreHashed key new
   removed_entries = removed-hashed key o old new was without

@@ -218,14 +218,16 @@ module _ {S : Type 0} (capacity : ℕ) (key : RecordKey) (host bytes reply : Lis
       (reply_for-found key bytes was is.hashed
       ∙ sym (reply-at capacity key old.entries host bytes (Some was) each found) ∙ none) put
 
-  pub listed-put : {A B : Type 0} (r : Result A B) → reply_for bytes (kept_of (shown capacity old.entries) host) ≡ None →
+  pub listed-put : {A B : Type 0} (r : Result A B)
+      → reply_for bytes (kept_of (shown capacity old.entries) host) ≡ None →
       OnOk r IsPut → OnErr r (cache ≡ was) → AreListed capacity key new.entries
   listed-put (Ok _) none put stays =
       listed-lent capacity event old new was cache found through key each (left none put).0
   listed-put (Err _) none put stays =
       subst (AreListed capacity key) (sym (same-lent host old new was cache found through stays)) each
 
-  pub is-after-put : {A B : Type 0} (r : Result A B) → reply_for bytes (kept_of (shown capacity old.entries) host) ≡ None →
+  pub is-after-put : {A B : Type 0} (r : Result A B)
+      → reply_for bytes (kept_of (shown capacity old.entries) host) ≡ None →
       OnOk r IsPut → OnOk r (IsAfter event (shown capacity old.entries) (shown capacity new.entries))
   is-after-put (Ok _) none put = is-after-lent capacity event old new was cache found through (left none put).1
   is-after-put (Err _) none put = tt

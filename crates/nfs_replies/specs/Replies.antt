@@ -47,7 +47,8 @@ host_replies pair = record { host = pair.0; list = kept_in pair.1 }
 abbrev pub EachOnce : List KeptReply → Type 0
 EachOnce list = (bytes : List ℕ) → count_by (is_for bytes) list ≤ 1
 
--- what is true of the cache of each host: it has the capacity, which is not 0, and each record once, hashed under the key
+-- what is true of the cache of each host: it has the capacity, which is not 0, and each record once, hashed under the
+-- key
 pub record IsListed (capacity : ℕ) (key : RecordKey) (cache : Cache) : Type 0 where
   pub bound : cache.cap ≡ capacity
   pub roomy : 0 < capacity

@@ -1,19 +1,19 @@
 //! The hash of a record, under a key that the process alone has.
 //!
-//! It reads the bytes in blocks of 64, each as four pairs of words of 64 bits, a pair for each of four lanes. To the one
-//! word of a pair a word of the key is added, to the other the lane, and the two sums are multiplied. The halves of the
-//! product, which has 128 bits, the lower one turned by 13 places, are put together by exclusive or, and are the lane
-//! from then on. At the end the lanes are put together so, with the length. That takes less than an instruction for a
-//! byte.
+//! It reads the bytes in blocks of 64, each as four pairs of words of 64 bits, a pair for each of four lanes. To the
+//! one word of a pair a word of the key is added, to the other the lane, and the two sums are multiplied. The halves of
+//! the product, which has 128 bits, the lower one turned by 13 places, are put together by exclusive or, and are the
+//! lane from then on. At the end the lanes are put together so, with the length. That takes less than an instruction
+//! for a byte.
 //!
 //! Who does not know the key should find no records with one hash but by chance. Both factors of each product are sums
 //! with words that are secret, so that nobody knows which bytes make a factor 0 or small: of one word that is so of one
-//! key in 2^64, and a record of 64 KiB has 8,192 of them. Where pairs that differ leave a lane different, bytes that come
-//! behind do not make up for it, since they are added to a lane that is secret too. The halves may not be put together
-//! by addition: that is nearly a product modulo 2^64 - 1, which 3 and 5 divide, so that words a third of 2^64 apart
-//! leave one lane under each fifth key, and two words in either order under each second. Without the turn such words
-//! still do it far more often than by chance (about one key in 2^29, as words of up to 20 bits let expect); with it no
-//! such words were found.
+//! key in 2^64, and a record of 64 KiB has 8,192 of them. Where pairs that differ leave a lane different, bytes that
+//! come behind do not make up for it, since they are added to a lane that is secret too. The halves may not be put
+//! together by addition: that is nearly a product modulo 2^64 - 1, which 3 and 5 divide, so that words a third of 2^64
+//! apart leave one lane under each fifth key, and two words in either order under each second. Without the turn such
+//! words still do it far more often than by chance (about one key in 2^29, as words of up to 20 bits let expect); with
+//! it no such words were found.
 //!
 //! All this is how functions of this kind are judged, and no proof. The key is of random bytes of the program's start,
 //! no message tells it, and of a hash none tells more than that a look-up took longer. What a look-up finds is right

@@ -8,10 +8,10 @@
 //! A list shares the buffers of its records and replies, and keeps them alive: of one host at most as many of each as
 //! the capacity says. At 1,024 replies, records of 73,728 bytes each are 72 MiB.
 //!
-//! Lists are found by the hash of the host, and replies by that of the record, which is taken once, of all its bytes and
-//! under a key that nobody else knows (`RecordKey`), and kept beside them. A look-up compares hashes first, and bytes
-//! only with those of a record that has the same hash: so many records are looked up as fast as others, however they
-//! were chosen.
+//! Lists are found by the hash of the host, and replies by that of the record, which is taken once, of all its bytes
+//! and under a key that nobody else knows (`RecordKey`), and kept beside them. A look-up compares hashes first, and
+//! bytes only with those of a record that has the same hash: so many records are looked up as fast as others, however
+//! they were chosen.
 #![tactic(auto)]
 
 mod capacity;

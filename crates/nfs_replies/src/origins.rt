@@ -72,10 +72,12 @@ impl<'a> Hash for Came<'a> {
     ghost hash_input = { λ came. came.host.now ∷ digest_input came.probe.hash };
 
     ghost respects_eq = { λ x y same i.
-        let parts = and_parts (same_bytes x.host.now y.host.now) (nat_eq x.probe.hash y.probe.hash && same_bytes x.probe.bytes.now y.probe.bytes.now) same in
+        let parts = and_parts (same_bytes x.host.now y.host.now)
+        (nat_eq x.probe.hash y.probe.hash && same_bytes x.probe.bytes.now y.probe.bytes.now) same in
         let hashes =
         (and_parts (nat_eq x.probe.hash y.probe.hash) (same_bytes x.probe.bytes.now y.probe.bytes.now) parts.1).0 in
-        (bytes_decides x.host.now y.host.now).0 parts.0 i ∷ digest_input (eqb-true x.probe.hash y.probe.hash hashes i) };
+        (bytes_decides x.host.now y.host.now).0 parts.0 i ∷
+        digest_input (eqb-true x.probe.hash y.probe.hash hashes i) };
 
     fn hash<H: Hasher>(&self, state: &mut H) {
         state.write(self.host.as_slice());
@@ -88,14 +90,17 @@ impl<'a> Equivalent<Entry> for Came<'a> {
         (nat_eq came.probe.hash entry.sent.hash && same_bytes came.probe.bytes.now entry.sent.bytes) };
 
     ghost respects_hash = { λ came entry same i.
-        let parts = and_parts (same_bytes came.host.now entry.host) (nat_eq came.probe.hash entry.sent.hash && same_bytes came.probe.bytes.now entry.sent.bytes) same in
+        let parts = and_parts (same_bytes came.host.now entry.host)
+        (nat_eq came.probe.hash entry.sent.hash && same_bytes came.probe.bytes.now entry.sent.bytes) same in
         let hashes =
-        (and_parts (nat_eq came.probe.hash entry.sent.hash) (same_bytes came.probe.bytes.now entry.sent.bytes) parts.1).0 in
+        (and_parts (nat_eq came.probe.hash entry.sent.hash)
+        (same_bytes came.probe.bytes.now entry.sent.bytes) parts.1).0 in
         (bytes_decides came.host.now entry.host).0 parts.0 i ∷
         digest_input (eqb-true came.probe.hash entry.sent.hash hashes i) };
 
     ghost respects_eq = { λ came x y same i.
-        let parts = and_parts (same_bytes came.host.now x.host) (nat_eq came.probe.hash x.sent.hash && same_bytes came.probe.bytes.now x.sent.bytes) same in
+        let parts = and_parts (same_bytes came.host.now x.host)
+        (nat_eq came.probe.hash x.sent.hash && same_bytes came.probe.bytes.now x.sent.bytes) same in
         let sent =
         and_parts (nat_eq came.probe.hash x.sent.hash) (same_bytes came.probe.bytes.now x.sent.bytes) parts.1 in
         nat_list_eq_equiv.congr came.host.now x.host y.host parts.0 i &&

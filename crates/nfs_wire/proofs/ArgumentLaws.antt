@@ -1,8 +1,14 @@
 -- The arguments of each call are made again of their value.
 use Rattle.std.proofs.Common.{◌≡◌, ℕ, zero, suc, [], Option, Some, None, refl}
 use Rattle.nfs_xdr.specs.Types.{Value}
-use Rattle.nfs_wire.specs.Attributes.{nfstime3, specdata3, set_time, set_time_arm, sattr3, set_time_value, set_attributes_value}
-use Rattle.nfs_wire.specs.Arguments.{verf3, diropargs3, sattrguard3, setattr3args, access3args, read3args, write3args, createhow3, create_arm, create3args, mkdir3args, symlink3args, mknoddata3, mknod_arm, mknod3args, rename3args, link3args, readdir3args, readdirplus3args, commit3args, guard_value, setattr_value, stability_number, write_value, create_how_value, create_value, mkdir_value, symlink_value, special_value, mknod_value}
+use Rattle.nfs_wire.specs.Attributes.{nfstime3, specdata3, set_time, set_time_arm, sattr3, set_time_value}
+use Rattle.nfs_wire.specs.Attributes.{set_attributes_value}
+use Rattle.nfs_wire.specs.Arguments.{verf3, diropargs3, sattrguard3, setattr3args, access3args, read3args, write3args}
+use Rattle.nfs_wire.specs.Arguments.{createhow3, create_arm, create3args, mkdir3args, symlink3args, mknoddata3}
+use Rattle.nfs_wire.specs.Arguments.{mknod_arm, mknod3args, rename3args, link3args, readdir3args, readdirplus3args}
+use Rattle.nfs_wire.specs.Arguments.{commit3args, guard_value, setattr_value, stability_number, write_value}
+use Rattle.nfs_wire.specs.Arguments.{create_how_value, create_value, mkdir_value, symlink_value, special_value}
+use Rattle.nfs_wire.specs.Arguments.{mknod_value}
 use Rattle.nfs_wire.specs.declared.attributes.DeviceNumber.{DeviceNumber}
 use Rattle.nfs_wire.specs.declared.attributes.SetAttributes.{SetAttributes}
 use Rattle.nfs_wire.specs.declared.attributes.SetTime.{SetTime}
@@ -53,7 +59,14 @@ set_time_again (ToClient time) = refl
 
 abbrev set_attributes_of : Value sattr3 → SetAttributes
 set_attributes_of v =
-    record { mode = v.0; uid = v.1.0; gid = v.1.1.0; size = v.1.1.1.0; accessed = set_time_of v.1.1.1.1.0; modified = set_time_of v.1.1.1.1.1 }
+    record {
+      mode = v.0;
+      uid = v.1.0;
+      gid = v.1.1.0;
+      size = v.1.1.1.0;
+      accessed = set_time_of v.1.1.1.1.0;
+      modified = set_time_of v.1.1.1.1.1;
+    }
 
 set_attributes_again : (a : SetAttributes) → set_attributes_of (set_attributes_value a) ≡ a
 set_attributes_again a = rw (set_time_again a.accessed, set_time_again a.modified) refl
@@ -173,7 +186,13 @@ readdir_of v = record { directory = v.0; cookie = v.1.0; verifier = verifier_of 
 
 abbrev pub readdirplus_of : Value readdirplus3args → ReaddirplusArguments
 readdirplus_of v =
-    record { directory = v.0; cookie = v.1.0; verifier = verifier_of v.1.1.0; directory_count = v.1.1.1.0; most = v.1.1.1.1 }
+    record {
+      directory = v.0;
+      cookie = v.1.0;
+      verifier = verifier_of v.1.1.0;
+      directory_count = v.1.1.1.0;
+      most = v.1.1.1.1;
+    }
 
 abbrev pub commit_of : Value commit3args → CommitArguments
 commit_of v = record { file = v.0; offset = v.1.0; count = v.1.1 }

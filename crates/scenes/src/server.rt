@@ -135,7 +135,8 @@ impl Server {
         self.answers(alloc, record, size)
     }
 
-    /// What the server writes for this input, and how serving it ends. So many bytes are written with no want of memory.
+    /// What the server writes for this input, and how serving it ends. So many bytes are written with no want of
+    /// memory.
     pub fn answers(&mut self, alloc: Global, input: &[u8], size: usize) -> Result<Answered, Fault> {
         let mut reader = Counted::new(input);
         let mut writer = Counted::new(Vec::with_capacity(alloc, size)?);

@@ -1,7 +1,8 @@
 -- A callback's arguments are those of a call.
 use Rattle.std.proofs.Common.{refl}
 use Rattle.side_wire.specs.Messages.{CallbacksAreCalls}
-use Rattle.side_wire.specs.declared.message.Callback.TheVariants.{Granted, GrantedMsg, TestRes, LockRes, CancelRes, UnlockRes, GrantedRes}
+use Rattle.side_wire.specs.declared.message.Callback.TheVariants.{Granted, GrantedMsg, TestRes, LockRes, CancelRes}
+use Rattle.side_wire.specs.declared.message.Callback.TheVariants.{UnlockRes, GrantedRes}
 
 pub callbacks_are_calls : CallbacksAreCalls
 callbacks_are_calls (Granted a) = refl

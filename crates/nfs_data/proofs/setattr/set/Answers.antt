@@ -7,7 +7,8 @@ use Rattle.nfs_objects.specs.Calls.{addresses_of, named_by}
 use Rattle.nfs_objects.specs.Values.{DraftValue}
 use Rattle.nfs_objects.specs.declared.address.Addr.TheVariants as addresses
 use Rattle.nfs_inodes.proofs.UsageChangeLemmas.{usage-lives-first}
-use Rattle.nfs_inodes.proofs.ReaderHaltLemmas.{any-stops, exports-stop-at, known-never_lacking, lives-stops, stops-before}
+use Rattle.nfs_inodes.proofs.ReaderHaltLemmas.{any-stops, exports-stop-at, known-never_lacking, lives-stops}
+use Rattle.nfs_inodes.proofs.ReaderHaltLemmas.{stops-before}
 use Rattle.nfs_inodes.proofs.StandsLemmas.{known-lives}
 use Rattle.nfs_inodes.specs.Makes.{size_set}
 use Rattle.nfs_inodes.specs.Stops.{KnowsAt}

@@ -7,4 +7,6 @@ use Rattle.nfs_rpc.proofs.calls.read_gids.Given as goal
 
 abbrev pub invariant-loop-gid : goal.invariant-loop-gid
 invariant-loop-gid l =
-    (length l.gids ≡ l._gid) × (with_front l.gids (read_all (read Word) (l.count - l._gid) l.reader) ≡ read_all (read Word) l.count l.initial.reader)
+    (length l.gids ≡ l._gid)
+    × (with_front l.gids (read_all (read Word) (l.count - l._gid) l.reader) ≡ read_all (read Word) l.count
+    l.initial.reader)

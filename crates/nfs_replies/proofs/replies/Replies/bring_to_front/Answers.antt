@@ -20,7 +20,8 @@ invariant_of-self c = elim c.match-get_mut.branch [
       sym (ap option_copied_mut w.in-Some.is) ∙ c.get_mut.ensures.value in
       let is = listed-at fields.capacity fields.key fields.lists.entries host was c.self.invariant found in
       let left = promoted-left fields.capacity fields.key host bytes was is new
-      (promoted_by fields.key was new bytes _ _ c.probe-probe.ensures.bytes c.probe-probe.ensures.hash w.promote.ensures.entries) in
+      (promoted_by fields.key was new bytes _ _ c.probe-probe.ensures.bytes c.probe-probe.ensures.hash
+      w.promote.ensures.entries) in
       rw w.self-inside-is (listed-lent fields.capacity (Repeated host bytes) fields.lists
       (c.get_mut.follows.lender new) was new found (c.get_mut.follows.holds new) fields.key c.self.invariant left.0))
   | in_default w ↦ rw (w.self-inside-is, c.get_mut.follows.holds-at-none) c.self.invariant
@@ -38,7 +39,8 @@ returns c = elim c.match-get_mut.branch [
       sym (ap option_copied_mut w.in-Some.is) ∙ c.get_mut.ensures.value in
       let is = listed-at fields.capacity fields.key fields.lists.entries host was c.self.invariant found in
       let left = promoted-left fields.capacity fields.key host bytes was is new
-      (promoted_by fields.key was new bytes _ _ c.probe-probe.ensures.bytes c.probe-probe.ensures.hash w.promote.ensures.entries) in
+      (promoted_by fields.key was new bytes _ _ c.probe-probe.ensures.bytes c.probe-probe.ensures.hash
+      w.promote.ensures.entries) in
       rw (w.self-inside-is, ← c.self.view_is) (is-after-lent fields.capacity (Repeated host bytes) fields.lists
       (c.get_mut.follows.lender new) was new found (c.get_mut.follows.holds new) left.1))
   | in_default w ↦ (

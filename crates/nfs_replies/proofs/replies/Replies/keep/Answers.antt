@@ -22,7 +22,8 @@ returns-in-Some-clause-front c =
     let new = c.put.new.list in
     let none = subst (λ (replies : RepliesValue). reply_for c.args.bytes (kept_of replies c.args.host.now) ≡ None)
     (sym c.self.view_is) c.requires in
-    rw (← c.self.view_is) (is-after-put fields.capacity fields.key c.args.host.now c.args.bytes c.args.reply fields.lists
+    rw (← c.self.view_is) (is-after-put fields.capacity fields.key c.args.host.now c.args.bytes c.args.reply
+    fields.lists
     (c.get_mut.follows.lender new) c.in-Some.list.now new c.self.invariant
     (sym (ap option_copied_mut c.in-Some.is) ∙ c.get_mut.ensures.value) (c.get_mut.follows.holds new) c.put.result none
     c.put.ensures.put)
