@@ -8,7 +8,7 @@ ghost use Rattle.nfs_objects.specs.declared.object.Object.{Object};
 ghost use Rattle.nfs_objects.specs.declared.view.Reserved.{Reserved};
 ghost use Rattle.nfs_engine.specs.Arrivals.{incoming_value};
 ghost use Rattle.nfs_engine.specs.Asked.{IsAskedBy};
-ghost use Rattle.nfs_schedule.specs.Courses.{IsAt};
+ghost use Rattle.nfs_schedule.specs.Courses.{IsAt, IsMade, IsNextStep};
 ghost use Rattle.nfs_schedule.specs.Executions.{HasTaken};
 ghost use Rattle.nfs_schedule.specs.declared.course.Course.{Course};
 ghost use Rattle.nfs_pool.specs.Passes.{ComesTo, EndsWith, LeadsOut, Reads, Retreats};
@@ -26,7 +26,7 @@ use nfs_engine::{
 };
 use nfs_objects::{Addr, Change, Mode};
 use nfs_schedule::answer::refusal;
-use nfs_schedule::{Course, Declined, NextStep, next_step};
+use nfs_schedule::{Considered, Course, Declined, NextStep, consider, next_step};
 use nfs_stamps::Naming;
 use std::alloc::Global;
 use std::sync::Wait;
@@ -336,17 +336,38 @@ fn run<L: Ledger + Naming, R: Wait, S: Steps<L>, G: Gate>(
         // Each step adds to the view, which is shorter than 2^64: so they come to an end.
         let known = txn.txn().view().len();
         match next_step(means.alloc, txn.txn(), course) {
-            NextStep::Acquire(address, mode, after) => {
-                give_way(means, first && known == 0, address, mode, &after);
-                acquire(means, txn, address, mode)?;
-                course = after;
-            }
-            NextStep::Reserve(after) => {
-                reserve(means, txn)?;
-                course = after;
-            }
-            NextStep::Commit(change) => return Ok(change),
-            NextStep::Fail => return Err(Reason::Memory),
+            Some(step) => course = make(means, first && known == 0, txn, step)?,
+            None => match consider(means.alloc, txn.txn()) {
+                Considered::Reads(step) => course = make(means, first && known == 0, txn, step)?,
+                Considered::Done(change) => return Ok(change),
+                Considered::Fails => return Err(Reason::Memory),
+            },
+        }
+    }
+}
+
+/// Makes this step of a call, which is there then. An error leaves the call as it was.
+fn make<L: Ledger + Naming, R: Wait, S: Steps<L>, G: Gate>(
+    means: &Means<R, S, G>,
+    holds_nothing: bool,
+    txn: &mut NotedTxn<L>,
+    step: NextStep,
+) -> Result<Course, Reason>
+    requires shard { means.now.shard < SHARDS }
+    requires next { IsNextStep txn.old step }
+    ensures reads { Reads txn.old txn.new }
+    ensures made { IfOk result (IsMade txn.old txn.new) }
+    ensures kept { OnErr result (txn.new ≡ txn.old) }
+{
+    match step {
+        NextStep::Acquire(address, mode, after) => {
+            give_way(means, holds_nothing, address, mode, &after);
+            acquire(means, txn, address, mode)?;
+            Ok(after)
+        }
+        NextStep::Reserve(after) => {
+            reserve(means, txn)?;
+            Ok(after)
         }
     }
 }

@@ -1,6 +1,7 @@
 -- The steps of a call on its course: each leads on, and what was read suits the call.
 use Rattle.std.proofs.Common.{◌≡◌, ℕ, ◌+◌, Bool, true, false, cond, List, [], ◌∷◌, ◌++◌, Option, Some, None}
-use Rattle.std.proofs.Common.{option_map, slice_get, refl, sym, ◌∙◌, ap, subst, inl, arith, ◌&&◌}
+use Rattle.std.proofs.Common.{option_map, slice_get, length, refl, sym, ◌∙◌, ap, subst, inl, arith, ◌&&◌}
+use Rattle.std.proofs.lemmas.List.{length-append}
 use Rattle.std.specs.List.{AllByRecursion}
 use Rattle.std.specs.Option.{option_and_then}
 use Rattle.std.specs.Vec.Iter.{into_iter_items}
@@ -39,8 +40,8 @@ use Rattle.nfs_schedule.proofs.ReadOrderLemmas.{once_more}
 use Rattle.nfs_schedule.proofs.AsksFewLemmas.{courses-few}
 use Rattle.nfs_schedule.proofs.ViewRoundsLemmas.{asking_all, asking_alone, asking_less, grown_numbers, grown_part}
 use Rattle.nfs_schedule.proofs.ViewRoundsLemmas.{numbering_all, numbering_less}
-use Rattle.nfs_schedule.specs.Courses.{HasReadFew, IsAfterNumber, IsAt, IsFirstOf, IsNextStep, NumbersNext}
-use Rattle.nfs_schedule.specs.Courses.{TakesNext}
+use Rattle.nfs_schedule.specs.Courses.{HasReadFew, IsAfterNumber, IsAt, IsFirstOf, IsMade, IsNext, IsNextStep}
+use Rattle.nfs_schedule.specs.Courses.{NumbersNext, TakesNext}
 use Rattle.nfs_schedule.specs.Executions.{HasNumber, HasTaken}
 use Rattle.nfs_schedule.specs.Foreseen.{foreseen, object_in}
 use Rattle.nfs_schedule.specs.Grown.{HasGrown, IsAsking, IsNumbering}
@@ -309,9 +310,10 @@ planned_next alloc t a after g may =
 
 -- so is the first of several for which it may ask at once
 pub planned_first : (t : TxnValue) (asked : Vec (Addr × Mode) Global) (wanted : List (Addr × Mode)) (plan : Plan)
-    (next : NextStep) → HasGrown t → Asks (modes_of t.call) (named_by t.call t.view) t.view asked.items →
-    wanted ≡ asked.items → IsFirstOf wanted plan (Some next) → IsNextStep t next
-planned_first t asked wanted plan next g asks listed found =
+    (next : Option NextStep) → HasGrown t → Asks (modes_of t.call) (named_by t.call t.view) t.view asked.items →
+    wanted ≡ asked.items → IsFirstOf wanted plan next → IsNext t next
+planned_first t asked wanted plan None g asks listed found = g
+planned_first t asked wanted plan (Some next) g asks listed found =
     first_next t wanted plan next found (asking_alone t asked wanted g asks (sym listed))
 
 -- and a new number, where an attempt may ask for so many
@@ -327,6 +329,26 @@ taken_on t u a o after n taken = subst (λ (x : TxnValue). IsAt after x) (sym ta
 pub number_on : (t u : TxnValue) (r : Reserved) (after : Course) → NumbersNext t after →
     u ≡ record t { view = with_number t.view r } → IsAt after u
 number_on t u r after n got = subst (λ (x : TxnValue). IsAt after x) (sym got) (n.goes_on r)
+
+-- what it is made to: one thing more is read
+one_longer : (t u : TxnValue) (e : Seen) → u.view.entries ≡ t.view.entries ++ e ∷ [] →
+    length u.view.entries ≡ length t.view.entries + 1
+one_longer t u e is = ap (λ (l : List Seen). length l) is ∙ length-append t.view.entries (e ∷ [])
+
+pub taken_made : (t u : TxnValue) (a : Addr × Mode) (o : Option Object) (after : Course) → TakesNext t a after →
+    HasTaken t u (record { address = a.0; mode = a.1; object = o }) → IsMade t u after
+taken_made t u a o after n taken = record {
+  at = taken_on t u a o after n taken;
+  grown = one_longer t u (record { address = a.0; mode = a.1; object = o })
+      (ap (λ (x : TxnValue). x.view.entries) taken);
+}
+
+pub number_made : (t u : TxnValue) (r : Reserved) (after : Course) → NumbersNext t after →
+    u ≡ record t { view = with_number t.view r } → IsMade t u after
+number_made t u r after n got = record {
+  at = number_on t u r after n got;
+  grown = one_longer t u (vacant r) (ap (λ (x : TxnValue). x.view.entries) got);
+}
 
 pub taken_once : (t u : TxnValue) (e : Seen) → EachOnce (held t.view.entries) →
     seen_at t.view.entries e.address ≡ None → HasTaken t u e → EachOnce (held u.view.entries)

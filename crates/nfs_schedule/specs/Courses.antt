@@ -22,9 +22,11 @@ use Rattle.nfs_objects.specs.declared.view.Reserved.{Reserved}
 use Rattle.nfs_engine.specs.Calls.{TxnValue}
 use Rattle.nfs_schedule.specs.Grown.{HasGrown, IsAsking, IsNumbering}
 use Rattle.nfs_schedule.specs.declared.course.Course.{Course}
+use Rattle.nfs_schedule.specs.declared.course.Considered.{Considered}
+use Rattle.nfs_schedule.specs.declared.course.Considered.TheVariants.{Reads, Done, Fails}
 use Rattle.nfs_schedule.specs.declared.course.Course.TheVariants.{Begun, Foreseen, Asked, Planned, Numbers}
 use Rattle.nfs_schedule.specs.declared.course.NextStep.{NextStep}
-use Rattle.nfs_schedule.specs.declared.course.NextStep.TheVariants.{Acquire, Reserve, Commit, Fail}
+use Rattle.nfs_schedule.specs.declared.course.NextStep.TheVariants.{Acquire, Reserve}
 use Rattle.nfs_schedule.specs.declared.planning.Plan.{Plan}
 use Rattle.nfs_schedule.specs.declared.planning.Plan.TheVariants.{Over}
 
@@ -52,12 +54,26 @@ pub record NumbersNext (t : TxnValue) (after : Course) : Type 0 where
   pub numbering : IsNumbering t left
   pub goes_on : (r : Reserved) → IsAt after (record t { view = with_number t.view r })
 
--- what comes next; an end keeps the promise
+-- a step that reads more
 abbrev pub IsNextStep : TxnValue → NextStep → Type 0
 IsNextStep t (Acquire address mode after) = TakesNext t (address, mode) after
 IsNextStep t (Reserve after) = NumbersNext t after
-IsNextStep t (Commit change) = HasGrown t × IsPromised (done_value t.call t.ctx t.view (change_value change))
-IsNextStep t Fail = HasGrown t
+
+-- what is read next, or the call is to be considered
+abbrev pub IsNext : TxnValue → Option NextStep → Type 0
+IsNext t None = HasGrown t
+IsNext t (Some step) = IsNextStep t step
+
+-- what comes of an attempt; an end keeps the promise
+abbrev pub IsConsidered : TxnValue → Considered → Type 0
+IsConsidered t (Reads step) = IsNextStep t step
+IsConsidered t (Done change) = HasGrown t × IsPromised (done_value t.call t.ctx t.view (change_value change))
+IsConsidered t Fails = HasGrown t
+
+-- a step was made: the call has read one thing more, and is there
+pub record IsMade (old new : TxnValue) (after : Course) : Type 0 where
+  pub at : IsAt after new
+  pub grown : length new.view.entries ≡ length old.view.entries + 1
 
 -- the step to the first of these, where there is one; the others come then, and behind them the plan
 abbrev pub IsFirstOf : List (Addr × Mode) → Plan → Option NextStep → Type 0

@@ -5,10 +5,7 @@ ghost use Rattle.std.specs.Prelude.{◌≡◌, [], IfOk};
 ghost use Rattle.std.specs.Vec.Iter.{into_iter_items};
 ghost use Rattle.nfs_objects.specs.Attempt.{AsksFirst, Attempts};
 ghost use Rattle.nfs_objects.specs.Bound.{view_after};
-ghost use Rattle.nfs_objects.specs.Calls.{named_by, new_numbers};
-ghost use Rattle.nfs_objects.specs.Modes.{modes_of};
-ghost use Rattle.nfs_inodes.specs.Wants.{IsWanted};
-ghost use Rattle.nfs_schedule.specs.Courses.{IsAfterNumber, IsAt, IsFirstOf, IsNextStep};
+ghost use Rattle.nfs_schedule.specs.Courses.{IsAfterNumber, IsAt, IsConsidered, IsFirstOf, IsNext};
 ghost use Rattle.nfs_schedule.specs.Grown.{HasGrown};
 
 use crate::attempts::attempt;
@@ -41,108 +38,105 @@ pub enum Course {
     Numbers(u32, Plan),
 }
 
-/// The next step of a call. Once it is made the call is at what is told with it.
+/// The next step of a call that reads more. Once it is made the call is at what is told with it.
 #[derive(Drop)]
 pub enum NextStep {
     /// It takes this address in this mode, with whatever stands there.
     Acquire(Addr, Mode, Course),
     /// It gets a new number.
     Reserve(Course),
-    /// It is done: this is what it comes to.
-    Commit(Change),
-    /// There was no memory to attempt it.
-    Fail,
 }
 
-/// What comes next of a call that is there on its course.
+/// What a call comes to that is attempted on what it has read.
+#[derive(Drop)]
+pub enum Considered {
+    /// It reads more, by this step first.
+    Reads(NextStep),
+    /// It is done: this is what it comes to.
+    Done(Change),
+    /// There was no memory to attempt it.
+    Fails,
+}
+
+/// What a call that is there on its course reads next. None where it is to be considered.
 #[inline(always)]
-pub fn next_step(alloc: Global, txn: &Txn, course: Course) -> NextStep
+pub fn next_step(alloc: Global, txn: &Txn, course: Course) -> Option<NextStep>
     requires { IsAt course txn.now }
-    ensures { IsNextStep txn.now result }
+    ensures { IsNext txn.now result }
 {
     match course {
         Course::Begun => begin(alloc, txn),
         Course::Foreseen(address, mode) => {
-            NextStep::Acquire(address, mode, Course::Planned(behind_first(txn.call())))
+            Some(NextStep::Acquire(address, mode, Course::Planned(behind_first(txn.call()))))
         }
         Course::Planned(plan) => go_on(alloc, txn, plan),
         Course::Asked(wanted, plan) => match first_of(wanted, plan) {
-            Some(next) => next,
+            Some(next) => Some(next),
             None => go_on(alloc, txn, plan),
         },
-        Course::Numbers(left, plan) => NextStep::Reserve(after_number(left, plan)),
+        Course::Numbers(left, plan) => Some(NextStep::Reserve(after_number(left, plan))),
     }
 }
 
 /// The first step of a call: what an attempt asks for first is taken ahead of it, where it is foreseen.
-fn begin(alloc: Global, txn: &Txn) -> NextStep
+fn begin(alloc: Global, txn: &Txn) -> Option<NextStep>
     requires { txn.now.view ≡ view_after [] }
-    ensures { IsNextStep txn.now result }
+    ensures { IsNext txn.now result }
 {
     match foreseen(txn.call()) {
         Some((address, mode)) => {
-            NextStep::Acquire(Addr::Exports, Mode::Shared, Course::Foreseen(address, mode))
+            Some(NextStep::Acquire(Addr::Exports, Mode::Shared, Course::Foreseen(address, mode)))
         }
         None => go_on(alloc, txn, first_plan(txn.call())),
     }
 }
 
-/// The next step of a call that goes by its plan: an attempt, where that wants nothing more.
-fn go_on(alloc: Global, txn: &Txn, plan: Plan) -> NextStep
+/// The next step of a call that goes by its plan: to what that wants, which is there then. None where it wants nothing
+/// more.
+fn go_on(alloc: Global, txn: &Txn, plan: Plan) -> Option<NextStep>
     requires { HasGrown txn.now }
-    ensures { IsNextStep txn.now result }
+    ensures { IsNext txn.now result }
 {
-    match next_want(alloc, txn, plan) {
-        Some((want, after)) => take(alloc, txn, want, after),
-        None => consider(alloc, txn),
-    }
-}
-
-/// The step to what a call wants by its plan, which is there then.
-fn take(alloc: Global, txn: &Txn, want: Want, after: Plan) -> NextStep
-    requires grown { HasGrown txn.now }
-    requires wanted { IsWanted (modes_of txn.now.call) (named_by txn.now.call txn.now.view)
-        (new_numbers txn.now.call txn.now.view) txn.now.view want }
-    ensures { IsNextStep txn.now result }
-{
+    let (want, after) = next_want(alloc, txn, plan)?;
     match want {
-        Want::Address((address, mode)) => NextStep::Acquire(address, mode, Course::Planned(after)),
-        Want::Addresses(asked) => match first_of(asked.into_iter(), after) {
-            Some(next) => next,
-            None => consider(alloc, txn),
-        },
-        Want::Numbers(count) => NextStep::Reserve(after_number(count, after)),
+        Want::Address((address, mode)) => {
+            Some(NextStep::Acquire(address, mode, Course::Planned(after)))
+        }
+        Want::Addresses(asked) => first_of(asked.into_iter(), after),
+        Want::Numbers(count) => Some(NextStep::Reserve(after_number(count, after))),
     }
 }
 
-/// The next step of a call that is attempted on what it has read.
+/// What comes of a call that is attempted on what it has read.
 #[inline(always)]
-fn consider(alloc: Global, txn: &Txn) -> NextStep
+pub fn consider(alloc: Global, txn: &Txn) -> Considered
     requires { HasGrown txn.now }
-    ensures { IsNextStep txn.now result }
+    ensures { IsConsidered txn.now result }
 {
     match attempt_on(alloc, txn) {
         Ok(Outcome::Need(asked)) => match first_of(asked.into_iter(), Plan::Over) {
-            Some(next) => next,
+            Some(next) => Considered::Reads(next),
             None => unreachable!(),
         },
-        Ok(Outcome::Fresh(count)) => NextStep::Reserve(after_number(count, Plan::Over)),
+        Ok(Outcome::Fresh(count)) => {
+            Considered::Reads(NextStep::Reserve(after_number(count, Plan::Over)))
+        }
         Ok(Outcome::Done(change)) => commit(alloc, txn, change),
-        Err(_) => NextStep::Fail,
+        Err(_) => Considered::Fails,
     }
 }
 
 /// The commit of what a call came to, where it leaves as much memory as it has to.
 #[inline(always)]
-fn commit(alloc: Global, txn: &Txn, change: Change) -> NextStep
-    requires { IsNextStep txn.now (NextStep.Commit change) }
-    ensures { IsNextStep txn.now result }
+fn commit(alloc: Global, txn: &Txn, change: Change) -> Considered
+    requires { IsConsidered txn.now (Considered.Done change) }
+    ensures { IsConsidered txn.now result }
 {
     if may_add(txn.call()) && !has_spare(alloc) {
         drop(change);
-        return NextStep::Fail;
+        return Considered::Fails;
     }
-    NextStep::Commit(change)
+    Considered::Done(change)
 }
 
 /// Whether a call may add objects, names or bytes to the state.

@@ -1,21 +1,22 @@
 //! One call from its arrival to its answer, on an engine at rest: no worker, no turns.
 
 ghost use Rattle.std.specs.Prelude.{◌≡◌, [], None, IfOk, OnErr, OnOk};
-ghost use Rattle.nfs_objects.specs.Bound.{view_after};
+ghost use Rattle.nfs_objects.specs.Asks.{EachOnce};
+ghost use Rattle.nfs_objects.specs.Bound.{held, view_after};
 ghost use Rattle.nfs_objects.specs.Promise.{IsPromised};
 ghost use Rattle.nfs_objects.specs.declared.view.Reserved.{Reserved};
 ghost use Rattle.nfs_objects.specs.Values.{change_value, done_value, seen_at};
 ghost use Rattle.nfs_engine.specs.Book.{store_in};
 ghost use Rattle.nfs_engine.specs.Calls.{txn_of};
 ghost use Rattle.nfs_engine.specs.Engine.{IsLeaving, Lives};
-ghost use Rattle.nfs_schedule.specs.Courses.{HasReadFew, IsAt};
+ghost use Rattle.nfs_schedule.specs.Courses.{HasReadFew, IsAt, IsMade, IsNextStep};
 ghost use Rattle.nfs_schedule.specs.Executions.{Answers, EndsIn, Frees, GoesOn, HasNumber, HasTaken, HoldsAlone};
 ghost use Rattle.nfs_schedule.specs.Executions.{IsAlone, shown_in};
 ghost use Rattle.nfs_schedule.specs.Worlds.{IsAtRest};
 ghost use Rattle.nfs_schedule.specs.declared.course.Course.{Course};
 
 use crate::answer::{Answer, refuse, refuse_arrival};
-use crate::course::{Course, NextStep, next_step};
+use crate::course::{Considered, Course, NextStep, consider, next_step};
 use nfs_engine::{Admission, Arrival, Engine, Finished, Got, Pending, Release, Txn};
 use nfs_objects::{Addr, Change, Mode};
 use std::alloc::Global;
@@ -79,16 +80,34 @@ fn run(alloc: Global, engine: &mut Engine, txn: &mut Txn) -> Result<Change, Unme
         // Each step adds to the view, which is shorter than 2^64: so they come to an end.
         let _known = txn.view().len();
         match next_step(alloc, txn, course) {
-            NextStep::Acquire(address, mode, after) => {
-                acquire(alloc, engine, txn, address, mode)?;
-                course = after;
-            }
-            NextStep::Reserve(after) => {
-                reserve(alloc, engine, txn)?;
-                course = after;
-            }
-            NextStep::Commit(change) => return Ok(change),
-            NextStep::Fail => return Err(Unmet),
+            Some(step) => course = make(alloc, engine, txn, step)?,
+            None => match consider(alloc, txn) {
+                Considered::Reads(step) => course = make(alloc, engine, txn, step)?,
+                Considered::Done(change) => return Ok(change),
+                Considered::Fails => return Err(Unmet),
+            },
+        }
+    }
+}
+
+/// Makes this step of a call, which is there then. An error leaves the call as it was.
+fn make(alloc: Global, engine: &mut Engine, txn: &mut Txn, step: NextStep) -> Result<Course, Unmet>
+    requires lives { Lives engine.old txn.old }
+    requires alone { IsAlone engine.old txn.old.id txn.old.key }
+    requires next { IsNextStep txn.old step }
+    ensures goes_on { GoesOn engine.old engine.new txn.old txn.new }
+    ensures made { IfOk result (IsMade txn.old txn.new) }
+    ensures once { OnOk result (EachOnce (held txn.old.view.entries) → EachOnce (held txn.new.view.entries)) }
+    ensures kept { OnErr result (txn.new ≡ txn.old) }
+{
+    match step {
+        NextStep::Acquire(address, mode, after) => {
+            acquire(alloc, engine, txn, address, mode)?;
+            Ok(after)
+        }
+        NextStep::Reserve(after) => {
+            reserve(alloc, engine, txn)?;
+            Ok(after)
         }
     }
 }

@@ -20,7 +20,7 @@ pub mod world;
 
 pub use answer::{Answer, Declined};
 pub use attempts::attempt;
-pub use course::{Course, NextStep, next_step};
+pub use course::{Considered, Course, NextStep, consider, next_step};
 pub use driving::{Event, drive};
 pub use executing::execute;
 pub use laws::{calls_ask_once, courses_are_few};

@@ -7,35 +7,15 @@ ghost use Rattle.nfs_objects.specs.Values.{seen_at};
 ghost use Rattle.nfs_objects.specs.declared.view.Reserved.{Reserved};
 ghost use Rattle.nfs_engine.specs.Book.{store_in};
 ghost use Rattle.nfs_engine.specs.Engine.{Lives};
+ghost use Rattle.nfs_schedule.specs.Courses.{IsMade, IsNextStep};
 ghost use Rattle.nfs_schedule.specs.Executions.{HasTaken, shown_in};
 
 use super::super::records::read;
 use nfs_engine::{Admission, Engine, Got, Txn};
 use nfs_objects::{Addr, Mode};
-use nfs_schedule::planning::Plan;
-use nfs_schedule::{Course, NextStep, next_step};
+use nfs_schedule::{Considered, Course, NextStep, consider, next_step};
 use std::alloc::{AllocError, Global};
 use std::process::Abort;
-
-/// Whether a call that is there goes on by what it was told before, with no attempt.
-fn is_told(course: &Course) -> bool {
-    match course {
-        Course::Asked(wanted, _) => wanted.len() > 0,
-        Course::Numbers(..) => true,
-        _ => false,
-    }
-}
-
-/// How many attempts a step wanted behind which the call is there: none where it was told before, or by a plan.
-fn attempts_for(is_told: bool, after: &Course) -> usize {
-    let is_attempted = match after {
-        Course::Asked(_, Plan::Over)
-        | Course::Planned(Plan::Over)
-        | Course::Numbers(_, Plan::Over) => true,
-        _ => false,
-    };
-    usize::from(!is_told && is_attempted)
-}
 
 /// Reads an address that no other call holds.
 fn acquire(
@@ -69,6 +49,30 @@ fn reserve(alloc: Global, engine: &mut Engine, txn: &mut Txn) -> Result<(), Allo
     }
 }
 
+/// Makes this step of a call, which is there then.
+fn make(
+    alloc: Global,
+    engine: &mut Engine,
+    txn: &mut Txn,
+    step: NextStep,
+) -> Result<Course, AllocError>
+    requires lives { Lives engine.old txn.old }
+    requires next { IsNextStep txn.old step }
+    ensures lives { Lives engine.new txn.new }
+    ensures made { IfOk result (IsMade txn.old txn.new) }
+{
+    match step {
+        NextStep::Acquire(address, mode, after) => {
+            acquire(alloc, engine, txn, address, mode)?;
+            Ok(after)
+        }
+        NextStep::Reserve(after) => {
+            reserve(alloc, engine, txn)?;
+            Ok(after)
+        }
+    }
+}
+
 /// How many attempts a call makes until it is done.
 fn play(alloc: Global, engine: &mut Engine, txn: &mut Txn) -> Result<usize, AllocError>
     requires lives { Lives engine.old txn.old }
@@ -80,23 +84,19 @@ fn play(alloc: Global, engine: &mut Engine, txn: &mut Txn) -> Result<usize, Allo
     'steps: loop {
         // Each step adds to the view, which is shorter than 2^64: so they come to an end.
         let _known = txn.view().len();
-        let is_told = is_told(&course);
         match next_step(alloc, txn, course) {
-            NextStep::Acquire(address, mode, after) => {
-                acquire(alloc, engine, txn, address, mode)?;
-                attempts = attempts.saturating_add(attempts_for(is_told, &after));
-                course = after;
+            Some(step) => course = make(alloc, engine, txn, step)?,
+            None => {
+                attempts = attempts.saturating_add(1);
+                match consider(alloc, txn) {
+                    Considered::Reads(step) => course = make(alloc, engine, txn, step)?,
+                    Considered::Done(change) => {
+                        drop(change);
+                        return Ok(attempts);
+                    }
+                    Considered::Fails => return Err(AllocError),
+                }
             }
-            NextStep::Reserve(after) => {
-                reserve(alloc, engine, txn)?;
-                attempts = attempts.saturating_add(attempts_for(is_told, &after));
-                course = after;
-            }
-            NextStep::Commit(change) => {
-                drop(change);
-                return Ok(attempts.saturating_add(1));
-            }
-            NextStep::Fail => return Err(AllocError),
         }
     }
 }
