@@ -29,6 +29,9 @@ impl Engine {
     pub fn clear_dead(&mut self, alloc: Global)
         ensures { Clears self.old self.new }
     {
+        if self.dead.is_empty() {
+            return;
+        }
         let Ok(mut swept) = Vec::with_capacity(alloc, PAGES * SWEPT) else {
             return;
         };

@@ -40,36 +40,32 @@ pub fn answer_record<C: Moments>(
         (HasNoAnswer C.gives (message ∷ []) clock.old clock.new engine.old engine.new) }
 {
     let moment = clock.moment();
-    let is_begun = begin_era(alloc, engine);
+    begin_era(alloc, engine);
     let answered = answer(alloc, engine, host, message, moment)?;
-    clear_at(alloc, engine, is_begun);
+    clear_dead(alloc, engine);
     Ok(answered)
 }
 
-/// Begins a new era where the present one is full: whether it did. What was recorded in that one is dropped.
-fn begin_era(alloc: Global, engine: &mut Engine) -> bool
+/// Begins a new era where the present one is full. What was recorded in that one is dropped.
+fn begin_era(alloc: Global, engine: &mut Engine)
     requires rest { IsAtRest engine.old }
     ensures rest { IsAtRest engine.new }
     ensures nothing { ExecutesNothing engine.old engine.new }
     ensures room { HasEraRoom engine.new }
     ensures stays { is_full engine.old.book ≡ false → engine.new ≡ engine.old }
 {
-    let is_full = engine.era_is_full();
-    if is_full {
+    if engine.era_is_full() {
         drop(engine.new_era(alloc));
     }
-    is_full
 }
 
-/// Behind the first record of an era that is answered some of what dead files left goes.
-fn clear_at(alloc: Global, engine: &mut Engine, is_begun: bool)
+/// Behind a record that is answered some of what dead files left goes.
+fn clear_dead(alloc: Global, engine: &mut Engine)
     requires rest { IsAtRest engine.old }
     ensures rest { IsAtRest engine.new }
     ensures on { StandsOn engine.old engine.new }
 {
-    if is_begun {
-        engine.clear_dead(alloc);
-    }
+    engine.clear_dead(alloc);
 }
 
 /// The answer to a record that came in from the host, at this moment.

@@ -16,6 +16,7 @@ ghost use Rattle.nfs_streams.specs.Taken.{LeavesPiece, TakesPiece};
 use crate::answer::answer_record;
 use crate::connection::Connection;
 use crate::sending::{put, send};
+use crate::witness::{Unseen, Witness};
 use nfs_engine::{Engine, Host};
 use nfs_machine::Moments;
 use nfs_rpc::stream::{Sink, Source};
@@ -116,15 +117,17 @@ pub fn serve_stream<C: Moments, R: Source, W: Sink>(
         reader,
         writer,
         Messages::Waiting,
+        &Unseen,
     )
 }
 
-/// The same as `serve_stream`; messages that calls put wait to be taken, or are dropped as they come.
+/// The same as `serve_stream`; messages that calls put wait to be taken, or are dropped as they come, and somebody sees
+/// how each record is answered.
 ///
 /// # Errors
 ///
 /// Those of `serve_stream`.
-pub fn serve_with<C: Moments, R: Source, W: Sink>(
+pub fn serve_with<C: Moments, R: Source, W: Sink, T: Witness>(
     alloc: Global,
     engine: &mut Engine,
     host: &Host,
@@ -132,6 +135,7 @@ pub fn serve_with<C: Moments, R: Source, W: Sink>(
     reader: &mut R,
     writer: &mut W,
     messages: Messages,
+    witness: &T,
 ) -> Result<Served, StreamFault>
     requires rest { IsAtRest engine.old }
     ensures rest { IsAtRest engine.new }
@@ -168,6 +172,7 @@ pub fn serve_with<C: Moments, R: Source, W: Sink>(
         reader,
         writer,
         messages,
+        witness,
         &mut connection,
         buffer.as_mut_slice(),
     )
@@ -179,7 +184,7 @@ pub fn served_is_a_run()
 {}
 
 /// Takes the input in piece by piece, as many bytes at once as the buffer has, and answers the records.
-fn serve_pieces<C: Moments, R: Source, W: Sink>(
+fn serve_pieces<C: Moments, R: Source, W: Sink, T: Witness>(
     alloc: Global,
     engine: &mut Engine,
     host: &Host,
@@ -187,6 +192,7 @@ fn serve_pieces<C: Moments, R: Source, W: Sink>(
     reader: &mut R,
     writer: &mut W,
     messages: Messages,
+    witness: &T,
     connection: &mut Connection,
     buffer: &mut [u8],
 ) -> Result<Served, StreamFault>
@@ -215,7 +221,9 @@ fn serve_pieces<C: Moments, R: Source, W: Sink>(
         if let Taken::End = taken {
             return Ok(Served);
         }
-        serve_records(alloc, engine, host, clock, writer, messages, connection)?;
+        serve_records(
+            alloc, engine, host, clock, writer, messages, witness, connection,
+        )?;
         if let Taken::Refused = taken {
             return Err(StreamFault::TooLarge);
         }
@@ -259,13 +267,14 @@ fn read_piece<R: Source>(
 }
 
 /// Answers the whole records that have come, one after the other, to the last, and sends all answers on.
-fn serve_records<C: Moments, W: Sink>(
+fn serve_records<C: Moments, W: Sink, T: Witness>(
     alloc: Global,
     engine: &mut Engine,
     host: &Host,
     clock: &mut C,
     writer: &mut W,
     messages: Messages,
+    witness: &T,
     connection: &mut Connection,
 ) -> Result<(), StreamFault>
     requires rest { IsAtRest engine.old }
@@ -293,20 +302,21 @@ fn serve_records<C: Moments, W: Sink>(
 {
     'records: while let Some(record) = connection.next() {
         serve_record(
-            alloc, engine, host, clock, writer, messages, connection, record,
+            alloc, engine, host, clock, writer, messages, witness, connection, record,
         )?;
     }
     send(writer, connection)
 }
 
 /// Answers one record, at the clock's next moment. Its answer waits, or is sent on.
-fn serve_record<C: Moments, W: Sink>(
+fn serve_record<C: Moments, W: Sink, T: Witness>(
     alloc: Global,
     engine: &mut Engine,
     host: &Host,
     clock: &mut C,
     writer: &mut W,
     messages: Messages,
+    witness: &T,
     connection: &mut Connection,
     message: Record,
 ) -> Result<(), StreamFault>
@@ -328,7 +338,7 @@ fn serve_record<C: Moments, W: Sink>(
         ((e ≡ StreamFault.Write) × (W.Counts.failures writer.new ≡ one_more (W.Counts.failures writer.old)))
         ⊎ (e ≡ StreamFault.Memory)) }
 {
-    match answer_next(alloc, engine, host, clock, messages, message) {
+    match answer_next(alloc, engine, host, clock, messages, witness, message) {
         Ok(answer) => put(writer, connection, answer),
         Err(_) => {
             send(writer, connection)?;
@@ -337,17 +347,18 @@ fn serve_record<C: Moments, W: Sink>(
     }
 }
 
-/// The answer to a record, as `answer_record` gives it. Messages are dropped where they shall be.
+/// The answer to a record, as `answer_record` gives it, which is seen. Messages are dropped where they shall be.
 ///
 /// # Errors
 ///
 /// Those of `answer_record`.
-fn answer_next<C: Moments>(
+fn answer_next<C: Moments, T: Witness>(
     alloc: Global,
     engine: &mut Engine,
     host: &Host,
     clock: &mut C,
     messages: Messages,
+    witness: &T,
     message: Record,
 ) -> Result<Option<Answer>, AllocError>
     requires rest { IsAtRest engine.old }
@@ -360,6 +371,7 @@ fn answer_next<C: Moments>(
         (HasNoAnswer C.gives (message ∷ []) clock.old clock.new engine.old engine.new) }
 {
     let answer = answer_record(alloc, engine, host, clock, message)?;
+    witness.saw(&answer, engine);
     if let Messages::Dropped = messages {
         drop_messages(engine);
     }
