@@ -5,6 +5,7 @@ ghost use Rattle.std.specs.Prelude.{option_copied, slice_get};
 ghost use Rattle.std.specs.Bool.{Decides};
 ghost use Rattle.nfs_engine.specs.Book.{Commits, GivesUp, MayCommit, TakesMessage, store_in};
 ghost use Rattle.nfs_engine.specs.Commits.{Leaves};
+ghost use Rattle.nfs_engine.specs.Standing.{HasObjects};
 ghost use Rattle.nfs_engine.specs.Sweeps.{MaySweep, Sweeps};
 ghost use Rattle.nfs_engine.specs.Tables.{Stands};
 ghost use Rattle.nfs_engine.specs.declared.release.Then.TheVariants as then;
@@ -229,6 +230,13 @@ impl<L: Ledger + Naming> Desk<L> {
     /// How many large objects were compared by value.
     pub(crate) fn compared(&self) -> u64 {
         self.compared.load(Ordering::Relaxed)
+    }
+
+    /// At how many addresses something stands.
+    pub(crate) fn objects(&self) -> u64
+        ensures { HasObjects (store_in self.now.book) result }
+    {
+        self.book.objects()
     }
 
     /// A share of nothing.

@@ -60,6 +60,13 @@ impl Ended {
         !self.gone.is_empty()
     }
 
+    /// The receipts of each seat, the oldest first.
+    pub fn receipts(&self) -> &[Vec<Receipt>]
+        ensures { told_in result.now ≡ self.now.receipts }
+    {
+        &self.lists
+    }
+
     /// The records, where the receipts of all seats are they, each once; and the room in which the era ended. It takes
     /// no memory.
     ///

@@ -105,6 +105,13 @@ impl<L: Ledger + Naming> Pool<L> {
         guard.compared()
     }
 
+    /// At how many addresses something stands: those of the store that the book had while this held its lock. It takes
+    /// no memory.
+    pub fn objects<R: Wait>(&self, rt: &R) -> u64 {
+        let guard = take(rt, &self.desk);
+        guard.objects()
+    }
+
     /// Takes the oldest message that was not yet taken. It takes no memory.
     pub fn message<R: Wait>(&self, rt: &R) -> Option<Posted> {
         let mut guard = take(rt, &self.desk);

@@ -5,6 +5,7 @@
 //! it may be run with each growth refused in turn.
 
 mod beside;
+mod buried;
 mod callers;
 mod calls;
 mod ends;

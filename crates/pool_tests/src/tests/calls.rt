@@ -43,6 +43,8 @@ pub(super) enum Ask {
     Read,
     /// WRITE of this word at the file's beginning.
     Write(u32),
+    /// WRITE of a word behind so many times 2 MiB, below 4 GiB.
+    WriteFar(u32),
     /// CREATE GUARDED of a name.
     Create(u32),
     /// CREATE EXCLUSIVE of a name, with this verifier.
@@ -99,7 +101,7 @@ impl Ask {
             Ask::SetMode(_) | Ask::Lock => 2,
             Ask::Lookup(_) => 3,
             Ask::Read => 6,
-            Ask::Write(_) => 7,
+            Ask::Write(_) | Ask::WriteFar(_) => 7,
             Ask::Create(_) | Ask::CreateOnce(..) => 8,
             Ask::Remove(_) => 12,
             Ask::Link(_) => 15,
@@ -123,6 +125,7 @@ impl Ask {
             Ask::SetMode(mode) => add_on(bytes, 32, file, &[1, *mode, 0, 0, 0, 0, 0, 0]),
             Ask::Read => add_on(bytes, 32, file, &[0, 0, 4]),
             Ask::Write(word) => add_on(bytes, 32, file, &[0, 0, 4, 2, 4, *word]),
+            Ask::WriteFar(times) => add_on(bytes, 32, file, &[0, *times << 21, 4, 2, 4, 1]),
             Ask::Create(name) => add_on(bytes, 32, directory, &[4, *name, 1, 0, 0, 0, 0, 0, 0]),
             Ask::CreateOnce(name, verifier) => {
                 add_on(bytes, 32, directory, &[4, *name, 2, 0, *verifier])

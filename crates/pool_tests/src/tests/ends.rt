@@ -1,5 +1,6 @@
 //! The end of an era, and of a pool.
 
+use super::buried::sweeps;
 use super::callers::{Caller, OK, Told};
 use super::calls::Ask;
 use super::pools::{Course, Runs, in_pool};
@@ -22,6 +23,8 @@ pub(super) enum End {
     RoomLeft,
     /// Its receipts are not asked for.
     Stopped,
+    /// Behind as many eras as what a large file left wants to go.
+    Swept,
 }
 
 /// Whether the pool ends so, behind so many records.
@@ -38,6 +41,7 @@ pub(super) fn ends_so<L: Ledger + Naming, R: Runs>(
         End::EraTurned => turns_era(rt, pool, seats, records),
         End::RoomLeft => leaves_room(rt, pool, seats, records),
         End::Stopped => stops(rt, pool, seats, records),
+        End::Swept => sweeps(rt, pool, seats),
     }
 }
 
@@ -243,7 +247,7 @@ fn end_in_one_room<L: Ledger + Naming, R: Runs>(
 }
 
 /// Room for so many seats, if need be by a second try.
-fn room_for<R: Runs>(rt: &R, count: usize) -> Result<EraRoom, AllocError> {
+pub(super) fn room_for<R: Runs>(rt: &R, count: usize) -> Result<EraRoom, AllocError> {
     match EraRoom::new(rt.alloc(), count) {
         Ok(room) => Ok(room),
         Err(AllocError) => EraRoom::new(rt.alloc(), count),

@@ -129,7 +129,7 @@ fn act_beside<P: Part + Sync, L: Ledger + Naming + Send + Sync, R: Runs + Sync>(
 }
 
 /// An engine whose era is full at so many records.
-fn opened(alloc: Global, era_records: u64) -> Result<Engine, AllocError>
+pub(super) fn opened(alloc: Global, era_records: u64) -> Result<Engine, AllocError>
     ensures { IfOk result (λ engine. engine.book.records ≡ []) }
 {
     let config = Config {

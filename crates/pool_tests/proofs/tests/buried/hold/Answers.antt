@@ -1,0 +1,12 @@
+use Rattle.std.proofs.Common.{◌∙◌, ap, arith}
+use Rattle.nfs_objects.specs.Values.{ViewValue, seen_at}
+use Rattle.nfs_objects.specs.declared.address.Addr.TheVariants.{Inode}
+use Rattle.nfs_engine.specs.Calls.{TxnValue}
+use Rattle.pool_tests.proofs.tests.buried.hold.Goals as goal
+
+pub acquire-got-requires : goal.acquire-got-requires
+acquire-got-requires g c = (
+  omega arith,
+  ap (λ (t : TxnValue). seen_at t.view.entries (Inode 16)) c.new-noted.ensures
+      ∙ ap (λ (v : ViewValue). seen_at v.entries (Inode 16)) c.in_ok-txn.ensures,
+)
