@@ -100,7 +100,7 @@ const ERA_HELP: &str = "Keep so many records at most, 1 to 65536 [default: 65536
 
 const CACHE_HELP: &str = "Keep so many replies of each host at most, 1 to 65536 [default: 1024]";
 
-// `--NAME`
+/// `--NAME`
 fn flag<'a>(alloc: Global, name: &'a str, help: &'a str) -> Arg<'a>
     ensures rule { rule_of result ≡ flag_rule name.entry.now }
     ensures local { result.global ≡ false }
@@ -111,7 +111,7 @@ fn flag<'a>(alloc: Global, name: &'a str, help: &'a str) -> Arg<'a>
         .help(help)
 }
 
-// `--NAME VALUE`
+/// `--NAME VALUE`
 fn option<'a>(alloc: Global, name: &'a str, value: &'a str, help: &'a str) -> Arg<'a>
     ensures rule { rule_of result ≡ option_rule name.entry.now }
     ensures local { result.global ≡ false }
@@ -122,7 +122,7 @@ fn option<'a>(alloc: Global, name: &'a str, value: &'a str, help: &'a str) -> Ar
         .help(help)
 }
 
-// `--NAME VALUE`, where the parser takes the value
+/// `--NAME VALUE`, where the parser takes the value
 fn number<'a>(
     alloc: Global,
     name: &'a str,
@@ -136,7 +136,7 @@ fn number<'a>(
     option(alloc, name, value, help).value_parser(parser)
 }
 
-// The program's command, with its options.
+/// The program's command, with its options.
 fn command<'a>(alloc: Global) -> Result<Command<'a>, AllocError>
     ensures { IfOk result (λ command. app_of command ≡ nfsd) }
 {
@@ -146,7 +146,7 @@ fn command<'a>(alloc: Global) -> Result<Command<'a>, AllocError>
     with_limits(alloc, with_files(alloc, with_transport(alloc, command)?)?)
 }
 
-// The command with the options that say on what is served.
+/// The command with the options that say on what is served.
 fn with_transport<'a>(alloc: Global, command: Command<'a>) -> Result<Command<'a>, AllocError>
     ensures { IfOk result (λ more. app_of more ≡ with_transport (app_of command.entry)) }
 {
@@ -163,7 +163,7 @@ fn with_transport<'a>(alloc: Global, command: Command<'a>) -> Result<Command<'a>
         .arg(flag(alloc, "control", CONTROL_HELP))
 }
 
-// The command with the options that say what is served.
+/// The command with the options that say what is served.
 fn with_files<'a>(alloc: Global, command: Command<'a>) -> Result<Command<'a>, AllocError>
     ensures { IfOk result (λ more. app_of more ≡ with_files (app_of command.entry)) }
 {
@@ -178,7 +178,7 @@ fn with_files<'a>(alloc: Global, command: Command<'a>) -> Result<Command<'a>, Al
         .arg(number(alloc, "bytes", "N", value_parser!(u64), BYTES_HELP))
 }
 
-// The command with the options that say how much there is at once, or is kept.
+/// The command with the options that say how much there is at once, or is kept.
 fn with_limits<'a>(alloc: Global, command: Command<'a>) -> Result<Command<'a>, AllocError>
     ensures { IfOk result (λ more. app_of more ≡ with_limits (app_of command.entry)) }
 {
@@ -212,7 +212,7 @@ pub fn arguments<R: Env + AllocGlobal>(rt: &R) -> Result<Vec<String>, Exit>
     }
 }
 
-// The exit where words can't be read, for this reason: there was no memory, or they are no text.
+/// The exit where words can't be read, for this reason: there was no memory, or they are no text.
 fn exit_of_words(alloc: Global, error: &io::Error) -> Result<Exit, AllocError>
     ensures { IfOk result (IsReadingExit (error_kind error.now)) }
 {
@@ -222,14 +222,14 @@ fn exit_of_words(alloc: Global, error: &io::Error) -> Result<Exit, AllocError>
     }
 }
 
-// The exit where a value is refused, with this message.
+/// The exit where a value is refused, with this message.
 fn refusal(command: &mut Command<'_>, message: &str) -> Result<Exit, AllocError>
     ensures { IfOk result IsValueRefusal }
 {
     Ok(Exit::CommandLine(command.error(ErrorKind::ValueValidation, message)?))
 }
 
-// The exit where two arguments are refused together, with this message.
+/// The exit where two arguments are refused together, with this message.
 fn conflict(command: &mut Command<'_>, message: &str) -> Result<Exit, AllocError>
     ensures { IfOk result IsConflict }
 {
@@ -255,7 +255,7 @@ pub fn configure<S: AsStr>(alloc: Global, words: &[S]) -> Result<Options, Exit>
     options
 }
 
-// What the words ask for by this command, which is the program's.
+/// What the words ask for by this command, which is the program's.
 fn configure_by<'a, S: AsStr>(
     alloc: Global,
     command: &mut Command<'a>,
@@ -271,7 +271,7 @@ fn configure_by<'a, S: AsStr>(
     options
 }
 
-// What words with these matches ask for.
+/// What words with these matches ask for.
 fn matched_options(
     alloc: Global,
     command: &mut Command<'_>,
@@ -294,7 +294,7 @@ fn parse<'a, S: AsStr>(command: &mut Command<'a>, words: &'a [S]) -> Result<ArgM
     Ok(command.try_get_matches_from_mut(words)?)
 }
 
-// The host that the options name, or the default.
+/// The host that the options name, or the default.
 fn named_host(
     alloc: Global,
     command: &mut Command<'_>,
@@ -310,7 +310,7 @@ fn named_host(
     }
 }
 
-// The numbers that the options give, or the defaults.
+/// The numbers that the options give, or the defaults.
 fn named_limits(
     alloc: Global,
     command: &mut Command<'_>,
@@ -327,7 +327,7 @@ fn named_limits(
     })
 }
 
-// The number that this option gives, or the default.
+/// The number that this option gives, or the default.
 fn named_limit(
     alloc: Global,
     command: &mut Command<'_>,
@@ -344,7 +344,7 @@ fn named_limit(
     Ok(value)
 }
 
-// The exit where the number that this option gives is refused.
+/// The exit where the number that this option gives is refused.
 fn limit_refusal(alloc: Global, command: &mut Command<'_>, limit: Limit) -> Result<Exit, AllocError>
     ensures { IfOk result IsValueRefusal }
 {
@@ -353,7 +353,7 @@ fn limit_refusal(alloc: Global, command: &mut Command<'_>, limit: Limit) -> Resu
     refusal(command, message.as_str())
 }
 
-// On what is served.
+/// On what is served.
 fn named_transport(
     alloc: Global,
     command: &mut Command<'_>,
@@ -379,21 +379,21 @@ fn named_transport(
     Ok(Transport::Network(named_network(alloc, matches, limits)?))
 }
 
-// Whether standard streams are asked for.
+/// Whether standard streams are asked for.
 fn asks_stdio(matches: &ArgMatches<'_>) -> bool
     ensures { AsksStdio (rows_of (found_of matches.now)) result }
 {
     matches.get_flag("stdio")
 }
 
-// Whether lines on standard input say which exports replace those before.
+/// Whether lines on standard input say which exports replace those before.
 fn asks_control(matches: &ArgMatches<'_>) -> bool
     ensures { AsksControl (rows_of (found_of matches.now)) result }
 {
     matches.get_flag("control")
 }
 
-// Whether an address is named.
+/// Whether an address is named.
 fn names_address(matches: &ArgMatches<'_>) -> bool
     ensures some { result ≡ true → NamesAddress (rows_of (found_of matches.now)) }
     ensures none { result ≡ false → NamesAddress (rows_of (found_of matches.now)) → ⊥ }
@@ -401,7 +401,7 @@ fn names_address(matches: &ArgMatches<'_>) -> bool
     matches.get_str("tcp").is_some() || matches.get_str("udp").is_some()
 }
 
-// The options of the network.
+/// The options of the network.
 fn named_network(
     alloc: Global,
     matches: &ArgMatches<'_>,
@@ -421,7 +421,7 @@ fn named_network(
     })
 }
 
-// The text that an option gives, if any.
+/// The text that an option gives, if any.
 fn named_text(alloc: Global, text: Option<&str>) -> Result<Option<String>, AllocError>
     ensures { IfOk result (λ named. text_of named ≡ option_map (λ t. t.now) text.entry) }
 {
@@ -431,7 +431,7 @@ fn named_text(alloc: Global, text: Option<&str>) -> Result<Option<String>, Alloc
     }
 }
 
-// The options of a command line that is taken.
+/// The options of a command line that is taken.
 fn read_options(
     alloc: Global,
     matches: &ArgMatches<'_>,

@@ -1,8 +1,9 @@
-//! The server: an engine that is started as a command line says, and a stream of records served from it.
+//! The server: a command line, the engine that it starts, and what is served from it: standard streams, or sockets.
 //!
-//! What is written is, byte for byte, the answers of a run of the machine over the records of the input, in order, from
-//! the opening state (`serve_options`). It stands on `nfs_engine` for the store and its records, and on `nfs_streams`
-//! for how a stream is served.
+//! Over standard streams what is written is, byte for byte, the answers of a run of the machine over the records of the
+//! input, in order, from the opening state (`serve_options`). On the network threads serve connections and datagrams
+//! over one pool (`serve_network`). It stands on `nfs_streams` for how a stream is served, and on `nfs_pool` for calls
+//! from many threads.
 #![tactic(auto)]
 
 pub mod callbacks;

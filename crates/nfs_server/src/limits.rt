@@ -10,7 +10,7 @@ pub enum Limit {
     Era,
     /// How many replies are kept of each host.
     Cache,
-    /// How many workers execute what no connection's own thread does.
+    /// How many workers answer datagrams.
     Workers,
     /// How many connections may be open at once.
     Connections,
