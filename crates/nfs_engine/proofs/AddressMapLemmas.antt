@@ -1,8 +1,8 @@
 -- A look-up in a map by address, before and after a change.
-use Rattle.std.proofs.Common.{◌≡◌, true, false, cond, List, [], ◌∷◌, map, Option, Some}
+use Rattle.std.proofs.Common.{◌≡◌, true, false, cond, List, [], ◌∷◌, map, Option, Some, None}
 use Rattle.std.proofs.Common.{option_map, refl, sym, ◌∙◌, ap}
 use Rattle.std.specs.Map.{lookup}
-use Rattle.indexmap.specs.IndexMap.{IndexMap, UpdatesBy}
+use Rattle.nfs_tables.specs.Tables as tables
 pub use Rattle.nfs_objects.proofs.ViewLookupLemmas.{same_address, tested}
 use Rattle.nfs_objects.specs.declared.address.Addr.{Addr}
 use Rattle.nfs_objects.specs.Values.{is_addr}
@@ -24,16 +24,24 @@ module _ {S V : Type 0} (value : S → V) where
         | false ↦ found-lookup a es
       ]
 
-  -- one address of the map was changed
-  pub found-changed : {H : Type 0} (m n : IndexMap Addr S H) (a : Addr) (o : Option S)
-      → UpdatesBy same_address (same_address a) m n o → Changes (found (seen m.entries)) (found (seen n.entries)) a
-      (option_map value o)
-  found-changed m n a o updates b =
-      found-lookup b n.entries
-      ∙ ap (option_map value) (updates.0 b)
-      ∙ ap (λ t. option_map value (cond t o (lookup (same_address b) m.entries))) (tested a b)
-      ∙ elim (is_addr a b) as (λ t. option_map value (cond t o (lookup (same_address b) m.entries))
-      ≡ cond t (option_map value o) (found (seen m.entries) b)) [
+  -- one address of the table was changed
+  pub found-turned : (m n : tables.TableValue Addr S) (a : Addr) (o : Option S)
+      → tables.Changes same_address m n a o
+      → Changes (found (seen (tables.entries m))) (found (seen (tables.entries n))) a (option_map value o)
+  found-turned m n a o changes b =
+      found-lookup b (tables.entries n)
+      ∙ ap (option_map value) (changes b)
+      ∙ ap (λ t. option_map value (cond t o (lookup (same_address b) (tables.entries m)))) (tested a b)
+      ∙ elim (is_addr a b) as (λ t. option_map value (cond t o (lookup (same_address b) (tables.entries m)))
+      ≡ cond t (option_map value o) (found (seen (tables.entries m)) b)) [
         | true ↦ refl
-        | false ↦ sym (found-lookup b m.entries)
+        | false ↦ sym (found-lookup b (tables.entries m))
       ]
+
+  -- what the table lacks is not in what is seen of it
+  pub lookup-none : (a : Addr) (es : List (Addr × S)) → found (seen es) a ≡ None → lookup (same_address a) es ≡ None
+  lookup-none a es none = by (lookup (same_address a) es) refl
+    where
+      by : (o : Option S) → lookup (same_address a) es ≡ o → o ≡ None
+      by None there = refl
+      by (Some v) there = absurd (cc (sym (ap (option_map value) there), sym (found-lookup a es), none))

@@ -5,7 +5,8 @@ use Rattle.std.proofs.Math.ListN.{get_or-map}
 use Rattle.std.specs.Map.{lookup}
 use Rattle.std.specs.Option.{option_and_then, option_or}
 use Rattle.slab.specs.Slab.{Slab, Updates, get}
-use Rattle.indexmap.specs.IndexMap.{IndexMap, UpdatesBy}
+use Rattle.nfs_tables.specs.Tables.{TableValue, entries}
+use Rattle.nfs_tables.specs.Tables as tables
 use Rattle.nfs_objects.specs.declared.address.Addr.{Addr}
 use Rattle.nfs_objects.specs.declared.address.Addr.TheVariants.{Inode}
 use Rattle.nfs_objects.specs.declared.modes.Mode.TheVariants.{Exclusive}
@@ -17,18 +18,18 @@ use Rattle.nfs_engine.specs.Holders.{hold_of}
 use Rattle.nfs_engine.specs.Numbers.{IsFreeNumber, Moves}
 use Rattle.nfs_engine.specs.Shards.{IsSound, Reserves, ShardValue, SlotValue, empty_slot, hold_at, number_at}
 use Rattle.nfs_engine.specs.Shards.{numbered, shard_value, slot_at, slot_of, slot_value, slots_seen}
-use Rattle.nfs_engine.proofs.AddressMapLemmas.{found-changed, found-lookup, same_address}
+use Rattle.nfs_engine.proofs.AddressMapLemmas.{found-turned, found-lookup, same_address}
 use Rattle.nfs_objects.proofs.SeenLemmas.{is_addr-refl}
 use Rattle.nfs_engine.proofs.NumberKeyLemmas.{is_addr-same, key_there, rest}
 use Rattle.nfs_engine.proofs.SlotPlaceLemmas.{Becomes, at_key, number_becomes, numbered_changed}
 use Rattle.nfs_engine.proofs.SlotChangeLemmas.{slot_changed, sound}
 
 -- a number that was taken out of the map is not in it
-pub not_found : {H : Type 0} (m k : IndexMap Addr Slot H) (n : ℕ) → UpdatesBy same_address
-    (same_address (Inode n)) m k None → found (slots_seen k.entries) (Inode n) ≡ None
+pub not_found : (m k : TableValue Addr Slot) (n : ℕ) → tables.Changes same_address m k (Inode n) None →
+    found (slots_seen (entries k)) (Inode n) ≡ None
 not_found m k n removes =
-    found-changed slot_value m k (Inode n) None removes (Inode n)
-    ∙ ap (λ b. cond b None (found (slots_seen m.entries) (Inode n))) (is_addr-refl (Inode n))
+    found-turned slot_value m k (Inode n) None removes (Inode n)
+    ∙ ap (λ b. cond b None (found (slots_seen (entries m)) (Inode n))) (is_addr-refl (Inode n))
 
 -- nothing stands at a vacant key
 vacant_key : (index : ℕ) (m : Slab Slot) (es : List (Addr × Slot)) (key : ℕ) → index < 16 → get m key ≡ None
@@ -37,47 +38,48 @@ vacant_key index m es key small vacant =
     ap (option_and_then (at_key m.slots)) (key_there index key small) ∙ get_or-map
     (option_map slot_value) m.slots key None ∙ ap (option_map slot_value) vacant
 
-module _ {H : Type 0} (index : ℕ) (small : index < 16) (m n : Slab Slot) (others left : IndexMap Addr Slot H)
+module _ (index : ℕ) (small : index < 16) (m n : Slab Slot) (others left : TableValue Addr Slot)
     (key number : ℕ) (slot : Slot)
     (vacant : get m key ≡ None) (updates : Updates m n key (Some slot))
     (is : number ≡ number_at index key)
-    (there : Some slot ≡ lookup (same_address (Inode number)) others.entries)
-    (removes : UpdatesBy same_address (same_address (Inode number)) others left None) where
+    (there : Some slot ≡ lookup (same_address (Inode number)) (entries others))
+    (removes : tables.Changes same_address others left (Inode number) None) where
   abbrev old : ShardValue
-  old = shard_value index m.slots others.entries 0
+  old = shard_value index m.slots (entries others) 0
 
   abbrev new : ShardValue
-  new = shard_value index n.slots left.entries 0
+  new = shard_value index n.slots (entries left) 0
 
   abbrev a : Addr
   a = Inode number
 
   put_in : (b : Addr) → numbered new b ≡ cond (is_addr a b) (Some (slot_value slot)) (numbered old b)
   put_in b =
-      numbered_changed index 0 small m n others.entries key (Some slot) updates b
+      numbered_changed index 0 small m n (entries others) key (Some slot) updates b
       ∙ ap (λ p. cond (is_addr (Inode p) b) (Some (slot_value slot)) (numbered old b)) (sym is)
 
   no_slot : numbered old a ≡ None
-  no_slot = ap (λ p. numbered old (Inode p)) is ∙ vacant_key index m others.entries key small vacant
+  no_slot = ap (λ p. numbered old (Inode p)) is ∙ vacant_key index m (entries others) key small vacant
 
-  taken_out : (b : Addr) → found (slots_seen left.entries) b ≡ cond (is_addr a b) None
-      (found (slots_seen others.entries) b)
-  taken_out b = found-changed slot_value others left a None removes b
+  taken_out : (b : Addr) → found (slots_seen (entries left)) b ≡ cond (is_addr a b) None
+      (found (slots_seen (entries others)) b)
+  taken_out b = found-turned slot_value others left a None removes b
 
   pub moved : Moves old new
   moved = record {
     slots = λ b. (λ i. option_or (put_in b i) (taken_out b i)) ∙ elim (is_addr a b) as (λ t. is_addr a b ≡ t →
-        option_or (cond t (Some (slot_value slot)) (numbered old b)) (cond t None (found (slots_seen others.entries) b))
+        option_or (cond t (Some (slot_value slot)) (numbered old b))
+        (cond t None (found (slots_seen (entries others)) b))
         ≡ slot_of old b) [
           | true ↦ λ same.
               sym (ap (slot_of old) (sym (is_addr-same a b same)) ∙
-              ap (λ x. option_or x (found (slots_seen others.entries) a)) no_slot
-              ∙ found-lookup slot_value a others.entries ∙ ap (option_map slot_value) (sym there))
+              ap (λ x. option_or x (found (slots_seen (entries others)) a)) no_slot
+              ∙ found-lookup slot_value a (entries others) ∙ ap (option_map slot_value) (sym there))
           | false ↦ λ apart. refl
         ] refl;
     apart = λ was b some. taken_out b ∙ elim (is_addr a b) as
         (λ t. IsSome (cond t (Some (slot_value slot)) (numbered old b)) → cond t None
-        (found (slots_seen others.entries) b) ≡ None) [
+        (found (slots_seen (entries others)) b) ≡ None) [
           | true ↦ λ is. refl
           | false ↦ λ is. was b is
         ] (subst (λ x. IsSome x) (put_in b) some);
@@ -94,23 +96,24 @@ moved_twice s t u first second = record {
   apart = λ was. second.apart (first.apart was);
 }
 
-module _ {H : Type 0} (index next : ℕ) (numbers room now : Slab Slot) (others left : IndexMap Addr Slot H)
+module _ (index next : ℕ) (numbers room now : Slab Slot) (others left : TableValue Addr Slot)
     (number id key : ℕ)
-    (good : IsSound (shard_value index numbers.slots others.entries next))
-    (moves : Moves (shard_value index numbers.slots others.entries 0) (shard_value index room.slots left.entries 0))
-    (free : IsFreeNumber index room left.entries number) (is_key : key ≡ room.vacant_key) (vacant : get room key ≡ None)
+    (good : IsSound (shard_value index numbers.slots (entries others) next))
+    (moves : Moves (shard_value index numbers.slots (entries others) 0) (shard_value index room.slots (entries left) 0))
+    (free : IsFreeNumber index room (entries left) number) (is_key : key ≡ room.vacant_key)
+    (vacant : get room key ≡ None)
     (updates : Updates room now key (Some (record { object = None; holders = holders.One id }))) where
   abbrev before : ShardValue
-  before = shard_value index numbers.slots others.entries next
+  before = shard_value index numbers.slots (entries others) next
 
   abbrev between : ShardValue
-  between = shard_value index room.slots left.entries next
+  between = shard_value index room.slots (entries left) next
 
   abbrev after : ShardValue
-  after = shard_value index now.slots left.entries next
+  after = shard_value index now.slots (entries left) next
 
   abbrev last : ShardValue
-  last = shard_value index now.slots left.entries (next + 1)
+  last = shard_value index now.slots (entries left) (next + 1)
 
   abbrev taken : SlotValue
   taken = record { object = None; holders = record { alone = Some id; beside = [] } }
@@ -126,9 +129,9 @@ module _ {H : Type 0} (index next : ℕ) (numbers room now : Slab Slot) (others 
   }
 
   turn : Becomes between after (Inode (number_at index key)) (Some taken)
-  turn = number_becomes index next good.index room now left.entries key
+  turn = number_becomes index next good.index room now (entries left) key
       (Some (record { object = None; holders = holders.One id })) updates
-      (subst (λ n. found (slots_seen left.entries) (Inode n) ≡ None) is free.free) middle.apart
+      (subst (λ n. found (slots_seen (entries left)) (Inode n) ≡ None) is free.free) middle.apart
 
   no_empty : Some taken ≡ Some empty_slot → ⊥
   no_empty e = alone (ap (λ o. (unwrap_or o taken).holders.alone) e)
@@ -140,8 +143,8 @@ module _ {H : Type 0} (index next : ℕ) (numbers room now : Slab Slot) (others 
   empty =
       ap (λ (x : Option SlotValue). unwrap_or x empty_slot)
       (sym (moves.slots (Inode (number_at index key)))
-      ∙ (λ i. option_or (vacant_key index room left.entries key good.index vacant i)
-      (subst (λ n. found (slots_seen left.entries) (Inode n) ≡ None) is free.free i)))
+      ∙ (λ i. option_or (vacant_key index room (entries left) key good.index vacant i)
+      (subst (λ n. found (slots_seen (entries left)) (Inode n) ≡ None) is free.free i)))
 
   same_slots : (b : Addr) → slot_at between b ≡ slot_at before b
   same_slots b = ap (λ (x : Option SlotValue). unwrap_or x empty_slot) (moves.slots b)

@@ -68,6 +68,21 @@ counted f p (x ∷ xs) =
     ∙ ap (λ n. cond (p (f x)) 1 0 + n) (counted f p xs)
     ∙ sym (sum_by-cons (λ z. cond (p (f z)) 1 0) x xs)
 
+-- how many are held in two lists, where no count passes the greatest number
+pub held-both : (xs ys all : List (Addr × Slot)) (x y r : ℕ) → all ≡ xs ++ ys
+    → x ≡ min (count_by (λ e. is_held (slot_value e.1)) xs) (2 ^ 64 - 1)
+    → y ≡ min (count_by (λ e. is_held (slot_value e.1)) ys) (2 ^ 64 - 1) → r ≡ min (x + y) (2 ^ 64 - 1)
+    → r ≡ min (count_by (λ e. is_held (slot_value e.1)) all) (2 ^ 64 - 1)
+held-both xs ys all x y r is e f g =
+    both (count_by (λ e. is_held (slot_value e.1)) xs) (count_by (λ e. is_held (slot_value e.1)) ys)
+    (count_by (λ e. is_held (slot_value e.1)) all) x y r
+    (ap (λ es. count_by (λ (e : Addr × Slot). is_held (slot_value e.1)) es) is
+    ∙ sum_by-append (λ (e : Addr × Slot). cond (is_held (slot_value e.1)) 1 0) xs ys) e f g
+  where
+    both : (a b c x y r : ℕ) → c ≡ a + b → x ≡ min a (2 ^ 64 - 1) → y ≡ min b (2 ^ 64 - 1)
+        → r ≡ min (x + y) (2 ^ 64 - 1) → r ≡ min c (2 ^ 64 - 1)
+    both a b c x y r is e f g = omega (arith, is, e, f, g)
+
 module _ (index : ℕ) (small : index < 16) where
   -- the slot at a key of the slab, with its address
   abbrev named : ℕ × Slot → Addr × SlotValue

@@ -5,11 +5,12 @@ use Rattle.std.specs.Arc.{arc_value}
 use Rattle.std.specs.Map.{lookup}
 use Rattle.slab.specs.Slab.{Slab, Updates, get, with_value}
 use Rattle.slab.proofs.SlabLemmas.{Updates-with_value}
-use Rattle.indexmap.specs.IndexMap.{IndexMap, WritesThrough}
+use Rattle.nfs_tables.specs.Lending.{Rewrites}
+use Rattle.nfs_tables.specs.Tables.{TableValue, entries}
 use Rattle.nfs_objects.specs.Values.{is_addr}
 use Rattle.nfs_objects.specs.declared.address.Addr.{Addr}
 use Rattle.nfs_objects.specs.declared.object.Object.{Object}
-use Rattle.nfs_engine.proofs.AddressMapLemmas.{found-changed, same_address}
+use Rattle.nfs_engine.proofs.AddressMapLemmas.{found-turned, same_address}
 use Rattle.nfs_engine.proofs.NumberKeyLemmas.{is_addr-same}
 use Rattle.nfs_engine.proofs.SlotChangeLemmas.{put, sound}
 use Rattle.nfs_engine.proofs.SlotPlaceLemmas.{Becomes, other_becomes}
@@ -47,10 +48,10 @@ module _ (old new : ShardValue) (a : Addr) (was now : SlotValue) (good : IsSound
         (sym (ap (λ (s : SlotValue). s.holders) idle) ∙ holders-at),
   )
 
-module _ {H : Type 0} (index next : ℕ) (numbers : Slab Slot) (others : IndexMap Addr Slot H) (a : Addr)
-    (good : IsSound (shard_value index numbers.slots others.entries next)) where
+module _ (index next : ℕ) (numbers : Slab Slot) (others : TableValue Addr Slot) (a : Addr)
+    (good : IsSound (shard_value index numbers.slots (entries others) next)) where
   abbrev before : ShardValue
-  before = shard_value index numbers.slots others.entries next
+  before = shard_value index numbers.slots (entries others) next
 
   -- the slot stands in the slab
   module _ (key : ℕ) (at_key : key_in index a ≡ Some key) (was : Slot) (there : get numbers key ≡ Some was)
@@ -63,20 +64,20 @@ module _ {H : Type 0} (index next : ℕ) (numbers : Slab Slot) (others : IndexMa
         (number_here index next numbers others a good key at_key was there)
 
     pub number_replaced : slot_value w ≢ empty_slot →
-        IsSound (shard_value index (with_value numbers key w).slots others.entries next) ×
-        Fills before (shard_value index (with_value numbers key w).slots others.entries next) a o
+        IsSound (shard_value index (with_value numbers key w).slots (entries others) next) ×
+        Fills before (shard_value index (with_value numbers key w).slots (entries others) next) a o
     number_replaced busy =
-        replaced before (shard_value index (with_value numbers key w).slots others.entries next) a (slot_value was)
+        replaced before (shard_value index (with_value numbers key w).slots (entries others) next) a (slot_value was)
         (slot_value w) good (number_here index next numbers others a good key at_key was there)
         o is
         (number_turns index next numbers others a good key at_key was there (with_value numbers key w) (Some w) first)
         busy
 
     pub number_taken : (n : Slab Slot) → Updates (with_value numbers key w) n key None → slot_value w ≡ empty_slot →
-        IsSound (shard_value index n.slots others.entries next) ×
-        Fills before (shard_value index n.slots others.entries next) a o
+        IsSound (shard_value index n.slots (entries others) next) ×
+        Fills before (shard_value index n.slots (entries others) next) a o
     number_taken n second idle =
-        taken before (shard_value index n.slots others.entries next) a (slot_value was)
+        taken before (shard_value index n.slots (entries others) next) a (slot_value was)
         (slot_value w) good (number_here index next numbers others a good key at_key was there)
         o is
         (number_turns index next numbers others a good key at_key was there n None (record {
@@ -87,8 +88,8 @@ module _ {H : Type 0} (index next : ℕ) (numbers : Slab Slot) (others : IndexMa
   -- it has none there
   module _ (none : numbered before a ≡ None) where
     -- it has one in the map
-    module _ (was : Slot) (there : Some was ≡ lookup (same_address a) others.entries) (w : Slot)
-        (m : IndexMap Addr Slot H) (writes : WritesThrough same_address (same_address a) others w m)
+    module _ (was : Slot) (there : Some was ≡ lookup (same_address a) (entries others)) (w : Slot)
+        (m : TableValue Addr Slot) (writes : Rewrites same_address others m a w)
         (o : Option Object) (is : slot_value w ≡ record (slot_value was) { object = o }) where
       here : slot_of before a ≡ Some (slot_value was)
       here = other_here index next numbers others a good none ∙ ap (option_map slot_value) (sym there)
@@ -97,30 +98,30 @@ module _ {H : Type 0} (index next : ℕ) (numbers : Slab Slot) (others : IndexMa
       other_object = ap (λ (x : Option SlotValue). (unwrap_or x empty_slot).object) here
 
       pub other_replaced : slot_value w ≢ empty_slot →
-          IsSound (shard_value index numbers.slots m.entries next) ×
-          Fills before (shard_value index numbers.slots m.entries next) a o
+          IsSound (shard_value index numbers.slots (entries m) next) ×
+          Fills before (shard_value index numbers.slots (entries m) next) a o
       other_replaced busy =
-          replaced before (shard_value index numbers.slots m.entries next) a (slot_value was) (slot_value w) good here
+          replaced before (shard_value index numbers.slots (entries m) next) a (slot_value was) (slot_value w) good here
           o is
           (other_turns index next numbers others a good none m (Some w)
-          (writes.3 (is_some (lookup (same_address a) others.entries) was (sym there)))) busy
+          (writes.changes (is_some (lookup (same_address a) (entries others)) was (sym there)))) busy
 
-      pub other_taken : (k : IndexMap Addr Slot H) →
-          Changes (found (slots_seen m.entries)) (found (slots_seen k.entries)) a None → slot_value w ≡ empty_slot →
-          IsSound (shard_value index numbers.slots k.entries next) ×
-          Fills before (shard_value index numbers.slots k.entries next) a o
+      pub other_taken : (k : TableValue Addr Slot) →
+          Changes (found (slots_seen (entries m))) (found (slots_seen (entries k))) a None → slot_value w ≡ empty_slot →
+          IsSound (shard_value index numbers.slots (entries k) next) ×
+          Fills before (shard_value index numbers.slots (entries k) next) a o
       other_taken k removes idle =
-          taken before (shard_value index numbers.slots k.entries next) a (slot_value was) (slot_value w) good here
+          taken before (shard_value index numbers.slots (entries k) next) a (slot_value was) (slot_value w) good here
           o is
-          (other_becomes index next numbers.slots others.entries k.entries a None
-          (changed_twice a (found (slots_seen others.entries)) (found (slots_seen m.entries))
-          (found (slots_seen k.entries)) (Some (slot_value w)) None
-          (found-changed slot_value others m a (Some w)
-          (writes.3 (is_some (lookup (same_address a) others.entries) was (sym there)))) removes)
+          (other_becomes index next numbers.slots (entries others) (entries k) a None
+          (changed_twice a (found (slots_seen (entries others))) (found (slots_seen (entries m)))
+          (found (slots_seen (entries k))) (Some (slot_value w)) None
+          (found-turned slot_value others m a (Some w)
+          (writes.changes (is_some (lookup (same_address a) (entries others)) was (sym there)))) removes)
           none good.apart) idle
 
     -- nor in the map
-    module _ (absent : None ≡ lookup (same_address a) others.entries) where
+    module _ (absent : None ≡ lookup (same_address a) (entries others)) where
       gone : slot_at before a ≡ empty_slot
       gone = ap (λ (x : Option SlotValue). unwrap_or x empty_slot)
           (other_here index next numbers others a good none ∙ ap (option_map slot_value) (sym absent))
@@ -142,10 +143,10 @@ module _ {H : Type 0} (index next : ℕ) (numbers : Slab Slot) (others : IndexMa
       absent_stood o stands = nothing o stands ∙ absent_object
 
       pub absent_replaced : (o : Option Object) → (IsSome o → IsSome (slot_at before a).object) →
-          (m : IndexMap Addr Slot H) → m ≡ others →
-          Fills before (shard_value index numbers.slots m.entries next) a o
-      absent_replaced o stands m same = subst (λ (k : IndexMap Addr Slot H).
-          Fills before (shard_value index numbers.slots k.entries next) a o) (sym same) (record {
+          (m : TableValue Addr Slot) → m ≡ others →
+          Fills before (shard_value index numbers.slots (entries m) next) a o
+      absent_replaced o stands m same = subst (λ (k : TableValue Addr Slot).
+          Fills before (shard_value index numbers.slots (entries k) next) a o) (sym same) (record {
             objects = λ b. elim (is_addr a b) as (λ t. is_addr a b ≡ t →
                 (slot_at before b).object ≡ cond t o (slot_at before b).object) [
                   | true ↦ λ is. ap (λ c. (slot_at before c).object) (sym (is_addr-same a b is))

@@ -7,7 +7,9 @@ use Rattle.std.specs.Map.{lookup}
 use Rattle.std.specs.Option.{option_and_then, option_or}
 use Rattle.slab.specs.Slab.{Slab, Updates, get, with_value}
 use Rattle.slab.proofs.SlabLemmas.{Updates-with_value}
-use Rattle.indexmap.specs.IndexMap.{IndexMap, UpdatesBy, WritesThrough}
+use Rattle.nfs_tables.specs.Lending.{Rewrites}
+use Rattle.nfs_tables.specs.Tables.{TableValue, entries}
+use Rattle.nfs_tables.specs.Tables as tables
 use Rattle.nfs_objects.specs.declared.address.Addr.{Addr}
 use Rattle.nfs_objects.specs.declared.address.Addr.TheVariants.{Inode}
 use Rattle.nfs_objects.specs.declared.modes.Mode.{Mode}
@@ -21,7 +23,7 @@ use Rattle.nfs_engine.specs.Shards.{ShardValue, SlotValue, empty_slot, hold_at, 
 use Rattle.nfs_engine.specs.Shards.{shard_value, slot_at, slot_of, slot_value, slots_seen}
 use Rattle.nfs_engine.specs.declared.shard.Had.{Had}
 use Rattle.nfs_engine.specs.declared.slot.Slot.{Slot}
-use Rattle.nfs_engine.proofs.AddressMapLemmas.{found-changed, found-lookup, same_address}
+use Rattle.nfs_engine.proofs.AddressMapLemmas.{found-lookup, found-turned, same_address}
 use Rattle.nfs_engine.proofs.NumberKeyLemmas.{address_there, is_addr-same}
 use Rattle.nfs_engine.proofs.SlotPlaceLemmas.{Becomes, number_becomes, other_becomes}
 use Rattle.nfs_engine.proofs.SlotChangeLemmas.{had, had_needed, held_needed, left, put, retaken, sound}
@@ -90,13 +92,13 @@ pub excluder_of : (s : ShardValue) (a : Addr) (mode : Mode) (o : Option SlotValu
 excluder_of s a mode o r is excluded =
     subst (λ (x : Option SlotValue). IsExcluder mode (unwrap_or x empty_slot).holders r) (sym is) excluded
 
-module _ {H : Type 0} (index next : ℕ) (numbers : Slab Slot) (others : IndexMap Addr Slot H) (a : Addr) where
+module _ (index next : ℕ) (numbers : Slab Slot) (others : TableValue Addr Slot) (a : Addr) where
   abbrev before : ShardValue
-  before = shard_value index numbers.slots others.entries next
+  before = shard_value index numbers.slots (entries others) next
 
   -- the map has the entries that it had
-  pub unslotted : (m : IndexMap Addr Slot H) → m.entries ≡ others.entries →
-      SameShard before (shard_value index numbers.slots m.entries next)
+  pub unslotted : (m : TableValue Addr Slot) → entries m ≡ entries others →
+      SameShard before (shard_value index numbers.slots (entries m) next)
   unslotted m same = subst (λ es. SameShard before (shard_value index numbers.slots es next)) (sym same)
       (record { slots = λ b. refl; next_generation = refl; index = refl })
 
@@ -111,26 +113,26 @@ module _ {H : Type 0} (index next : ℕ) (numbers : Slab Slot) (others : IndexMa
         get_or_none k = get_or (map (option_map slot_value) numbers.slots) k None
 
     pub number_here : slot_of before a ≡ Some (slot_value was)
-    number_here = ap (λ x. option_or x (found (slots_seen others.entries) a)) in_slab
+    number_here = ap (λ x. option_or x (found (slots_seen (entries others)) a)) in_slab
 
     pub number_turns : (n : Slab Slot) (o : Option Slot) → Updates numbers n key o → Becomes before
-        (shard_value index n.slots others.entries next) a (option_map slot_value o)
+        (shard_value index n.slots (entries others) next) a (option_map slot_value o)
     number_turns n o updates =
         (let is : a ≡ Inode (number_at index key) = address_there index a key at_key in
-        let free : found (slots_seen others.entries) a ≡ None = good.apart a
+        let free : found (slots_seen (entries others)) a ≡ None = good.apart a
         (is_some (numbered before a) (slot_value was) in_slab) in
-        subst (λ b. Becomes before (shard_value index n.slots others.entries next) b (option_map slot_value o))
+        subst (λ b. Becomes before (shard_value index n.slots (entries others) next) b (option_map slot_value o))
         (sym is)
-        (number_becomes index next good.index numbers n others.entries key o updates
-        (subst (λ b. found (slots_seen others.entries) b ≡ None) is free) good.apart))
+        (number_becomes index next good.index numbers n (entries others) key o updates
+        (subst (λ b. found (slots_seen (entries others)) b ≡ None) is free) good.apart))
 
     number_written : (w : Slot) → Becomes before
-        (shard_value index (with_value numbers key w).slots others.entries next) a (Some (slot_value w))
+        (shard_value index (with_value numbers key w).slots (entries others) next) a (Some (slot_value w))
     number_written w = number_turns (with_value numbers key w) (Some w)
         (Updates-with_value numbers key w (is_some (get numbers key) was there))
 
     abbrev written : Slot → ShardValue
-    written w = shard_value index (with_value numbers key w).slots others.entries next
+    written w = shard_value index (with_value numbers key w).slots (entries others) next
 
     pub number_acquires : {E : Type 0} (w : Slot) (mode : Mode) (id : ℕ) (r : Result Had E) → IsSlotHad
         (slot_value was) (slot_value w) mode id r
@@ -152,10 +154,10 @@ module _ {H : Type 0} (index next : ℕ) (numbers : Slab Slot) (others : IndexMa
 
     pub number_goes : (w : Slot) (id : ℕ) (n : Slab Slot) → IsSlotLeft (slot_value was) (slot_value w) id
         → slot_value w ≡ empty_slot → Updates (with_value numbers key w) n key None
-        → IsSound (shard_value index n.slots others.entries next) × Retakes before
-        (shard_value index n.slots others.entries next) a id None
+        → IsSound (shard_value index n.slots (entries others) next) × Retakes before
+        (shard_value index n.slots (entries others) next) a id None
     number_goes w id n h idle updates =
-        goes before (shard_value index n.slots others.entries next) a (slot_value was)
+        goes before (shard_value index n.slots (entries others) next) a (slot_value was)
         (slot_value w) good number_here id
         (number_turns n None
         (twice numbers (with_value numbers key w) n key w
@@ -170,28 +172,27 @@ module _ {H : Type 0} (index next : ℕ) (numbers : Slab Slot) (others : IndexMa
 
   -- it has none there
   module _ (good : IsSound before) (none : numbered before a ≡ None) where
-    pub other_here : slot_of before a ≡ option_map slot_value (lookup (same_address a) others.entries)
-    other_here = ap (λ x. option_or x (found (slots_seen others.entries) a)) none
-        ∙ found-lookup slot_value a others.entries
+    pub other_here : slot_of before a ≡ option_map slot_value (lookup (same_address a) (entries others))
+    other_here = ap (λ x. option_or x (found (slots_seen (entries others)) a)) none
+        ∙ found-lookup slot_value a (entries others)
 
-    pub other_turns : (m : IndexMap Addr Slot H) (o : Option Slot) → UpdatesBy same_address (same_address a) others m o
-        → Becomes before (shard_value index numbers.slots m.entries next) a (option_map slot_value o)
+    pub other_turns : (m : TableValue Addr Slot) (o : Option Slot) → tables.Changes same_address others m a o
+        → Becomes before (shard_value index numbers.slots (entries m) next) a (option_map slot_value o)
     other_turns m o updates =
-        other_becomes index next numbers.slots others.entries m.entries a (option_map slot_value o)
-        (found-changed slot_value others m a o updates) none good.apart
+        other_becomes index next numbers.slots (entries others) (entries m) a (option_map slot_value o)
+        (found-turned slot_value others m a o updates) none good.apart
 
-    abbrev over : IndexMap Addr Slot H → ShardValue
-    over m = shard_value index numbers.slots m.entries next
+    abbrev over : TableValue Addr Slot → ShardValue
+    over m = shard_value index numbers.slots (entries m) next
 
     -- it has one in the map
-    module _ (was : Slot) (there : Some was ≡ lookup (same_address a) others.entries) (w : Slot)
-        (m : IndexMap Addr Slot H)
-        (writes : WritesThrough same_address (same_address a) others w m) where
+    module _ (was : Slot) (there : Some was ≡ lookup (same_address a) (entries others)) (w : Slot)
+        (m : TableValue Addr Slot) (writes : Rewrites same_address others m a w) where
       here : slot_of before a ≡ Some (slot_value was)
       here = other_here ∙ ap (option_map slot_value) (sym there)
 
-      updates : UpdatesBy same_address (same_address a) others m (Some w)
-      updates = writes.3 (is_some (lookup (same_address a) others.entries) was (sym there))
+      updates : tables.Changes same_address others m a (Some w)
+      updates = writes.changes (is_some (lookup (same_address a) (entries others)) was (sym there))
 
       pub other_acquires : {E : Type 0} (mode : Mode) (id : ℕ) (r : Result Had E) → IsSlotHad (slot_value was)
           (slot_value w) mode id r → IsSound (over m) × IsHad before (over m) a mode id r
@@ -209,20 +210,20 @@ module _ {H : Type 0} (index next : ℕ) (numbers : Slab Slot) (others : IndexMa
       other_stays id h busy = stays before (over m) a (slot_value was) (slot_value w) good here id
           (other_turns m (Some w) updates) h busy
 
-      pub other_goes : (id : ℕ) (k : IndexMap Addr Slot H) → Changes (found (slots_seen m.entries))
-          (found (slots_seen k.entries)) a None
+      pub other_goes : (id : ℕ) (k : TableValue Addr Slot) → Changes (found (slots_seen (entries m)))
+          (found (slots_seen (entries k))) a None
           → IsSlotLeft (slot_value was) (slot_value w) id → slot_value w ≡ empty_slot → IsSound (over k)
           × Retakes before (over k) a id None
       other_goes id k removes h idle =
           goes before (over k) a (slot_value was) (slot_value w) good here id
-          (other_becomes index next numbers.slots others.entries k.entries a None
-          (changed_twice a (found (slots_seen others.entries)) (found (slots_seen m.entries))
-          (found (slots_seen k.entries)) (Some (slot_value w)) None
-          (found-changed slot_value others m a (Some w) updates) removes)
+          (other_becomes index next numbers.slots (entries others) (entries k) a None
+          (changed_twice a (found (slots_seen (entries others))) (found (slots_seen (entries m)))
+          (found (slots_seen (entries k))) (Some (slot_value w)) None
+          (found-turned slot_value others m a (Some w) updates) removes)
           none good.apart) h idle
 
     -- nor in the map
-    module _ (absent : None ≡ lookup (same_address a) others.entries) where
+    module _ (absent : None ≡ lookup (same_address a) (entries others)) where
       gone : slot_at before a ≡ empty_slot
       gone = ap (λ (x : Option SlotValue). unwrap_or x empty_slot)
           (other_here ∙ ap (option_map slot_value) (sym absent))
@@ -256,19 +257,19 @@ module _ {H : Type 0} (index next : ℕ) (numbers : Slab Slot) (others : IndexMa
       }
 
       -- so nobody lets it go
-      pub absent_left : (id : ℕ) (m : IndexMap Addr Slot H) → m ≡ others → Retakes before (over m) a id None
-      absent_left id m same = subst (λ (k : IndexMap Addr Slot H). Retakes before (over k) a id None) (sym same)
+      pub absent_left : (id : ℕ) (m : TableValue Addr Slot) → m ≡ others → Retakes before (over m) a id None
+      absent_left id m same = subst (λ (k : TableValue Addr Slot). Retakes before (over k) a id None) (sym same)
           (stays_so id)
 
       -- it gets a slot with one holder
-      module _ (k m : IndexMap Addr Slot H) (w : Slot) (mode : Mode) (id : ℕ) (same : k ≡ others)
-          (after : Changes (found (slots_seen k.entries)) (found (slots_seen m.entries)) a (Some (slot_value w)))
+      module _ (k m : TableValue Addr Slot) (w : Slot) (mode : Mode) (id : ℕ) (same : k ≡ others)
+          (after : Changes (found (slots_seen (entries k))) (found (slots_seen (entries m))) a (Some (slot_value w)))
           (empty : (slot_value w).object ≡ None) (re : Reholds nobody (slot_value w).holders id (Some mode)) where
         turn : Becomes before (over m) a (Some (slot_value w))
         turn =
-            other_becomes index next numbers.slots others.entries m.entries a (Some (slot_value w))
-            (subst (λ (j : IndexMap Addr Slot H). Changes (found (slots_seen j.entries))
-            (found (slots_seen m.entries)) a (Some (slot_value w))) same after)
+            other_becomes index next numbers.slots (entries others) (entries m) a (Some (slot_value w))
+            (subst (λ (j : TableValue Addr Slot). Changes (found (slots_seen (entries j)))
+            (found (slots_seen (entries m))) a (Some (slot_value w))) same after)
             none good.apart
 
         pub begins_sound : IsSound (over m)

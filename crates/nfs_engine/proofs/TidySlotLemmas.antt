@@ -9,7 +9,8 @@ use Rattle.std.proofs.lemmas.List.{length-map}
 use Rattle.std.specs.Arc.{arc_value}
 use Rattle.std.specs.Cmp.{unsigned_Decides}
 use Rattle.std.specs.Map.{lookup}
-use Rattle.indexmap.specs.IndexMap.{IndexMap, UpdatesBy, WritesThrough}
+use Rattle.nfs_tables.specs.Lending.{Rewrites}
+use Rattle.nfs_tables.specs.Tables as tables
 use Rattle.nfs_objects.proofs.SeenLemmas.{is_addr-same}
 use Rattle.nfs_objects.specs.Store.{Store, with_write, with_writes}
 use Rattle.nfs_objects.specs.Values.{is_addr, write_value}
@@ -17,7 +18,7 @@ use Rattle.nfs_objects.specs.declared.address.Addr.{Addr}
 use Rattle.nfs_objects.specs.declared.address.Addr.TheVariants.{Inode}
 use Rattle.nfs_objects.specs.declared.change.Write.{Write}
 use Rattle.nfs_objects.specs.declared.object.Object.{Object}
-use Rattle.nfs_engine.proofs.AddressMapLemmas.{found-changed, found-lookup, same_address, seen}
+use Rattle.nfs_engine.proofs.AddressMapLemmas.{found-lookup, found-turned, same_address, seen}
 use Rattle.nfs_engine.proofs.SlotNeedLemmas.{needed-cons, needed-fewer}
 use Rattle.nfs_engine.proofs.StandingCountLemmas.{given-some}
 use Rattle.nfs_engine.proofs.StoreWriteLemmas.{filled_store, gone-as, gone_store}
@@ -122,10 +123,10 @@ module _ (old new : Slots) (w : Addr × Option Object) (puts : Puts old new w) w
       by false other = tidy a apart
 
 -- ---- what is put into the map
-abbrev slots : {H : Type 0} → IndexMap Addr Kept H → Slots
-slots m = seen kept_value m.entries
+abbrev slots : tables.TableValue Addr Kept → Slots
+slots m = seen kept_value (tables.entries m)
 
-module _ {H : Type 0} (old : IndexMap Addr Kept H) (a : Addr) (o : Option Object) where
+module _ (old : tables.TableValue Addr Kept) (a : Addr) (o : Option Object) where
   of-slot : (new : Slots) (v : KeptValue) → (is_some (found (slots old) a) || is_some o) ≡ true →
       v ≡ filled (kept_at (slots old) a) o → Changes (found (slots old)) (found new) a (Some v) →
       Puts (slots old) new (a, o)
@@ -135,36 +136,36 @@ module _ {H : Type 0} (old : IndexMap Addr Kept H) (a : Addr) (o : Option Object
       (subst (λ (x : KeptValue). Changes (found (slots old)) (found new) a (Some x)) is changes)
 
   -- in the slot that is there
-  pub puts-there : (was k : Kept) → Some was ≡ lookup (same_address a) old.entries → (new : IndexMap Addr Kept H) →
-      WritesThrough same_address (same_address a) old k new →
+  pub puts-there : (was k : Kept) → Some was ≡ lookup (same_address a) (tables.entries old) →
+      (new : tables.TableValue Addr Kept) → Rewrites same_address old new a k →
       kept_value k ≡ filled (kept_value was) o → Puts (slots old) (slots new) (a, o)
   puts-there was k there new writes is =
       of-slot (slots new) (kept_value k) (ap (λ (x : Option KeptValue). is_some x || is_some o) known)
       (is ∙ ap (λ (x : Option KeptValue). filled (unwrap_or x empty_kept) o) (sym known))
-      (found-changed kept_value old new a (Some k) (writes.3 (sym (ap is_some there))))
+      (found-turned kept_value old new a (Some k) (writes.changes (sym (ap is_some there))))
     where
       known : found (slots old) a ≡ Some (kept_value was)
-      known = found-lookup kept_value a old.entries ∙ ap (option_map kept_value) (sym there)
+      known = found-lookup kept_value a (tables.entries old) ∙ ap (option_map kept_value) (sym there)
 
   -- whether something stood there
-  pub stood-there : (was : Kept) → Some was ≡ lookup (same_address a) old.entries → (stood : Bool) →
+  pub stood-there : (was : Kept) → Some was ≡ lookup (same_address a) (tables.entries old) → (stood : Bool) →
       stood ≡ is_some was.object → stood ≡ is_some (kept_at (slots old) a).object
   stood-there was there stood is = given-some arc_value was.object stood is
       ∙ ap (λ (x : Option KeptValue). is_some (unwrap_or x empty_kept).object)
-      (ap (option_map kept_value) there ∙ sym (found-lookup kept_value a old.entries))
+      (ap (option_map kept_value) there ∙ sym (found-lookup kept_value a (tables.entries old)))
 
-  module _ (absent : None ≡ lookup (same_address a) old.entries) where
+  module _ (absent : None ≡ lookup (same_address a) (tables.entries old)) where
     unknown : found (slots old) a ≡ None
-    unknown = found-lookup kept_value a old.entries ∙ ap (option_map kept_value) (sym absent)
+    unknown = found-lookup kept_value a (tables.entries old) ∙ ap (option_map kept_value) (sym absent)
 
     -- in a new one
     pub puts-new : is_some o ≡ true → (k : Kept) → kept_value k ≡ filled empty_kept o →
-        (new : IndexMap Addr Kept H) → UpdatesBy same_address (same_address a) old new (Some k) →
+        (new : tables.TableValue Addr Kept) → tables.Changes same_address old new a (Some k) →
         Puts (slots old) (slots new) (a, o)
     puts-new some k is new updates =
         of-slot (slots new) (kept_value k) ((λ i. is_some (unknown i) || some i))
         (is ∙ ap (λ (x : Option KeptValue). filled (unwrap_or x empty_kept) o) (sym unknown))
-        (found-changed kept_value old new a (Some k) updates)
+        (found-turned kept_value old new a (Some k) updates)
 
     -- or not at all
     pub puts-nothing : is_some o ≡ false → Puts (slots old) (slots old) (a, o)

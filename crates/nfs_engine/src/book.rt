@@ -44,6 +44,7 @@ use nfs_machine::laws::side_replies_have_forms;
 use nfs_machine::{Ctx, Limits};
 use nfs_objects::{Addr, Object, View, Write};
 use nfs_replies::{Capacity, RecordKey, Replies, Sought};
+use nfs_tables::Placing;
 use std::alloc::{AllocError, Global};
 use std::marker::Model;
 use std::sync::Arc;
@@ -112,10 +113,11 @@ impl Book {
             config.moment.time(),
             config.limits.name_key,
         )?;
-        let objects = Objects::opening(alloc, &writes)?;
+        let placing = Placing::new(&config.limits.name_key);
+        let objects = Objects::opening(alloc, placing, &writes)?;
         let journal = Journal::new(alloc, objects);
         let key = RecordKey::new(&config.limits.name_key);
-        let replies = Replies::new(alloc, capacity, key);
+        let replies = Replies::new(alloc, capacity, key, placing);
         let calls = Calls::new(alloc, key);
         let book = Book {
             journal,
@@ -131,6 +133,11 @@ impl Book {
     /// The key under which records are hashed.
     pub fn record_key(&self) -> RecordKey {
         RecordKey::new(&self.limits.name_key)
+    }
+
+    /// How addresses are placed in the tables of this server.
+    pub fn placing(&self) -> Placing {
+        Placing::new(&self.limits.name_key)
     }
 
     /// At how many addresses something stands.

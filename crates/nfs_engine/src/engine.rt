@@ -38,6 +38,7 @@ use crate::starting::{new_shards, open_all};
 use crate::sweeping::Sweep;
 use crate::taking::Got;
 use nfs_objects::{Addr, Mode, Object, View, Write};
+use nfs_tables::Placing;
 use std::alloc::{AllocError, Global};
 use std::marker::Model;
 use std::sync::Arc;
@@ -72,11 +73,12 @@ impl Engine {
         ensures free { IfOk result (λ e. (a : Addr) (j : ℕ) → held_among e.shards a j ≡ None) }
         ensures refused { IfErr result (IsStartError config) }
     {
+        let placing = Placing::new(&config.limits.name_key);
         let (book, writes) = match Book::new(alloc, config) {
             Ok(opened) => opened,
             Err(error) => return Err(error),
         };
-        let mut shards = new_shards(alloc);
+        let mut shards = new_shards(alloc, placing);
         match open_all(&mut shards, alloc, writes) {
             Ok(()) => Ok(Engine {
                 book,

@@ -11,13 +11,13 @@ ghost use Rattle.nfs_objects.specs.Fits.{Fits};
 ghost use Rattle.nfs_objects.specs.Store.{with_write, with_writes};
 ghost use Rattle.nfs_objects.specs.Values.{write_value};
 ghost use Rattle.nfs_engine.specs.Opening.{no_store};
-ghost use Rattle.indexmap.specs.IndexMap.{spare};
+ghost use Rattle.nfs_tables.specs.Tables.{entries};
 ghost use Rattle.nfs_engine.specs.Standing.{HasObjects, count_after};
 ghost use Rattle.nfs_engine.specs.Tables.{IsTidy, IsTidyBut, Puts, Stands, TakesOutIdle, Unspent, generation_in};
 ghost use Rattle.nfs_engine.specs.Tables.{idle_at, kept_at, kept_slots, needs_slot, slots_needed, store_of};
 
-use indexmap::IndexMap;
 use nfs_objects::{Addr, Object, Reserved, View, Write, share};
+use nfs_tables::{Placing, Table};
 use std::alloc::{AllocError, Global};
 use std::marker::Model;
 use std::sync::Arc;
@@ -35,31 +35,31 @@ pub(crate) struct Kept {
 /// long as something stands there; of its look-ups only comparisons of views (`fits`) make use.
 #[derive(Drop)]
 pub(crate) struct Objects {
-    slots: IndexMap<Addr, Kept>,
+    slots: Table<Addr, Kept>,
     /// At how many addresses something stands.
     standing: u64,
 }
 
 impl Model for Objects {
-    ghost use Rattle.indexmap.specs.IndexMap.{spare};
+    ghost use Rattle.nfs_tables.specs.Tables.{entries};
     ghost use Rattle.nfs_engine.specs.Standing.{HasObjects};
     ghost use Rattle.nfs_engine.specs.Tables.{IsTidy, ObjectsValue, kept_slots, store_of};
 
     ghost Value = { ObjectsValue };
 
-    ghost view = { λ t. record { slots = kept_slots t.slots.entries; room = spare t.slots; standing = t.standing } };
+    ghost view = { λ t. record { slots = kept_slots (entries t.slots); room = t.slots.room; standing = t.standing } };
 
-    ghost invariant = { λ t. HasObjects (store_of (kept_slots t.slots.entries)) t.standing
-        × IsTidy (kept_slots t.slots.entries) };
+    ghost invariant = { λ t. HasObjects (store_of (kept_slots (entries t.slots))) t.standing
+        × IsTidy (kept_slots (entries t.slots)) };
 }
 
 impl Objects {
-    /// No object.
-    fn new(alloc: Global) -> Objects
+    /// No object. Addresses are placed so.
+    fn new(alloc: Global, placing: Placing) -> Objects
         ensures { result.slots ≡ [] }
     {
         Objects {
-            slots: IndexMap::new(alloc),
+            slots: Table::new(alloc, placing),
             standing: 0,
         }
     }
@@ -71,12 +71,16 @@ impl Objects {
         self.standing
     }
 
-    /// What these writes make of no object. They share their objects with it.
-    pub(crate) fn opening(alloc: Global, writes: &[Write]) -> Result<Objects, AllocError>
+    /// What these writes make of no object. They share their objects with it. Addresses are placed so.
+    pub(crate) fn opening(
+        alloc: Global,
+        placing: Placing,
+        writes: &[Write],
+    ) -> Result<Objects, AllocError>
         ensures { IfOk result
             (λ objects. store_of objects.slots ≡ with_writes no_store (map write_value writes.now)) }
     {
-        let mut objects = Objects::new(alloc);
+        let mut objects = Objects::new(alloc, placing);
         let copies = copy_writes(alloc, writes)?;
         objects.make_room(&copies)?;
         objects.install(copies, writes);
@@ -217,14 +221,14 @@ fn count_after(count: u64, stood: bool, stands: bool) -> u64
 
 /// Makes the writes, for which there is room: at how many addresses something stands then. Each slot that is there
 /// stays.
-fn put_all(slots: &mut IndexMap<Addr, Kept>, standing: u64, writes: Vec<Write>) -> u64
-    requires room { slots_needed (kept_slots slots.old.entries) (map write_value writes.items) ≤ spare slots.old }
-    requires count { HasObjects (store_of (kept_slots slots.old.entries)) standing }
-    requires tidy { IsTidy (kept_slots slots.old.entries) }
-    ensures store { store_of (kept_slots slots.new.entries)
-        ≡ with_writes (store_of (kept_slots slots.old.entries)) (map write_value writes.items) }
-    ensures count { HasObjects (store_of (kept_slots slots.new.entries)) result }
-    ensures tidy { IsTidyBut (kept_slots slots.new.entries) (map write_value writes.items) }
+fn put_all(slots: &mut Table<Addr, Kept>, standing: u64, writes: Vec<Write>) -> u64
+    requires room { slots_needed (kept_slots (entries slots.old)) (map write_value writes.items) ≤ slots.old.room }
+    requires count { HasObjects (store_of (kept_slots (entries slots.old))) standing }
+    requires tidy { IsTidy (kept_slots (entries slots.old)) }
+    ensures store { store_of (kept_slots (entries slots.new))
+        ≡ with_writes (store_of (kept_slots (entries slots.old))) (map write_value writes.items) }
+    ensures count { HasObjects (store_of (kept_slots (entries slots.new))) result }
+    ensures tidy { IsTidyBut (kept_slots (entries slots.new)) (map write_value writes.items) }
 {
     let mut standing = standing;
     let mut writes = writes.into_iter();
@@ -235,13 +239,13 @@ fn put_all(slots: &mut IndexMap<Addr, Kept>, standing: u64, writes: Vec<Write>) 
 }
 
 /// Makes a write: at how many addresses something stands then.
-fn make(slots: &mut IndexMap<Addr, Kept>, standing: u64, write: Write) -> u64
-    requires room { needs_slot (kept_slots slots.old.entries) (write_value write) ≡ true → 0 < spare slots.old }
-    requires count { HasObjects (store_of (kept_slots slots.old.entries)) standing }
-    ensures puts { Puts (kept_slots slots.old.entries) (kept_slots slots.new.entries) (write_value write) }
-    ensures count { HasObjects (store_of (kept_slots slots.new.entries)) result }
-    ensures room { spare slots.old ≤ spare slots.new
-        + (if needs_slot (kept_slots slots.old.entries) (write_value write) then 1 else 0) }
+fn make(slots: &mut Table<Addr, Kept>, standing: u64, write: Write) -> u64
+    requires room { needs_slot (kept_slots (entries slots.old)) (write_value write) ≡ true → 0 < slots.old.room }
+    requires count { HasObjects (store_of (kept_slots (entries slots.old))) standing }
+    ensures puts { Puts (kept_slots (entries slots.old)) (kept_slots (entries slots.new)) (write_value write) }
+    ensures count { HasObjects (store_of (kept_slots (entries slots.new))) result }
+    ensures room { slots.old.room ≤ slots.new.room
+        + (if needs_slot (kept_slots (entries slots.old)) (write_value write) then 1 else 0) }
 {
     let stands = write.object.is_some();
     let stood = put(slots, write.address, write.object);
@@ -253,18 +257,18 @@ fn make(slots: &mut IndexMap<Addr, Kept>, standing: u64, write: Write) -> u64
 /// Makes a write for which a slot is there: at how many addresses something stands then. A slot that it leaves with
 /// nothing in it goes.
 fn write(
-    slots: &mut IndexMap<Addr, Kept>,
+    slots: &mut Table<Addr, Kept>,
     standing: u64,
     address: Addr,
     object: Option<Arc<Object>>,
 ) -> u64
-    requires slot { needs_slot (kept_slots slots.old.entries) (address, option_map arc_value object) ≡ false }
-    requires count { HasObjects (store_of (kept_slots slots.old.entries)) standing }
-    requires tidy { IsTidy (kept_slots slots.old.entries) }
-    ensures store { store_of (kept_slots slots.new.entries)
-        ≡ with_write (store_of (kept_slots slots.old.entries)) address (option_map arc_value object) }
-    ensures count { HasObjects (store_of (kept_slots slots.new.entries)) result }
-    ensures tidy { IsTidy (kept_slots slots.new.entries) }
+    requires slot { needs_slot (kept_slots (entries slots.old)) (address, option_map arc_value object) ≡ false }
+    requires count { HasObjects (store_of (kept_slots (entries slots.old))) standing }
+    requires tidy { IsTidy (kept_slots (entries slots.old)) }
+    ensures store { store_of (kept_slots (entries slots.new))
+        ≡ with_write (store_of (kept_slots (entries slots.old))) address (option_map arc_value object) }
+    ensures count { HasObjects (store_of (kept_slots (entries slots.new))) result }
+    ensures tidy { IsTidy (kept_slots (entries slots.new)) }
 {
     let standing = make(slots, standing, Write { address, object });
     let taken = Write {
@@ -277,14 +281,14 @@ fn write(
 
 /// Puts an object at an address, or takes away what stands there: whether something stood there. Only something that is
 /// put where no slot is takes room. The address is looked up once, and once more where a slot comes.
-fn put(slots: &mut IndexMap<Addr, Kept>, address: Addr, object: Option<Arc<Object>>) -> bool
-    requires { needs_slot (kept_slots slots.old.entries) (address, option_map arc_value object) ≡ true
-        → 0 < spare slots.old }
-    ensures puts { Puts (kept_slots slots.old.entries) (kept_slots slots.new.entries)
+fn put(slots: &mut Table<Addr, Kept>, address: Addr, object: Option<Arc<Object>>) -> bool
+    requires { needs_slot (kept_slots (entries slots.old)) (address, option_map arc_value object) ≡ true
+        → 0 < slots.old.room }
+    ensures puts { Puts (kept_slots (entries slots.old)) (kept_slots (entries slots.new))
         (address, option_map arc_value object) }
-    ensures stood { result ≡ is_some (kept_at (kept_slots slots.old.entries) address).object }
-    ensures room { spare slots.old ≤ spare slots.new
-        + (if needs_slot (kept_slots slots.old.entries) (address, option_map arc_value object) then 1 else 0) }
+    ensures stood { result ≡ is_some (kept_at (kept_slots (entries slots.old)) address).object }
+    ensures room { slots.old.room ≤ slots.new.room
+        + (if needs_slot (kept_slots (entries slots.old)) (address, option_map arc_value object) then 1 else 0) }
 {
     let given = generation(&object);
     if let Some(slot) = slots.get_mut(&address) {
@@ -298,16 +302,16 @@ fn put(slots: &mut IndexMap<Addr, Kept>, address: Addr, object: Option<Arc<Objec
             object,
             last: given,
         };
-        slots.insert(address, kept).unwrap();
+        slots.add(address, kept).unwrap();
     }
     false
 }
 
 /// Takes out the slots that these writes left with nothing in them.
-fn remove_idle(slots: &mut IndexMap<Addr, Kept>, writes: &[Write])
-    requires { IsTidyBut (kept_slots slots.old.entries) (map write_value writes.now) }
-    ensures store { store_of (kept_slots slots.new.entries) ≡ store_of (kept_slots slots.old.entries) }
-    ensures tidy { IsTidy (kept_slots slots.new.entries) }
+fn remove_idle(slots: &mut Table<Addr, Kept>, writes: &[Write])
+    requires { IsTidyBut (kept_slots (entries slots.old)) (map write_value writes.now) }
+    ensures store { store_of (kept_slots (entries slots.new)) ≡ store_of (kept_slots (entries slots.old)) }
+    ensures tidy { IsTidy (kept_slots (entries slots.new)) }
 {
     for write in writes {
         take_out_idle(slots, write);
@@ -315,17 +319,17 @@ fn remove_idle(slots: &mut IndexMap<Addr, Kept>, writes: &[Write])
 }
 
 /// Takes out the slot of what this write took away, where nothing is kept in it.
-fn take_out_idle(slots: &mut IndexMap<Addr, Kept>, write: &Write)
-    ensures { TakesOutIdle (kept_slots slots.old.entries) (kept_slots slots.new.entries) (write_value write.now) }
+fn take_out_idle(slots: &mut Table<Addr, Kept>, write: &Write)
+    ensures { TakesOutIdle (kept_slots (entries slots.old)) (kept_slots (entries slots.new)) (write_value write.now) }
 {
     if write.object.is_none() && is_idle(slots, write.address) {
-        slots.swap_remove(&write.address);
+        slots.remove(&write.address);
     }
 }
 
 /// Whether there is a slot at an address in which nothing is kept.
-fn is_idle(slots: &IndexMap<Addr, Kept>, address: Addr) -> bool
-    ensures { result ≡ idle_at (kept_slots slots.now.entries) address }
+fn is_idle(slots: &Table<Addr, Kept>, address: Addr) -> bool
+    ensures { result ≡ idle_at (kept_slots (entries slots.now)) address }
 {
     match slots.get(&address) {
         Some(kept) => kept.object.is_none() && kept.last == 0,

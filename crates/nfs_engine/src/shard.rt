@@ -5,6 +5,7 @@ ghost use Rattle.std.specs.Prelude.{IfOk, ◌-◌, ◌^◌, ◌≤◌, slice_ind
 ghost use Rattle.std.specs.Arc.{arc_value};
 ghost use Rattle.std.specs.Bool.{Decides};
 ghost use Rattle.slab.specs.Slab.{ContainsKey, Updates};
+ghost use Rattle.nfs_tables.specs.Tables.{entries};
 ghost use Rattle.nfs_engine.specs.Found.{Changes, found};
 ghost use Rattle.nfs_engine.specs.Holders.{IsExcluder};
 ghost use Rattle.nfs_engine.specs.Locked.{IsLocked};
@@ -15,8 +16,8 @@ ghost use Rattle.nfs_engine.specs.Shards.{slot_at, slot_value, slots_seen};
 
 use crate::holders::Holders;
 use crate::slot::{Slot, held_numbers, held_others};
-use indexmap::IndexMap;
 use nfs_objects::{Addr, Mode, Object, Reserved};
+use nfs_tables::{Placing, Table};
 use slab::Slab;
 use std::alloc::{AllocError, Global};
 use std::marker::Model;
@@ -64,19 +65,20 @@ pub fn shard_index(address: Addr) -> usize
 pub struct Shard {
     index: u64,
     numbers: Slab<Slot>,
-    others: IndexMap<Addr, Slot>,
+    others: Table<Addr, Slot>,
     /// Above each generation that was ever reserved here.
     next_generation: u64,
 }
 
 impl Model for Shard {
     ghost use Rattle.nfs_engine.specs.Shards.{IsSound, ShardValue, shard_value};
+    ghost use Rattle.nfs_tables.specs.Tables.{entries};
 
     ghost Value = { ShardValue };
 
-    ghost view = { λ s. shard_value s.index s.numbers.slots s.others.entries s.next_generation };
+    ghost view = { λ s. shard_value s.index s.numbers.slots (entries s.others) s.next_generation };
 
-    ghost invariant = { λ s. IsSound (shard_value s.index s.numbers.slots s.others.entries s.next_generation) };
+    ghost invariant = { λ s. IsSound (shard_value s.index s.numbers.slots (entries s.others) s.next_generation) };
 }
 
 /// The key of a number that the shard with this index may give.
@@ -102,23 +104,22 @@ fn number_at(index: u64, key: usize) -> Option<u64>
         .checked_add(index)
 }
 
-/// Makes a slot for an address in the map. An error changes nothing.
-fn add_slot(others: &mut IndexMap<Addr, Slot>, address: Addr, slot: Slot) -> Result<(), AllocError>
-    ensures ok { OnOk result (Changes (found (slots_seen others.old.entries)) (found (slots_seen others.new.entries))
-        address (Some (slot_value slot))) }
-    ensures err { OnErr result (others.new.entries ≡ others.old.entries) }
+/// Makes a slot for an address that has none in the map. An error changes nothing.
+fn add_slot(others: &mut Table<Addr, Slot>, address: Addr, slot: Slot) -> Result<(), AllocError>
+    requires { found (slots_seen (entries others.old)) address ≡ None }
+    ensures ok { OnOk result (Changes (found (slots_seen (entries others.old)))
+        (found (slots_seen (entries others.new))) address (Some (slot_value slot))) }
+    ensures err { OnErr result (entries others.new ≡ entries others.old) }
 {
-    match others.insert(address, slot) {
-        Ok(_) => Ok(()),
-        Err(_) => Err(AllocError),
-    }
+    others.add(address, slot)?;
+    Ok(())
 }
 
 /// Takes the slot of an address out of the map.
-fn remove_other(others: &mut IndexMap<Addr, Slot>, address: Addr)
-    ensures { Changes (found (slots_seen others.old.entries)) (found (slots_seen others.new.entries)) address None }
+fn remove_other(others: &mut Table<Addr, Slot>, address: Addr)
+    ensures { Changes (found (slots_seen (entries others.old))) (found (slots_seen (entries others.new))) address None }
 {
-    others.swap_remove(&address);
+    others.remove(&address);
 }
 
 /// Takes the slot at a key out of the slab.
@@ -133,20 +134,20 @@ fn remove_number(numbers: &mut Slab<Slot>, key: usize)
 /// map, that slot moves into the slab, and the next key is tried.
 fn free_number(
     numbers: &mut Slab<Slot>,
-    others: &mut IndexMap<Addr, Slot>,
+    others: &mut Table<Addr, Slot>,
     index: u64,
 ) -> Result<u64, AllocError>
     requires { index < SHARDS }
-    ensures same { Moves (shard_value index numbers.old.slots others.old.entries 0)
-        (shard_value index numbers.new.slots others.new.entries 0) }
-    ensures free { IfOk result (λ number. IsFreeNumber index numbers.new others.new.entries number) }
+    ensures same { Moves (shard_value index numbers.old.slots (entries others.old) 0)
+        (shard_value index numbers.new.slots (entries others.new) 0) }
+    ensures free { IfOk result (λ number. IsFreeNumber index numbers.new (entries others.new) number) }
 {
     'keys: loop {
         numbers.reserve(1)?;
         let Some(number) = number_at(index, numbers.vacant_key()) else {
             return Err(AllocError);
         };
-        let Some(slot) = others.swap_remove(&Addr::Inode(number)) else {
+        let Some(slot) = others.remove(&Addr::Inode(number)) else {
             return Ok(number);
         };
         numbers.insert_reserved(slot);
@@ -174,15 +175,15 @@ pub enum ReserveError {
 }
 
 impl Shard {
-    /// The shard with this index, empty.
-    pub fn new(alloc: Global, index: u64) -> Shard
+    /// The shard with this index, empty. Addresses are placed so.
+    pub fn new(alloc: Global, placing: Placing, index: u64) -> Shard
         requires { index < SHARDS }
         ensures { IsNew index result }
     {
         Shard {
             index,
             numbers: Slab::new(alloc),
-            others: IndexMap::new(alloc),
+            others: Table::new(alloc, placing),
             next_generation: FIRST_GENERATION,
         }
     }
@@ -367,11 +368,8 @@ impl Shard {
     pub(crate) fn make_room(&mut self) -> Result<(), AllocError>
         ensures { self.new ≡ self.old }
     {
-        let used = self.others.len();
-        let wanted = used.saturating_add(FREE_SLOTS);
-        if self.others.capacity() - used < wanted {
-            self.others.reserve(wanted)?;
-        }
+        let wanted = self.others.len().saturating_add(FREE_SLOTS);
+        self.others.reserve(wanted)?;
         Ok(())
     }
 

@@ -4,9 +4,10 @@ ghost use Rattle.std.specs.Prelude.{◌≡◌, ◌-◌, ◌^◌, IsSome, count_b
 ghost use Rattle.std.specs.Arc.{arc_value};
 ghost use Rattle.std.specs.Bool.{Decides};
 ghost use Rattle.std.specs.List.{IsDistinct};
-ghost use Rattle.indexmap.specs.IndexMap.{keys};
+ghost use Rattle.std.specs.Map.{keys_of};
 ghost use Rattle.slab.specs.Slab.{entries};
 ghost use Rattle.nfs_objects.specs.Values.{is_addr};
+ghost use Rattle.nfs_tables.specs.Tables.{entries as entries_of};
 ghost use Rattle.nfs_engine.specs.Locked.{is_held};
 ghost use Rattle.nfs_engine.specs.Shards.{IsSlotHad, IsSlotLeft, empty_slot, slot_value};
 
@@ -14,6 +15,7 @@ use crate::holders::Holders;
 use crate::shard::Had;
 use indexmap::IndexMap;
 use nfs_objects::{Addr, Mode, Object, share};
+use nfs_tables::{Placing, Table};
 use slab::Slab;
 use std::alloc::{AllocError, Global};
 use std::mem::swap;
@@ -90,13 +92,21 @@ pub(crate) fn held_numbers(numbers: &Slab<Slot>) -> usize
     held
 }
 
+/// How many slots of a table are held; 2^64 - 1 where there are more.
+pub(crate) fn held_others(others: &Table<Addr, Slot>) -> usize
+    ensures value { result ≡ min (count_by (λ e. is_held (slot_value e.1)) (entries_of others.now)) (2 ^ 64 - 1) }
+    ensures once { IsDistinct is_addr (keys_of (entries_of others.now)) }
+{
+    let (waiting, placed) = others.parts();
+    held_slots(waiting).saturating_add(held_slots(placed))
+}
+
 /// How many slots of a map are held; 2^64 - 1 where there are more.
-pub(crate) fn held_others(others: &IndexMap<Addr, Slot>) -> usize
-    ensures value { result ≡ min (count_by (λ e. is_held (slot_value e.1)) others.now.entries) (2 ^ 64 - 1) }
-    ensures once { IsDistinct is_addr (keys others.now) }
+fn held_slots(slots: &IndexMap<Addr, Slot, Placing>) -> usize
+    ensures { result ≡ min (count_by (λ e. is_held (slot_value e.1)) slots.now.entries) (2 ^ 64 - 1) }
 {
     let mut held: usize = 0;
-    for (_, slot) in others.iter() {
+    for (_, slot) in slots.iter() {
         if !slot.holders.is_nobody() {
             held = held.saturating_add(1);
         }

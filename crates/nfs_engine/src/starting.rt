@@ -7,33 +7,34 @@ ghost use Rattle.nfs_engine.specs.Shards.{Fills, hold_at};
 
 use crate::shard::{Had, SHARDS, Shard, shard_index};
 use nfs_objects::{Addr, Mode, Write};
+use nfs_tables::Placing;
 use std::alloc::{AllocError, Global};
 
 /// Who holds an address while it gets what the engine opens with. No call is in progress then.
 const OPENER: u64 = 0;
 
-/// Sixteen shards in which nothing stands.
-pub(crate) fn new_shards(alloc: Global) -> [Shard; SHARDS]
+/// Sixteen shards in which nothing stands. Addresses are placed so.
+pub(crate) fn new_shards(alloc: Global, placing: Placing) -> [Shard; SHARDS]
     ensures new { AreNew result 0 }
     ensures sixteen { length result ≡ SHARDS }
 {
     [
-        Shard::new(alloc, 0),
-        Shard::new(alloc, 1),
-        Shard::new(alloc, 2),
-        Shard::new(alloc, 3),
-        Shard::new(alloc, 4),
-        Shard::new(alloc, 5),
-        Shard::new(alloc, 6),
-        Shard::new(alloc, 7),
-        Shard::new(alloc, 8),
-        Shard::new(alloc, 9),
-        Shard::new(alloc, 10),
-        Shard::new(alloc, 11),
-        Shard::new(alloc, 12),
-        Shard::new(alloc, 13),
-        Shard::new(alloc, 14),
-        Shard::new(alloc, 15),
+        Shard::new(alloc, placing, 0),
+        Shard::new(alloc, placing, 1),
+        Shard::new(alloc, placing, 2),
+        Shard::new(alloc, placing, 3),
+        Shard::new(alloc, placing, 4),
+        Shard::new(alloc, placing, 5),
+        Shard::new(alloc, placing, 6),
+        Shard::new(alloc, placing, 7),
+        Shard::new(alloc, placing, 8),
+        Shard::new(alloc, placing, 9),
+        Shard::new(alloc, placing, 10),
+        Shard::new(alloc, placing, 11),
+        Shard::new(alloc, placing, 12),
+        Shard::new(alloc, placing, 13),
+        Shard::new(alloc, placing, 14),
+        Shard::new(alloc, placing, 15),
     ]
 }
 

@@ -13,6 +13,7 @@ use crate::placed::Placed;
 use nfs_engine::{Book, SHARDS, Shard};
 use nfs_objects::{Addr, Write};
 use nfs_stamps::{Log, Marks, Naming, Stamp, is_large};
+use nfs_tables::Placing;
 use std::alloc::Global;
 use std::sync::Arc;
 
@@ -32,21 +33,23 @@ pub(crate) fn mark_opening<L: Naming>(
     let _ = first;
     let exports = stamp_standing(log, book, Addr::Exports);
     let mounts = stamp_standing(log, book, Addr::Mounts);
+    let placing = book.placing();
     (
-        opening_marks(alloc, &exports, &mounts),
-        opening_marks(alloc, &exports, &mounts),
+        opening_marks(alloc, placing, &exports, &mounts),
+        opening_marks(alloc, placing, &exports, &mounts),
     )
 }
 
 /// Marks of the exports and of the mounts with these stamps.
 fn opening_marks<L: Naming>(
     alloc: Global,
+    placing: Placing,
     exports: &Option<Stamp<L>>,
     mounts: &Option<Stamp<L>>,
 ) -> Marks<L>
     ensures { OpensMarked result exports.now mounts.now }
 {
-    let mut marks = Marks::new(alloc);
+    let mut marks = Marks::new(alloc, placing);
     marks.set(Addr::Exports, exports.as_ref());
     marks.set(Addr::Mounts, mounts.as_ref());
     marks
@@ -76,9 +79,10 @@ pub(crate) fn stamp_for<L: Naming>(log: &Log<L>, writes: &[Write]) -> Option<Sta
     None
 }
 
-/// Each shard under a lock of its own, the first with these marks.
+/// Each shard under a lock of its own, the first with these marks. Addresses are placed so.
 pub(crate) fn lock_all<L: Naming>(
     alloc: Global,
+    placing: Placing,
     shards: [Shard; SHARDS],
     first: Marks<L>,
 ) -> [Place<L>; SHARDS]
@@ -87,25 +91,25 @@ pub(crate) fn lock_all<L: Naming>(
     let [a, b, c, d, e, f, g, h, i, j, k, l, m, n, o, p] = shards;
     [
         Place::new(Placed::new(a, first)),
-        unmarked(alloc, b),
-        unmarked(alloc, c),
-        unmarked(alloc, d),
-        unmarked(alloc, e),
-        unmarked(alloc, f),
-        unmarked(alloc, g),
-        unmarked(alloc, h),
-        unmarked(alloc, i),
-        unmarked(alloc, j),
-        unmarked(alloc, k),
-        unmarked(alloc, l),
-        unmarked(alloc, m),
-        unmarked(alloc, n),
-        unmarked(alloc, o),
-        unmarked(alloc, p),
+        unmarked(alloc, placing, b),
+        unmarked(alloc, placing, c),
+        unmarked(alloc, placing, d),
+        unmarked(alloc, placing, e),
+        unmarked(alloc, placing, f),
+        unmarked(alloc, placing, g),
+        unmarked(alloc, placing, h),
+        unmarked(alloc, placing, i),
+        unmarked(alloc, placing, j),
+        unmarked(alloc, placing, k),
+        unmarked(alloc, placing, l),
+        unmarked(alloc, placing, m),
+        unmarked(alloc, placing, n),
+        unmarked(alloc, placing, o),
+        unmarked(alloc, placing, p),
     ]
 }
 
 /// A shard without marks under a lock of its own.
-fn unmarked<L: Naming>(alloc: Global, shard: Shard) -> Place<L> {
-    Place::new(Placed::new(shard, Marks::new(alloc)))
+fn unmarked<L: Naming>(alloc: Global, placing: Placing, shard: Shard) -> Place<L> {
+    Place::new(Placed::new(shard, Marks::new(alloc, placing)))
 }

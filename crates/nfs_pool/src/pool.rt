@@ -69,10 +69,10 @@ impl<L: Ledger + Naming> Pool<L> {
         engine.tie();
         let (book, shards) = engine.into_parts();
         let (marks, first) = mark_opening(alloc, &log, &book, &shards[0]);
-        let key = book.record_key();
+        let (key, placing) = (book.record_key(), book.placing());
         let pool = Pool {
             desk: Mutex::new(Desk::new(alloc, book, counted, nothing, marks)),
-            places: lock_all(alloc, shards, first),
+            places: lock_all(alloc, placing, shards, first),
             count: Count::new(count),
             log,
             key,

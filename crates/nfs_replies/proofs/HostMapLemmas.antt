@@ -1,8 +1,8 @@
 -- The map of hosts: one cache written is one event, and no other host's list changes.
 use Rattle.std.proofs.Common.{◌≡◌, ℕ, true, false, cond, List, [], ◌∷◌, Option, Some, None, IfSome}
 use Rattle.std.proofs.Common.{IsSome, Result, Ok, Err, OnOk, OnErr, option_map, map, find, refl, sym, ap, ◌∙◌, subst}
-use Rattle.indexmap.specs.IndexMap.{IndexMap, Updates, WritesThrough}
-use Rattle.std.proofs.lemmas.Map.Steps.{set_value_same}
+use Rattle.nfs_tables.specs.Lending.{Rewrites}
+use Rattle.nfs_tables.specs.Tables.{Changes, TableValue, entries}
 use Rattle.std.specs.Cmp.Lexicographic.{bytes_decides}
 use Rattle.std.specs.Map.{lookup}
 use Rattle.std.specs.Option.{option_map_or}
@@ -169,28 +169,28 @@ no-list-at capacity hosts host found = no-list (list_of (shown capacity hosts) h
     (list_of-shown capacity hosts host ∙ ap (option_map kept_in) (sym found))
 
 -- a cache that was lent is left by an event
-module _ {S : Type 0} (capacity : ℕ) (event : ReplyEvent) (old new : IndexMap (List ℕ) Cache S) (was cache : Cache)
-    (found : Some was ≡ lookup (same_bytes (host_of event)) old.entries)
-    (through : WritesThrough same_bytes (same_bytes (host_of event)) old cache new) where
-  writes : (q : List ℕ) → lookup (same_bytes q) new.entries ≡
-      cond (same_bytes (host_of event) q) (Some cache) (lookup (same_bytes q) old.entries)
-  writes = (through.3 (subst IsSome found refl)).0
+module _ (capacity : ℕ) (event : ReplyEvent) (old new : TableValue (List ℕ) Cache) (was cache : Cache)
+    (found : Some was ≡ lookup (same_bytes (host_of event)) (entries old))
+    (through : Rewrites same_bytes old new (host_of event) cache) where
+  writes : (q : List ℕ) → lookup (same_bytes q) (entries new) ≡
+      cond (same_bytes (host_of event) q) (Some cache) (lookup (same_bytes q) (entries old))
+  writes = through.changes (subst IsSome found refl)
 
   pub is-after-lent : kept_in cache ≡ after capacity event (kept_in was) →
-      IsAfter event (shown capacity old.entries) (shown capacity new.entries)
-  is-after-lent left = is-after-written capacity event old.entries new.entries cache writes
+      IsAfter event (shown capacity (entries old)) (shown capacity (entries new))
+  is-after-lent left = is-after-written capacity event (entries old) (entries new) cache writes
       (left ∙ ap (λ o. after capacity event (listed o)) found)
 
-  pub listed-lent : (key : RecordKey) → AreListed capacity key old.entries → IsListed capacity key cache →
-      AreListed capacity key new.entries
-  listed-lent = listed-written capacity event old.entries new.entries cache writes
+  pub listed-lent : (key : RecordKey) → AreListed capacity key (entries old) → IsListed capacity key cache →
+      AreListed capacity key (entries new)
+  listed-lent = listed-written capacity event (entries old) (entries new) cache writes
 
 -- one that stays as it was leaves all as it was
-pub same-lent : {S : Type 0} (host : List ℕ) (old new : IndexMap (List ℕ) Cache S) (was cache : Cache) →
-    Some was ≡ lookup (same_bytes host) old.entries → WritesThrough same_bytes (same_bytes host) old cache new →
-    cache ≡ was → new.entries ≡ old.entries
+pub same-lent : (host : List ℕ) (old new : TableValue (List ℕ) Cache) (was cache : Cache) →
+    Some was ≡ lookup (same_bytes host) (entries old) → Rewrites same_bytes old new host cache →
+    cache ≡ was → (entries new) ≡ (entries old)
 same-lent host old new was cache found through same =
-    through.0 ∙ set_value_same (same_bytes host) old.entries cache (sym found ∙ ap Some (sym same))
+    through.stays (sym found ∙ ap Some (sym same))
 
 -- what is true of the cache that stands at a host
 pub listed-at : (capacity : ℕ) (key : RecordKey) (hosts : Hosts) (host : List ℕ) (cache : Cache) →
@@ -199,10 +199,10 @@ listed-at capacity key hosts host cache each found =
     subst (λ o. IfSome o (IsListed capacity key)) (sym found) (each host)
 
 -- a reply is put into a cache that was lent, or the cache stays as it was
-module _ {S : Type 0} (capacity : ℕ) (key : RecordKey) (host bytes reply : List ℕ)
-    (old new : IndexMap (List ℕ) Cache S) (was cache : Cache) (each : AreListed capacity key old.entries)
-    (found : Some was ≡ lookup (same_bytes host) old.entries)
-    (through : WritesThrough same_bytes (same_bytes host) old cache new) where
+module _ (capacity : ℕ) (key : RecordKey) (host bytes reply : List ℕ)
+    (old new : TableValue (List ℕ) Cache) (was cache : Cache) (each : AreListed capacity key (entries old))
+    (found : Some was ≡ lookup (same_bytes host) (entries old))
+    (through : Rewrites same_bytes old new host cache) where
   abbrev IsPut : Type 0
   IsPut = cache ≡ lru_cache (put_entries same_key was (keyed key bytes) reply) was.cap
 
@@ -210,49 +210,49 @@ module _ {S : Type 0} (capacity : ℕ) (key : RecordKey) (host bytes reply : Lis
   event = Replied host bytes reply
 
   is : IsListed capacity key was
-  is = listed-at capacity key old.entries host was each found
+  is = listed-at capacity key (entries old) host was each found
 
-  left : reply_for bytes (kept_of (shown capacity old.entries) host) ≡ None → IsPut →
+  left : reply_for bytes (kept_of (shown capacity (entries old)) host) ≡ None → IsPut →
       IsLeftBy capacity key host bytes was is event cache
   left none put = put-left capacity key host bytes was is reply cache
       (reply_for-found key bytes was is.hashed
-      ∙ sym (reply-at capacity key old.entries host bytes (Some was) each found) ∙ none) put
+      ∙ sym (reply-at capacity key (entries old) host bytes (Some was) each found) ∙ none) put
 
   pub listed-put : {A B : Type 0} (r : Result A B)
-      → reply_for bytes (kept_of (shown capacity old.entries) host) ≡ None →
-      OnOk r IsPut → OnErr r (cache ≡ was) → AreListed capacity key new.entries
+      → reply_for bytes (kept_of (shown capacity (entries old)) host) ≡ None →
+      OnOk r IsPut → OnErr r (cache ≡ was) → AreListed capacity key (entries new)
   listed-put (Ok _) none put stays =
       listed-lent capacity event old new was cache found through key each (left none put).0
   listed-put (Err _) none put stays =
       subst (AreListed capacity key) (sym (same-lent host old new was cache found through stays)) each
 
   pub is-after-put : {A B : Type 0} (r : Result A B)
-      → reply_for bytes (kept_of (shown capacity old.entries) host) ≡ None →
-      OnOk r IsPut → OnOk r (IsAfter event (shown capacity old.entries) (shown capacity new.entries))
+      → reply_for bytes (kept_of (shown capacity (entries old)) host) ≡ None →
+      OnOk r IsPut → OnOk r (IsAfter event (shown capacity (entries old)) (shown capacity (entries new)))
   is-after-put (Ok _) none put = is-after-lent capacity event old new was cache found through (left none put).1
   is-after-put (Err _) none put = tt
 
   pub same-unput : {A B : Type 0} (r : Result A B) → OnErr r (cache ≡ was) →
-      OnErr r (shown capacity new.entries ≡ shown capacity old.entries)
+      OnErr r (shown capacity (entries new) ≡ shown capacity (entries old))
   same-unput (Ok _) stays = tt
   same-unput (Err _) stays = ap (shown capacity) (same-lent host old new was cache found through stays)
 
 -- a cache comes for a host that has none
-module _ {S : Type 0} (capacity : ℕ) (event : ReplyEvent) (host : List ℕ) (old : Hosts)
-    (roomy new : IndexMap (List ℕ) Cache S) (cache : Cache) (is : host ≡ host_of event)
-    (same : roomy.entries ≡ old)
-    (updates : Updates same_bytes roomy new host (Some cache)) where
-  comes : (q : List ℕ) → lookup (same_bytes q) new.entries ≡
+module _ (capacity : ℕ) (event : ReplyEvent) (host : List ℕ) (old : Hosts)
+    (roomy new : TableValue (List ℕ) Cache) (cache : Cache) (is : host ≡ host_of event)
+    (same : (entries roomy) ≡ old)
+    (updates : Changes same_bytes roomy new host (Some cache)) where
+  comes : (q : List ℕ) → lookup (same_bytes q) (entries new) ≡
       cond (same_bytes (host_of event) q) (Some cache) (lookup (same_bytes q) old)
-  comes q = updates.0 q
-      ∙ ap (λ h. cond (same_bytes h q) (Some cache) (lookup (same_bytes q) roomy.entries)) is
+  comes q = updates q
+      ∙ ap (λ h. cond (same_bytes h q) (Some cache) (lookup (same_bytes q) (entries roomy))) is
       ∙ ap (λ es. cond (same_bytes (host_of event) q) (Some cache) (lookup (same_bytes q) es)) same
 
   pub is-after-new : lookup (same_bytes (host_of event)) old ≡ None → kept_in cache ≡ after capacity event [] →
-      IsAfter event (shown capacity old) (shown capacity new.entries)
-  is-after-new none left = is-after-written capacity event old new.entries cache comes
+      IsAfter event (shown capacity old) (shown capacity (entries new))
+  is-after-new none left = is-after-written capacity event old (entries new) cache comes
       (left ∙ ap (λ o. after capacity event (listed o)) (sym none))
 
   pub listed-new : (key : RecordKey) → AreListed capacity key old → IsListed capacity key cache →
-      AreListed capacity key new.entries
-  listed-new = listed-written capacity event old new.entries cache comes
+      AreListed capacity key (entries new)
+  listed-new = listed-written capacity event old (entries new) cache comes

@@ -12,8 +12,8 @@ use crate::capacity::Capacity;
 use crate::digest::RecordKey;
 use crate::key::{Hashed, Keyed, Sought};
 use bytes::Bytes;
-use indexmap::IndexMap;
 use lru::LruCache;
+use nfs_tables::{Placing, Table};
 use std::alloc::{AllocError, AllocFailed, Global};
 use std::marker::Model;
 
@@ -24,30 +24,31 @@ pub struct Replies {
     capacity: Capacity,
     /// Under which the records in the lists are hashed.
     key: RecordKey,
-    lists: IndexMap<Bytes, LruCache<Keyed, Bytes>>,
+    lists: Table<Bytes, LruCache<Keyed, Bytes>>,
 }
 
 impl Model for Replies {
     ghost use Rattle.std.specs.Prelude.{map};
     ghost use Rattle.nfs_replies.specs.Replies.{AreListed, RepliesValue, host_replies};
+    ghost use Rattle.nfs_tables.specs.Tables.{entries};
 
     ghost Value = { RepliesValue };
 
-    ghost view = { λ r. record { capacity = r.capacity; hosts = map host_replies r.lists.entries } };
+    ghost view = { λ r. record { capacity = r.capacity; hosts = map host_replies (entries r.lists) } };
 
-    ghost invariant = { λ r. AreListed r.capacity r.key r.lists.entries };
+    ghost invariant = { λ r. AreListed r.capacity r.key (entries r.lists) };
 }
 
 impl Replies {
-    /// No reply, this capacity for the list of each host, and the key under which records are hashed. It takes no
-    /// memory.
-    pub fn new(alloc: Global, capacity: Capacity, key: RecordKey) -> Replies
+    /// No reply, this capacity for the list of each host, and the key under which records are hashed. Hosts are placed
+    /// so. It takes no memory.
+    pub fn new(alloc: Global, capacity: Capacity, key: RecordKey, placing: Placing) -> Replies
         ensures { result ≡ record { capacity = capacity; hosts = [] } }
     {
         Replies {
             capacity,
             key,
-            lists: IndexMap::new(alloc),
+            lists: Table::new(alloc, placing),
         }
     }
 
@@ -134,7 +135,7 @@ impl Replies {
             });
         };
         let (host, list) = first_list(alloc, host, &self.capacity, self.key, bytes, reply)?;
-        self.lists.insert(host, list).unwrap();
+        self.lists.add(host, list).unwrap();
         Ok(())
     }
 }

@@ -2,7 +2,7 @@
 use Rattle.std.proofs.Common.{◌≡◌, true, false, cond, List, [], ◌∷◌, Option, None, Some, refl, sym, ◌∙◌, ap, subst}
 use Rattle.std.specs.Prelude.{OnErr, OnOk, Result, Ok, Err}
 use Rattle.std.specs.Map.{lookup}
-use Rattle.indexmap.specs.IndexMap.{IndexMap, UpdatesBy}
+use Rattle.nfs_tables.specs.Tables as tables
 use Rattle.nfs_objects.proofs.ViewLookupLemmas.{same_address, tested}
 use Rattle.nfs_objects.proofs.SeenLemmas.{is_addr-same}
 use Rattle.nfs_objects.specs.Values.{is_addr}
@@ -20,17 +20,17 @@ stamp_lookup a (e ∷ es) =
     ]
 
 -- one address has this
-pub stamp_changed : {H : Type 0} (m n : IndexMap Addr Writes H) (a : Addr) (o : Option Writes)
-    → UpdatesBy same_address (same_address a) m n o
-    → (b : Addr) → stamp_at n.entries b ≡ cond (is_addr a b) o (stamp_at m.entries b)
-stamp_changed m n a o updates b =
-    stamp_lookup b n.entries
-    ∙ updates.0 b
-    ∙ ap (λ t. cond t o (lookup (same_address b) m.entries)) (tested a b)
-    ∙ elim (is_addr a b) as (λ t. cond t o (lookup (same_address b) m.entries)
-    ≡ cond t o (stamp_at m.entries b)) [
+pub stamp_changed : (m n : tables.TableValue Addr Writes) (a : Addr) (o : Option Writes)
+    → tables.Changes same_address m n a o
+    → (b : Addr) → stamp_at (tables.entries n) b ≡ cond (is_addr a b) o (stamp_at (tables.entries m) b)
+stamp_changed m n a o changes b =
+    stamp_lookup b (tables.entries n)
+    ∙ changes b
+    ∙ ap (λ t. cond t o (lookup (same_address b) (tables.entries m))) (tested a b)
+    ∙ elim (is_addr a b) as (λ t. cond t o (lookup (same_address b) (tables.entries m))
+    ≡ cond t o (stamp_at (tables.entries m) b)) [
       | true ↦ refl
-      | false ↦ sym (stamp_lookup b m.entries)
+      | false ↦ sym (stamp_lookup b (tables.entries m))
     ]
 
 -- nothing changed, where that address had no mark
@@ -49,6 +49,11 @@ large_kept old new a o are large changed b small = changed b
       | true ↦ λ same. absurd (cc (large, ap is_large (is_addr-same a b same), small))
       | false ↦ λ apart. are b small
     ] refl
+
+-- what is so is so where a result is an error
+pub on_err : {T E P : Type 0} (r : Result T E) → P → OnErr r P
+on_err (Ok x) so = tt
+on_err (Err e) so = so
 
 -- a mark was put, or there was no memory for it
 pub put_marked : {T E : Type 0} (r : Result T E) (old new : MarksValue) (a : Addr) (s : Writes)

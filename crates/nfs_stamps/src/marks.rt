@@ -4,11 +4,12 @@ ghost use Rattle.std.specs.Prelude.{◌≡◌, [], None, OnErr, OnOk, Some, if�
 ghost use Rattle.nfs_objects.specs.Values.{is_addr};
 ghost use Rattle.nfs_objects.specs.declared.address.Addr.{Addr};
 ghost use Rattle.nfs_stamps.specs.Marking.{IsMarked, is_large, stamp_at};
+ghost use Rattle.nfs_tables.specs.Tables.{entries};
 
 use crate::log::Naming;
 use crate::stamp::Stamp;
-use indexmap::IndexMap;
 use nfs_objects::Addr;
+use nfs_tables::{Placing, Table};
 use std::alloc::{AllocError, Global};
 use std::marker::Model;
 
@@ -31,26 +32,27 @@ pub fn is_large(address: Addr) -> bool
 /// is compared by value.
 #[derive(Drop)]
 pub struct Marks<J: Naming> {
-    stamps: IndexMap<Addr, Stamp<J>>,
+    stamps: Table<Addr, Stamp<J>>,
 }
 
 impl<J: Naming> Model for Marks<J> {
     ghost use Rattle.nfs_stamps.specs.Marking.{AreLarge, MarksValue};
+    ghost use Rattle.nfs_tables.specs.Tables.{entries};
 
     ghost Value = { MarksValue };
 
-    ghost view = { λ m. m.stamps.entries };
+    ghost view = { λ m. entries m.stamps };
 
-    ghost invariant = { λ m. AreLarge m.stamps.entries };
+    ghost invariant = { λ m. AreLarge (entries m.stamps) };
 }
 
 impl<J: Naming> Marks<J> {
-    /// No marks.
-    pub fn new(alloc: Global) -> Marks<J>
+    /// No marks. Addresses are placed so.
+    pub fn new(alloc: Global, placing: Placing) -> Marks<J>
         ensures { result ≡ [] }
     {
         Marks {
-            stamps: IndexMap::new(alloc),
+            stamps: Table::new(alloc, placing),
         }
     }
 
@@ -87,25 +89,27 @@ impl<J: Naming> Marks<J> {
 
 /// Puts a mark at an address. An error comes only where it had none, and changes nothing.
 fn put<J: Naming>(
-    stamps: &mut IndexMap<Addr, Stamp<J>>,
+    stamps: &mut Table<Addr, Stamp<J>>,
     address: Addr,
     stamp: Stamp<J>,
 ) -> Result<(), AllocError>
-    ensures ok { OnOk result ((b : Addr) → stamp_at stamps.new.entries b
-        ≡ (if is_addr address b then Some stamp else stamp_at stamps.old.entries b)) }
-    ensures same { OnErr result (stamps.new.entries ≡ stamps.old.entries) }
-    ensures absent { OnErr result (stamp_at stamps.old.entries address ≡ None) }
+    ensures ok { OnOk result ((b : Addr) → stamp_at (entries stamps.new) b
+        ≡ (if is_addr address b then Some stamp else stamp_at (entries stamps.old) b)) }
+    ensures same { OnErr result (entries stamps.new ≡ entries stamps.old) }
+    ensures absent { OnErr result (stamp_at (entries stamps.old) address ≡ None) }
 {
-    match stamps.insert(address, stamp) {
-        Ok(_) => Ok(()),
-        Err(_) => Err(AllocError),
+    if let Some(place) = stamps.get_mut(&address) {
+        *place = stamp;
+        return Ok(());
     }
+    stamps.add(address, stamp)?;
+    Ok(())
 }
 
 /// Takes the mark of an address away.
-fn remove<J: Naming>(stamps: &mut IndexMap<Addr, Stamp<J>>, address: Addr)
-    ensures { (b : Addr) → stamp_at stamps.new.entries b
-        ≡ (if is_addr address b then None else stamp_at stamps.old.entries b) }
+fn remove<J: Naming>(stamps: &mut Table<Addr, Stamp<J>>, address: Addr)
+    ensures { (b : Addr) → stamp_at (entries stamps.new) b
+        ≡ (if is_addr address b then None else stamp_at (entries stamps.old) b) }
 {
-    stamps.swap_remove(&address);
+    stamps.remove(&address);
 }

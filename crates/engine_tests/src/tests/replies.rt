@@ -6,6 +6,7 @@ ghost use Rattle.nfs_replies.specs.Replies.{kept_of};
 
 use bytes::Bytes;
 use nfs_replies::{Capacity, Hashed, RecordKey, Replies, Sought};
+use nfs_tables::Placing;
 use std::alloc::{AllocError, Global};
 use std::test::Fail;
 
@@ -39,7 +40,7 @@ const OTHER_KEY: [u8; 16] = [8; 16];
 /// Room for so many replies of each host.
 fn replies(alloc: Global, capacity: usize) -> Result<Replies, Fail> {
     let capacity = Capacity::new(capacity).ok_or("a capacity")?;
-    Ok(Replies::new(alloc, capacity, RecordKey::new(&KEY)))
+    Ok(Replies::new(alloc, capacity, RecordKey::new(&KEY), Placing::new(&KEY)))
 }
 
 /// The reply that a record gets: the kept one, or else this one, which is kept then.

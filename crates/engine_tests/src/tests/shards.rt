@@ -2,11 +2,54 @@
 
 use nfs_engine::{Had, ReserveError, Shard};
 use nfs_objects::{Addr, Mode, Reserved};
+use nfs_tables::Placing;
 use std::alloc::{AllocError, Global};
 use std::test::Fail;
 
 /// An address of shard 3, where nothing stands.
 const PLACE: Addr = Addr::Inode(19);
+
+/// So many addresses that a shard takes a larger map for them, and has most of them still in the one before.
+const MANY: u64 = 10_000;
+
+/// How addresses are placed in these shards.
+fn placing() -> Placing {
+    Placing::new(&[7; 16])
+}
+
+/// The address of a block of a file of shard 3.
+fn block(index: u64) -> Addr {
+    Addr::Block { file: 19, index }
+}
+
+/// Whether a holder gets each of many addresses.
+fn gets_all(alloc: Global, shard: &mut Shard, id: u64) -> Result<bool, AllocError> {
+    for index in 0..MANY {
+        if excluder(&shard.acquire(alloc, block(index), Mode::Exclusive, id)?).is_some() {
+            return Ok(false);
+        }
+    }
+    Ok(true)
+}
+
+/// Lets every second address go, from the first on.
+fn let_half_go(shard: &mut Shard, id: u64) {
+    for index in 0..MANY {
+        if index % 2 == 0 {
+            shard.release(block(index), id);
+        }
+    }
+}
+
+/// Whether a holder holds every second address, from the second on, and no other.
+fn holds_half(shard: &Shard, id: u64) -> bool {
+    for index in 0..MANY {
+        if shard.holds(block(index), id) != (index % 2 == 1) {
+            return false;
+        }
+    }
+    true
+}
 
 /// A holder asks for an address: who excludes it, if anybody, and how many addresses are held then.
 #[derive(Clone, Copy)]
@@ -78,7 +121,7 @@ fn reserved(shard: &mut Shard, id: u64) -> Result<Reserved, ReserveError> {
 
 #[test]
 fn shared_stands_beside_shared(rt: HostRuntime) -> Result<(), Fail> {
-    let mut shard = Shard::new(rt.alloc(), 3);
+    let mut shard = Shard::new(rt.alloc(), placing(), 3);
     let rows = [
         asks(Mode::Shared, 1, None),
         asks(Mode::Shared, 2, None),
@@ -94,7 +137,7 @@ fn shared_stands_beside_shared(rt: HostRuntime) -> Result<(), Fail> {
 
 #[test]
 fn exclusive_stands_alone(rt: HostRuntime) -> Result<(), Fail> {
-    let mut shard = Shard::new(rt.alloc(), 3);
+    let mut shard = Shard::new(rt.alloc(), placing(), 3);
     let rows = [
         asks(Mode::Exclusive, 1, None),
         asks(Mode::Shared, 2, Some(1)),
@@ -106,10 +149,22 @@ fn exclusive_stands_alone(rt: HostRuntime) -> Result<(), Fail> {
     Ok(())
 }
 
+/// While a shard's addresses move to a larger map, each is held and let go as ever.
+#[test]
+fn many_addresses_are_held(rt: HostRuntime) -> Result<(), Fail> {
+    let mut shard = Shard::new(rt.alloc(), placing(), 3);
+    assert!(rt; gets_all(rt.alloc(), &mut shard, 1)?);
+    assert_eq!(rt; shard.locked(), 10_000);
+    let_half_go(&mut shard, 1);
+    assert_eq!(rt; shard.locked(), 5_000);
+    assert!(rt; holds_half(&shard, 1));
+    Ok(())
+}
+
 /// One that does not hold the address lets nothing go.
 #[test]
 fn another_cannot_let_go(rt: HostRuntime) -> Result<(), Fail> {
-    let mut shard = Shard::new(rt.alloc(), 3);
+    let mut shard = Shard::new(rt.alloc(), placing(), 3);
     assert!(rt; is_answered(rt.alloc(), &mut shard, asks(Mode::Exclusive, 1, None))?);
     shard.release(PLACE, 2);
     shard.release(Addr::Inode(35), 1);
@@ -120,7 +175,7 @@ fn another_cannot_let_go(rt: HostRuntime) -> Result<(), Fail> {
 /// Addresses where nothing stands, as handles of what was removed or of nothing ever name them.
 #[test]
 fn what_was_only_looked_at_leaves_nothing(rt: HostRuntime) -> Result<(), Fail> {
-    let mut shard = Shard::new(rt.alloc(), 3);
+    let mut shard = Shard::new(rt.alloc(), placing(), 3);
     assert_eq!(rt; shard.locked(), 0);
     let far = Addr::Inode(u64::MAX - 12);
     for address in [Addr::Inode(3), PLACE, far] {
@@ -140,7 +195,7 @@ fn what_was_only_looked_at_leaves_nothing(rt: HostRuntime) -> Result<(), Fail> {
 
 #[test]
 fn two_calls_get_two_numbers(rt: HostRuntime) -> Result<(), Fail> {
-    let mut shard = Shard::new(rt.alloc(), 7);
+    let mut shard = Shard::new(rt.alloc(), placing(), 7);
     let first = reserved(&mut shard, 1)?;
     let second = reserved(&mut shard, 2)?;
     assert_eq!(rt; (first.number % 16, second.number % 16), (7, 7));
@@ -160,7 +215,7 @@ fn two_calls_get_two_numbers(rt: HostRuntime) -> Result<(), Fail> {
 
 #[test]
 fn a_call_gets_two_numbers(rt: HostRuntime) -> Result<(), Fail> {
-    let mut shard = Shard::new(rt.alloc(), 15);
+    let mut shard = Shard::new(rt.alloc(), placing(), 15);
     let first = reserved(&mut shard, 1)?;
     let second = reserved(&mut shard, 1)?;
     assert_eq!(rt; (first.number % 16, second.number % 16), (15, 15));
@@ -172,7 +227,7 @@ fn a_call_gets_two_numbers(rt: HostRuntime) -> Result<(), Fail> {
 /// A call that gives its number back takes its generation along.
 #[test]
 fn a_generation_is_given_once(rt: HostRuntime) -> Result<(), Fail> {
-    let mut shard = Shard::new(rt.alloc(), 7);
+    let mut shard = Shard::new(rt.alloc(), placing(), 7);
     let first = reserved(&mut shard, 1)?;
     shard.release(Addr::Inode(first.number), 1);
     assert_eq!(rt; shard.locked(), 0);
@@ -186,7 +241,7 @@ const LOW: [u64; 5] = [3, 19, 35, 51, 67];
 
 #[test]
 fn a_number_that_another_looks_at_is_not_given(rt: HostRuntime) -> Result<(), Fail> {
-    let mut shard = Shard::new(rt.alloc(), 3);
+    let mut shard = Shard::new(rt.alloc(), placing(), 3);
     for (before, number) in LOW.iter().enumerate() {
         let row = Row {
             address: Addr::Inode(*number),

@@ -1,6 +1,6 @@
-use Rattle.std.proofs.Common.{◌∙◌, ◌+◌, ◌<◌, ◌≤◌, Bool, Some, arith, cond, option_map, subst, sym}
+use Rattle.std.proofs.Common.{◌≡◌, ◌∙◌, ◌+◌, ◌<◌, ◌≤◌, Bool, None, Option, Some, arith, cond, option_map, subst, sym}
 use Rattle.std.specs.Arc.{arc_value}
-use Rattle.indexmap.specs.IndexMap.{UpdatesBy, spare}
+use Rattle.nfs_tables.specs.Tables as tables
 use Rattle.nfs_objects.proofs.ViewLookupLemmas.{same_address, so-ok}
 use Rattle.nfs_engine.proofs.StandingCountLemmas.{given-some}
 use Rattle.nfs_engine.proofs.TidySlotLemmas.{filled-of, needs-new, puts-new, puts-nothing, puts-there, stood-nowhere}
@@ -23,10 +23,21 @@ returns-in-Some-clause-stood c =
     stood-there c.args.slots.now c.args.address (option_map arc_value c.args.object) c.in-Some.slot.now
     c.in-Some.ensures.value c.is_some-stood.result c.is_some-stood.ensures
 
+pub returns-in-Some-clause-room : goal.returns-in-Some-clause-room
+returns-in-Some-clause-room c =
+    let kept : Kept = record { object = c.args.object; last = c.max-last.result } in
+    omega (arith, (c.get_mut.follows.holds kept).room)
+
+pub add-requires : goal.add-requires
+add-requires c = record {
+  absent = subst (λ (t : tables.TableValue _ _). tables.value_at same_address t c.args.address ≡ None)
+      (sym c.get_mut.follows.holds-at-none) (sym c.in_default.ensures.value);
+}
+
 pub unwrap-requires : goal.unwrap-requires
 unwrap-requires c =
     let object = option_map arc_value c.args.object in
-    c.insert.ensures.succeeds (subst (λ m. 0 < spare m) (sym c.get_mut.follows.holds-at-none)
+    c.add.ensures.succeeds (subst (λ (t : tables.TableValue _ _). 0 < t.room) (sym c.get_mut.follows.holds-at-none)
     (c.requires (needs-new c.args.slots.now c.args.address object c.in_default.ensures.value
     (sym (given-some arc_value c.args.object c.is_some.result c.is_some.ensures) ∙ c.if-is_some.true))))
 
@@ -37,9 +48,9 @@ returns-then-is_some-clause-puts c =
     puts-new c.args.slots.now c.args.address object c.in_default.ensures.value
     (sym (given-some arc_value c.args.object c.is_some.result c.is_some.ensures) ∙ c.if-is_some.true) kept
     (filled-of empty_kept object c.generation-given.result c.generation-given.result (omega arith)
-    c.generation-given.ensures) c.insert.new.self
-    (subst (λ m. UpdatesBy same_address (same_address c.args.address) m c.insert.new.self (Some kept))
-    c.get_mut.follows.holds-at-none (so-ok c.unwrap.ensures c.insert.ensures.updates))
+    c.generation-given.ensures) c.add.new.self
+    (subst (λ (t : tables.TableValue _ _). tables.Changes same_address t c.add.new.self c.args.address (Some kept))
+    c.get_mut.follows.holds-at-none (so-ok c.unwrap.ensures c.add.ensures.ok))
 
 pub returns-then-is_some-clause-stood : goal.returns-then-is_some-clause-stood
 returns-then-is_some-clause-stood c =
@@ -48,15 +59,17 @@ returns-then-is_some-clause-stood c =
 pub returns-then-is_some-clause-room : goal.returns-then-is_some-clause-room
 returns-then-is_some-clause-room c =
     let object = option_map arc_value c.args.object in
-    subst (λ (b : Bool). spare c.args.slots.now ≤ spare c.insert.new.self + cond b 1 0)
+    subst (λ (b : Bool). c.args.slots.now.room ≤ c.add.new.self.room + cond b 1 0)
     (sym (needs-new c.args.slots.now c.args.address object c.in_default.ensures.value
     (sym (given-some arc_value c.args.object c.is_some.result c.is_some.ensures) ∙ c.if-is_some.true)))
-    (subst (λ m. spare m ≤ spare c.insert.new.self + 1) c.get_mut.follows.holds-at-none c.insert.ensures.spare)
+    (subst (λ (t : tables.TableValue _ _). t.room ≤ c.add.new.self.room + 1) c.get_mut.follows.holds-at-none
+    c.add.ensures.room)
 
 pub returns-else-is_some-clause-puts : goal.returns-else-is_some-clause-puts
 returns-else-is_some-clause-puts c =
     let object = option_map arc_value c.args.object in
-    subst (λ m. Puts (kept_slots c.args.slots.now.entries) (kept_slots m.entries) (c.args.address, object))
+    subst (λ (t : tables.TableValue _ _). Puts (kept_slots (tables.entries c.args.slots.now))
+    (kept_slots (tables.entries t)) (c.args.address, object))
     (sym c.get_mut.follows.holds-at-none)
     (puts-nothing c.args.slots.now c.args.address object c.in_default.ensures.value
     (sym (given-some arc_value c.args.object c.is_some.result c.is_some.ensures) ∙ c.if-is_some.false))

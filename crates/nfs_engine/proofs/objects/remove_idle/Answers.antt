@@ -1,4 +1,5 @@
 use Rattle.std.proofs.Common.{◌∙◌, ◌+◌, arith, drop, map, subst}
+use Rattle.nfs_tables.specs.Tables.{entries}
 use Rattle.nfs_objects.specs.Values.{write_value}
 use Rattle.nfs_engine.proofs.TidySlotLemmas.{Writes, next-write, out-store, out-tidy}
 use Rattle.nfs_engine.specs.Tables.{IsTidyBut, kept_slots}
@@ -6,8 +7,8 @@ use Rattle.nfs_engine.proofs.objects.remove_idle.Goals as goal
 
 pub loop-write-preserved : goal.loop-write-preserved
 loop-write-preserved c =
-    let old = kept_slots c.loop-write.slots.entries in
-    let new = kept_slots c.take_out_idle.new.slots.entries in
+    let old = kept_slots (entries c.loop-write.slots) in
+    let new = kept_slots (entries c.take_out_idle.new.slots) in
     let write = write_value c.write-item.result in
     let rest = drop (c.loop-write.write-index + 1) (map write_value c.args.writes.now) in (
       out-store old new write c.take_out_idle.ensures ∙ c.loop-write.invariant.0,

@@ -4,4 +4,4 @@ use Rattle.nfs_stamps.proofs.marks.remove.Goals as goal
 
 pub returns : goal.returns
 returns g c b =
-    stamp_changed c.args.stamps.now c.swap_remove.new.self c.args.address None c.swap_remove.ensures.updates b
+    stamp_changed c.args.stamps.now c.remove.new.self c.args.address None c.remove.ensures.changes b

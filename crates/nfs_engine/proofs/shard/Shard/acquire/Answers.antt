@@ -1,8 +1,13 @@
-use Rattle.std.proofs.Common.{None, refl, ap, ◌∙◌}
+use Rattle.std.proofs.Common.{None, option_map, refl, sym, ap, ◌∙◌}
 use Rattle.std.proofs.lemmas.Result.{err_from_is_err_and}
+use Rattle.nfs_tables.specs.Tables.{TableValue, entries}
+use Rattle.nfs_objects.specs.declared.address.Addr.{Addr}
+use Rattle.nfs_engine.specs.Found.{found}
+use Rattle.nfs_engine.specs.Shards.{slot_value, slots_seen}
 use Rattle.nfs_engine.specs.declared.slot.Slot.{Slot}
 use Rattle.nfs_engine.proofs.SlotStepLemmas.{absent_free, begins, begins_sound, number_acquires, other_acquires}
 use Rattle.nfs_engine.proofs.SlotStepLemmas.{unslotted}
+use Rattle.nfs_engine.proofs.AddressMapLemmas.{found-lookup}
 use Rattle.nfs_engine.proofs.shard.Shard.acquire.Goals as goal
 
 pub invariant_of-self : goal.invariant_of-self
@@ -62,7 +67,7 @@ returns-in_err-add c =
       absent_free _ _ c.self.inside.numbers c.self.inside.others c.args.address c.self.invariant
           (rw (← c.self.view_is) at c.in_default.ensures) c.in_default-get_mut.ensures.value c.args.mode,
       unslotted _ _ c.self.inside.numbers c.self.inside.others c.args.address c.get_mut.follows.lender-at-none
-          (ap (λ m. m.entries) c.get_mut.follows.holds-at-none),
+          (ap (λ (m : TableValue Addr Slot). entries m) c.get_mut.follows.holds-at-none),
     )
 
 pub returns-in_err-add_slot : goal.returns-in_err-add_slot
@@ -72,5 +77,12 @@ returns-in_err-add_slot c =
       absent_free _ _ c.self.inside.numbers c.self.inside.others c.args.address c.self.invariant
           (rw (← c.self.view_is) at c.in_default.ensures) c.in_default-get_mut.ensures.value c.args.mode,
       unslotted _ _ c.self.inside.numbers c.self.inside.others c.args.address c.add_slot.new.others
-          (c.in_err-add_slot.ensures.err ∙ ap (λ m. m.entries) c.get_mut.follows.holds-at-none),
+          (c.in_err-add_slot.ensures.err
+          ∙ ap (λ (m : TableValue Addr Slot). entries m) c.get_mut.follows.holds-at-none),
     )
+
+pub add_slot-requires : goal.add_slot-requires
+add_slot-requires c =
+    ap (λ (m : TableValue Addr Slot). found (slots_seen (entries m)) c.args.address) c.get_mut.follows.holds-at-none
+    ∙ found-lookup slot_value c.args.address (entries c.self.inside.others)
+    ∙ ap (option_map slot_value) (sym c.in_default-get_mut.ensures.value)

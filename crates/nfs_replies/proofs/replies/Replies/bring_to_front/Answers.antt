@@ -1,6 +1,7 @@
 use Rattle.std.proofs.Common.{◌≡◌, Some, None, sym, ap, ◌∙◌}
 use Rattle.std.specs.Map.{lookup}
 use Rattle.std.specs.Option.{option_copied_mut}
+use Rattle.nfs_tables.specs.Tables.{entries}
 use Rattle.nfs_replies.specs.Kept.{same_bytes}
 use Rattle.nfs_replies.specs.Kept.ReplyEvent.{Repeated}
 use Rattle.nfs_replies.proofs.CacheLemmas.{promoted-left, promoted_by}
@@ -16,9 +17,9 @@ invariant_of-self c = elim c.match-get_mut.branch [
       let bytes = c.args.sought.bytes.now in
       let was = w.in-Some.list.now in
       let new = w.promote.new.self in
-      let found : Some was ≡ lookup (same_bytes host) fields.lists.entries =
+      let found : Some was ≡ lookup (same_bytes host) (entries fields.lists) =
       sym (ap option_copied_mut w.in-Some.is) ∙ c.get_mut.ensures.value in
-      let is = listed-at fields.capacity fields.key fields.lists.entries host was c.self.invariant found in
+      let is = listed-at fields.capacity fields.key (entries fields.lists) host was c.self.invariant found in
       let left = promoted-left fields.capacity fields.key host bytes was is new
       (promoted_by fields.key was new bytes _ _ c.probe-probe.ensures.bytes c.probe-probe.ensures.hash
       w.promote.ensures.entries) in
@@ -35,9 +36,9 @@ returns c = elim c.match-get_mut.branch [
       let bytes = c.args.sought.bytes.now in
       let was = w.in-Some.list.now in
       let new = w.promote.new.self in
-      let found : Some was ≡ lookup (same_bytes host) fields.lists.entries =
+      let found : Some was ≡ lookup (same_bytes host) (entries fields.lists) =
       sym (ap option_copied_mut w.in-Some.is) ∙ c.get_mut.ensures.value in
-      let is = listed-at fields.capacity fields.key fields.lists.entries host was c.self.invariant found in
+      let is = listed-at fields.capacity fields.key (entries fields.lists) host was c.self.invariant found in
       let left = promoted-left fields.capacity fields.key host bytes was is new
       (promoted_by fields.key was new bytes _ _ c.probe-probe.ensures.bytes c.probe-probe.ensures.hash
       w.promote.ensures.entries) in
@@ -46,7 +47,7 @@ returns c = elim c.match-get_mut.branch [
   | in_default w ↦ (
       let fields = c.self.inside in
       rw (w.self-inside-is, c.get_mut.follows.holds-at-none, ← c.self.view_is) (is-after-unkept _ c.args.host.now
-      c.args.sought.bytes.now (reply-at fields.capacity fields.key fields.lists.entries c.args.host.now
+      c.args.sought.bytes.now (reply-at fields.capacity fields.key (entries fields.lists) c.args.host.now
       c.args.sought.bytes.now None c.self.invariant
       w.in_default.ensures.value)))
 ]

@@ -1,5 +1,6 @@
 use Rattle.std.proofs.Common.{◌≡◌, None, sym, ap, subst, ◌∙◌}
 use Rattle.std.specs.Option.{option_copied_mut}
+use Rattle.nfs_tables.specs.Tables.{entries}
 use Rattle.nfs_replies.specs.Kept.{reply_for}
 use Rattle.nfs_replies.specs.Replies.{RepliesValue, kept_of}
 use Rattle.nfs_replies.proofs.HostMapLemmas.{is-after-put, listed-put, no-list-at, same-unput}
@@ -39,4 +40,4 @@ returns-in-Some-clause-err c =
 
 pub keep_first-requires : goal.keep_first-requires
 keep_first-requires c = rw c.get_mut.follows.holds-at-none (no-list-at c.self.inside.capacity
-    c.self.inside.lists.entries c.args.host.now c.in-None.ensures.value)
+    (entries c.self.inside.lists) c.args.host.now c.in-None.ensures.value)

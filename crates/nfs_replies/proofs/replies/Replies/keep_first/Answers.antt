@@ -1,12 +1,25 @@
-use Rattle.std.proofs.Common.{◌≡◌, [], Some, None, refl, sym, subst}
-use Rattle.indexmap.specs.IndexMap.{Updates}
+use Rattle.std.proofs.Common.{◌≡◌, [], Some, None, refl, sym, ap, ◌∙◌, subst}
+use Rattle.std.specs.Map.{lookup}
 use Rattle.lru.specs.LruCache.{lru_cache}
+use Rattle.nfs_tables.specs.Tables.{Changes, entries}
 use Rattle.nfs_replies.specs.Kept.{ReplyEvent, same_bytes}
 use Rattle.nfs_replies.specs.Kept.ReplyEvent.{Replied}
 use Rattle.nfs_replies.specs.Replies.{RepliesValue, list_of}
 use Rattle.nfs_replies.proofs.CacheLemmas.{IsLeftBy, empty-listed, put-left}
 use Rattle.nfs_replies.proofs.HostMapLemmas.{is-after-new, listed-new, none-stands}
 use Rattle.nfs_replies.proofs.replies.Replies.keep_first.Goals as goal
+
+-- the host stands nowhere
+pub add-requires : goal.add-requires
+add-requires c =
+    let fields = c.self.inside in
+    let none = subst (λ (replies : RepliesValue). list_of replies c.args.host.now ≡ None) (sym c.self.view_is)
+    c.requires in
+    record {
+      absent = ap (λ h. lookup (same_bytes h) (entries c.reserve.new.self)) c.in_ok-host.ensures.host
+          ∙ ap (lookup (same_bytes c.args.host.now)) c.reserve.ensures.entries
+          ∙ none-stands fields.capacity (entries fields.lists) c.args.host.now none;
+    }
 
 abbrev event : goal.Joined-unwrap → ReplyEvent
 event c = Replied c.args.host.now c.args.bytes c.args.reply
@@ -23,13 +36,13 @@ left c =
 
 -- and stands at the host, with all others as they were
 inserted : (c : goal.Joined-unwrap) →
-    Updates same_bytes c.reserve.new.self c.insert.new.self c.in_ok-host.host (Some c.in_ok-host.list)
-inserted c = rw c.unwrap.ensures at c.insert.ensures.updates
+    Changes same_bytes c.reserve.new.self c.add.new.self c.in_ok-host.host (Some c.in_ok-host.list)
+inserted c = rw c.unwrap.ensures at c.add.ensures.ok
 
 pub invariant_of-self-2 : goal.invariant_of-self-2
 invariant_of-self-2 c =
-    listed-new c.self.inside.capacity (event c) c.in_ok-host.host c.self.inside.lists.entries c.reserve.new.self
-    c.insert.new.self c.in_ok-host.list c.in_ok-host.ensures.host c.reserve.ensures.entries (inserted c)
+    listed-new c.self.inside.capacity (event c) c.in_ok-host.host (entries c.self.inside.lists) c.reserve.new.self
+    c.add.new.self c.in_ok-host.list c.in_ok-host.ensures.host c.reserve.ensures.entries (inserted c)
     c.self.inside.key c.self.invariant (left c).0
 
 pub returns-clause-front : goal.returns-clause-front
@@ -37,6 +50,6 @@ returns-clause-front c =
     let fields = c.self.inside in
     let none = subst (λ (replies : RepliesValue). list_of replies c.args.host.now ≡ None) (sym c.self.view_is)
     c.requires in
-    rw (← c.self.view_is) (is-after-new fields.capacity (event c) c.in_ok-host.host fields.lists.entries
-    c.reserve.new.self c.insert.new.self c.in_ok-host.list c.in_ok-host.ensures.host c.reserve.ensures.entries
-    (inserted c) (none-stands fields.capacity fields.lists.entries c.args.host.now none) (left c).1)
+    rw (← c.self.view_is) (is-after-new fields.capacity (event c) c.in_ok-host.host (entries fields.lists)
+    c.reserve.new.self c.add.new.self c.in_ok-host.list c.in_ok-host.ensures.host c.reserve.ensures.entries
+    (inserted c) (none-stands fields.capacity (entries fields.lists) c.args.host.now none) (left c).1)

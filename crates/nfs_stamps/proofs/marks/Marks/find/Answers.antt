@@ -1,6 +1,7 @@
 use Rattle.std.proofs.Common.{◌≡◌, false, sym, ◌∙◌, ap}
 use Rattle.nfs_stamps.proofs.MarkLookupLemmas.{stamp_lookup}
 use Rattle.nfs_stamps.specs.Marking.{is_large, stamp_at}
+use Rattle.nfs_tables.specs.Tables.{entries}
 use Rattle.nfs_stamps.proofs.marks.Marks.find.Goals as goal
 
 pub returns-then-not-is_large : goal.returns-then-not-is_large
@@ -11,5 +12,5 @@ returns-then-not-is_large g c =
 pub returns : goal.returns
 returns g c =
     c.get.ensures.value
-    ∙ (sym (stamp_lookup c.args.address c.self.inside.stamps.entries)
+    ∙ (sym (stamp_lookup c.args.address (entries c.self.inside.stamps))
     ∙ ap (λ m. stamp_at m c.args.address) c.self.view_is)

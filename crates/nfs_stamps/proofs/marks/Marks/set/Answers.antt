@@ -1,6 +1,7 @@
 use Rattle.std.proofs.Common.{◌≡◌, true, false, None, Some, option_copied, sym, ◌∙◌, ap}
 use Rattle.nfs_stamps.proofs.MarkLookupLemmas.{large_kept, marked_as, marked_not, put_large, put_marked}
 use Rattle.nfs_stamps.specs.Marking.{is_large, stamp_at}
+use Rattle.nfs_tables.specs.Tables.{entries}
 use Rattle.nfs_stamps.proofs.marks.Marks.set.Goals as goal
 
 pub returns-then-not-is_large : goal.returns-then-not-is_large
@@ -12,25 +13,25 @@ returns-then-not-is_large g c =
 pub invariant_of-self : goal.invariant_of-self
 invariant_of-self g c =
     let large : is_large c.args.address ≡ true = cc c.if-not-is_large.ensures in
-    put_large c.put.result c.self.inside.stamps.entries c.put.new.stamps.entries c.args.address c.again.result
+    put_large c.put.result (entries c.self.inside.stamps) (entries c.put.new.stamps) c.args.address c.again.result
     c.put.ensures.ok c.put.ensures.same c.self.invariant large
 
 pub invariant_of-self-in-None : goal.invariant_of-self-in-None
 invariant_of-self-in-None g c =
     let large : is_large c.args.address ≡ true = cc c.if-not-is_large.ensures in
-    large_kept c.self.inside.stamps.entries c.remove.new.stamps.entries c.args.address None c.self.invariant large
+    large_kept (entries c.self.inside.stamps) (entries c.remove.new.stamps) c.args.address None c.self.invariant large
     c.remove.ensures
 
 pub returns-in-Some : goal.returns-in-Some
 returns-in-Some g c =
-    marked_as c.self.inside.stamps.entries c.args.self.now c.put.new.stamps.entries c.args.address (Some c.again.result)
-    (option_copied c.args.stamp) c.self.view_is
+    marked_as (entries c.self.inside.stamps) c.args.self.now (entries c.put.new.stamps) c.args.address
+    (Some c.again.result) (option_copied c.args.stamp) c.self.view_is
     (ap (λ s. Some s) c.again.ensures ∙ sym (ap (λ o. option_copied o) c.in-Some.is))
-    (put_marked c.put.result c.self.inside.stamps.entries c.put.new.stamps.entries c.args.address c.again.result
+    (put_marked c.put.result (entries c.self.inside.stamps) (entries c.put.new.stamps) c.args.address c.again.result
     c.put.ensures.ok c.put.ensures.same c.put.ensures.absent)
 
 pub returns-in-None : goal.returns-in-None
 returns-in-None g c =
-    marked_as c.self.inside.stamps.entries c.args.self.now c.remove.new.stamps.entries c.args.address None
+    marked_as (entries c.self.inside.stamps) c.args.self.now (entries c.remove.new.stamps) c.args.address None
     (option_copied c.args.stamp) c.self.view_is (sym (ap (λ o. option_copied o) c.in-None.is))
     (λ b s is. sym (c.remove.ensures b) ∙ is)

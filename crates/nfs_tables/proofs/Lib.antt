@@ -1,0 +1,2 @@
+pub mod LendingLemmas
+pub mod TwoMapLemmas
