@@ -21,7 +21,7 @@ ghost use Rattle.nlm_daemon.specs.Comes.{ComesTo, Sends, TurnsSending};
 ghost use Rattle.nlm_daemon.specs.Granted.{FindsGrant, FindsPending, IsPendingNow, grant_of, grant_places};
 
 use crate::answering::{Procedure, answer};
-use crate::locking::put;
+use crate::filing::put;
 use bytes::Bytes;
 use nfs_inodes::{exports, lives};
 use nfs_machine::Reply;

@@ -17,6 +17,7 @@ ghost use Rattle.nlm_daemon.specs.Answering.{answers_at_once, reads_exports};
 
 mod answering;
 mod checking;
+mod filing;
 mod freeing;
 mod granting;
 mod locking;

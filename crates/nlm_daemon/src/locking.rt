@@ -7,8 +7,8 @@ ghost use Rattle.nfs_machine.specs.LockSteps.{HeldUp, LockEnds, is_request};
 ghost use Rattle.nfs_objects.specs.Attempt.{EndsCall, EndsFirst, HaltsFirst, first_wanted_with};
 ghost use Rattle.nfs_objects.specs.Begins.{Begins};
 ghost use Rattle.nfs_objects.specs.Calls.{locks_at};
-ghost use Rattle.nfs_objects.specs.Knows.{Knows, TurnsWhere};
-ghost use Rattle.nfs_inodes.specs.Locks.{HasLocks, MayHave, locks_set};
+ghost use Rattle.nfs_objects.specs.Knows.{Knows};
+ghost use Rattle.nfs_inodes.specs.Locks.{HasLocks};
 ghost use Rattle.nfs_inodes.specs.Stops.{StopsAt};
 ghost use Rattle.nlm_daemon.specs.Answering.{is_locking, locking_call};
 ghost use Rattle.nlm_daemon.specs.Checks.{IsPlaceOf};
@@ -16,9 +16,10 @@ ghost use Rattle.nlm_daemon.specs.Comes.{ComesTo, lock_places};
 
 use crate::answering::{Procedure, answer};
 use crate::checking::{Place, place_of};
+use crate::filing::all_locks_of;
 use crate::granting::put_settled;
-use nfs_inodes::{File, locks_of, next_number, set_locks, set_locks_spending};
-use nfs_objects::{Addr, Change, Draft, Halt, Mode};
+use nfs_inodes::{next_number, set_locks_spending};
+use nfs_objects::{Change, Draft, Halt, Mode};
 use nlm_ranges::{LockRequest, LockedFile, OneFile};
 use side_wire::{LockArguments, NlmStatus};
 
@@ -116,43 +117,4 @@ fn held_up(
     let waiting = LockedFile::new(alloc, file.number, file.export, longer)?;
     set_locks_spending(draft, waiting, number)?;
     Ok(NlmStatus::Blocked)
-}
-
-/// What a file has, which may be nothing.
-///
-/// # Errors
-///
-/// `Need` of the exports or of what holds it, and `Memory`.
-pub(crate) fn all_locks_of(draft: &Draft<'_>, file: &File) -> Result<OneFile, Halt>
-    ensures { MatchResult result
-        (λ locks. Knows draft.now (λ k. HasLocks k.state file.now.known.number locks))
-        (StopsAt draft.now (Addr.Exports ∷ locks_at file.now.known.number)) }
-{
-    let Some(locks) = locks_of(draft, file.known.number)? else {
-        let none = OneFile::new(draft.alloc())?;
-        return Ok(none);
-    };
-    Ok(locks.clone()?)
-}
-
-/// Puts what a file has.
-///
-/// # Errors
-///
-/// `Need` of what has to be held for it, and `Memory`. The draft is of no use then.
-pub(crate) fn put(
-    draft: &mut Draft<'_>,
-    number: u64,
-    export: u32,
-    locks: OneFile,
-) -> Result<(), Halt>
-    requires { draft.old.modes.locks ≡ Mode.Exclusive }
-    ensures { MatchResult result
-        (λ _. TurnsWhere (λ k. MayHave k.state (record { number = number; export = export; file = locks }))
-        draft.old draft.new (locks_set number locks))
-        (StopsAt draft.old (locks_at number)) }
-{
-    let file = LockedFile::new(draft.alloc(), number, export, locks)?;
-    set_locks(draft, file)?;
-    Ok(())
 }

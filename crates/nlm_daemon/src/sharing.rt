@@ -11,7 +11,7 @@ ghost use Rattle.nlm_daemon.specs.Comes.{ComesTo, lock_places};
 
 use crate::answering::{Procedure, answer};
 use crate::checking::file_of;
-use crate::locking::{all_locks_of, put};
+use crate::filing::{all_locks_of, put};
 use nfs_inodes::locks_of;
 use nfs_objects::{Change, Draft, Halt, Mode};
 use side_wire::{NlmCall, NlmStatus, ShareAccess, ShareArguments, ShareMode};

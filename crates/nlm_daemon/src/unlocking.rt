@@ -10,8 +10,8 @@ ghost use Rattle.nlm_daemon.specs.Comes.{ComesTo, lock_places};
 
 use crate::answering::{Procedure, answer};
 use crate::checking::place_of;
+use crate::filing::put;
 use crate::granting::put_settled;
-use crate::locking::put;
 use nfs_inodes::locks_of;
 use nfs_objects::{Change, Draft, Halt, Mode};
 use side_wire::{CancelArguments, NlmStatus, UnlockArguments};

@@ -3,7 +3,9 @@ use Rattle.nfs_machine.proofs.MapChangeLemmas.{apart}
 use Rattle.nfs_inodes.proofs.ClimbLemmas.{climbs-first, climbs-next, tells-end, tells-root, tells-there}
 use Rattle.nfs_inodes.proofs.tree.is_within.Goals as goal
 use Rattle.nfs_inodes.proofs.tree.is_within.Goals.{else-loop-level-test}
-use Rattle.nfs_inodes.proofs.tree.is_within.Goals.{then-loop-level-test+else-number-upper+in_ok-above+else-above-number+else-level-reads}
+use Rattle.nfs_inodes.proofs.tree.is_within.Goals.{
+  then-loop-level-test+else-number-upper+in_ok-above+else-above-number+else-level-reads,
+}
 
 pub loop-level-init : goal.loop-level-init
 loop-level-init c = climbs-first c.args.draft.now c.args.upper c.args.directory.now c.requires.none c.requires.known

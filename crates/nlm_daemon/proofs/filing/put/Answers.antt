@@ -1,5 +1,5 @@
 use Rattle.std.proofs.lemmas.Result.{err_from_is_err_and}
-use Rattle.nlm_daemon.proofs.locking.put.Goals as goal
+use Rattle.nlm_daemon.proofs.filing.put.Goals as goal
 
 pub returns-in_err-set_locks : goal.returns-in_err-set_locks
 returns-in_err-set_locks c =
