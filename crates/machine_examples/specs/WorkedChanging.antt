@@ -8,7 +8,7 @@ use Rattle.nfs_wire.specs.declared.calls.MkdirArguments.{MkdirArguments}
 use Rattle.nfs_wire.specs.declared.calls.MknodArguments.{MknodArguments}
 use Rattle.nfs_wire.specs.declared.calls.NfsCall.{NfsCall}
 use Rattle.nfs_wire.specs.declared.calls.NfsCall.TheVariants as nfs
-use Rattle.nfs_wire.specs.declared.calls.Place.{Place}
+use Rattle.nfs_wire.specs.declared.calls.DirOp.{DirOp}
 use Rattle.nfs_wire.specs.declared.calls.ReadArguments.{ReadArguments}
 use Rattle.nfs_wire.specs.declared.calls.ReaddirArguments.{ReaddirArguments}
 use Rattle.nfs_wire.specs.declared.calls.ReaddirplusArguments.{ReaddirplusArguments}
@@ -44,7 +44,7 @@ pub record WorkedChanging : Type 0 where
   pub null : Changes nfs.Null false
   pub getattr : (handle : List ℕ) → Changes (nfs.Getattr handle) false
   pub setattr : (a : SetattrArguments) → Changes (nfs.Setattr a) true
-  pub lookup : (place : Place) → Changes (nfs.Lookup place) false
+  pub lookup : (place : DirOp) → Changes (nfs.Lookup place) false
   pub access : (a : AccessArguments) → Changes (nfs.Access a) false
   pub readlink : (handle : List ℕ) → Changes (nfs.Readlink handle) false
   pub read : (a : ReadArguments) → Changes (nfs.Read a) false
@@ -53,8 +53,8 @@ pub record WorkedChanging : Type 0 where
   pub mkdir : (a : MkdirArguments) → Changes (nfs.Mkdir a) true
   pub symlink : (a : SymlinkArguments) → Changes (nfs.Symlink a) true
   pub mknod : (a : MknodArguments) → Changes (nfs.Mknod a) true
-  pub remove : (place : Place) → Changes (nfs.Remove place) true
-  pub rmdir : (place : Place) → Changes (nfs.Rmdir place) true
+  pub remove : (place : DirOp) → Changes (nfs.Remove place) true
+  pub rmdir : (place : DirOp) → Changes (nfs.Rmdir place) true
   pub rename : (a : RenameArguments) → Changes (nfs.Rename a) true
   pub link : (a : LinkArguments) → Changes (nfs.Link a) true
   pub readdir : (a : ReaddirArguments) → Changes (nfs.Readdir a) false

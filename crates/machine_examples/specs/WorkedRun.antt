@@ -12,7 +12,7 @@ use Rattle.nfs_wire.specs.declared.calls.CreateHow.TheVariants.{Unchecked}
 use Rattle.nfs_wire.specs.declared.calls.LinkArguments.{LinkArguments}
 use Rattle.nfs_wire.specs.declared.calls.NfsCall.{NfsCall}
 use Rattle.nfs_wire.specs.declared.calls.NfsCall.TheVariants as nfs
-use Rattle.nfs_wire.specs.declared.calls.Place.{Place}
+use Rattle.nfs_wire.specs.declared.calls.DirOp.{DirOp}
 use Rattle.nfs_wire.specs.declared.calls.ReaddirArguments.{ReaddirArguments}
 use Rattle.nfs_wire.specs.declared.calls.ReaddirplusArguments.{ReaddirplusArguments}
 use Rattle.nfs_wire.specs.declared.calls.RenameArguments.{RenameArguments}
@@ -96,7 +96,7 @@ abbrev pub opened : State
 opened = opening exported moment
 
 -- a file "x" is made, with the number 5 and the generation 1
-abbrev pub in_root : List ℕ → Place
+abbrev pub in_root : List ℕ → DirOp
 in_root name = record { directory = root_bytes; name = name }
 
 abbrev pub making : CreateArguments

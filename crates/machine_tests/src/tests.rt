@@ -26,8 +26,8 @@ use bytes::Bytes;
 use nfs_inodes::Known;
 use nfs_machine::{Ctx, ExportText, Exports, Limits, Moment, NameKey};
 use nfs_objects::{
-    Addr, Bits, CHANGING, Content, Counts, Directory, Entries, EntryMap, ExportTable, FileMap,
-    Halt, Inode, Leaf, MOUNTING, Mode, Object, PageList, READING, Reserved, Usage, View,
+    Addr, Bits, CHANGING, Content, Directory, Entries, EntryMap, ExportTable, FileMap, Inode, Leaf,
+    MOUNTING, Missing, Mode, NameCounts, Object, PageList, READING, Reserved, Usage, View,
 };
 use nfs_rpc::{Gids, Ids};
 use nfs_wire::{Attributes, DeviceNumber, FileType, Pieces, SetAttributes, SetTime, Time};
@@ -114,7 +114,7 @@ fn bare(alloc: Global) -> Result<Directory, AllocError> {
 /// The same with `a`, whose cookie is 3.
 fn with_a(alloc: Global, last_cookie: u64) -> Result<Directory, AllocError> {
     let pages = PageList::new(alloc)?.with_page(alloc, 0)?;
-    let counts = Counts::none(alloc)?.with_one_more(alloc, 33)?;
+    let counts = NameCounts::none(alloc)?.with_one_more(alloc, 33)?;
     Ok(Directory {
         parent: 1,
         last_cookie,
@@ -437,7 +437,7 @@ fn viewed(alloc: Global, inode: Inode, beside: Beside) -> Result<View, AllocErro
 }
 
 /// Whether a draft found it so, and did not halt.
-fn is_so(found: Result<bool, Halt>) -> bool {
+fn is_so(found: Result<bool, Missing>) -> bool {
     match found {
         Ok(is_so) => is_so,
         Err(halt) => {
@@ -448,9 +448,9 @@ fn is_so(found: Result<bool, Halt>) -> bool {
 }
 
 /// Whether just this address is asked for, in this mode.
-fn asks<T: Drop>(read: Result<T, Halt>, address: Addr, mode: Mode) -> bool {
+fn asks<T: Drop>(read: Result<T, Missing>, address: Addr, mode: Mode) -> bool {
     let asks = match &read {
-        Err(Halt::Need(asked)) => asked.as_slice() == [(address, mode)].as_slice(),
+        Err(Missing::Need(asked)) => asked.as_slice() == [(address, mode)].as_slice(),
         _ => false,
     };
     drop(read);
@@ -458,8 +458,8 @@ fn asks<T: Drop>(read: Result<T, Halt>, address: Addr, mode: Mode) -> bool {
 }
 
 /// Whether just one number is wanted.
-fn wants_a_number<T: Drop>(read: Result<T, Halt>) -> bool {
-    let wants = matches!(&read, Err(Halt::Fresh(1)));
+fn wants_a_number<T: Drop>(read: Result<T, Missing>) -> bool {
+    let wants = matches!(&read, Err(Missing::Fresh(1)));
     drop(read);
     wants
 }

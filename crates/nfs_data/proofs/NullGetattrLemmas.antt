@@ -17,7 +17,7 @@ use Rattle.nfs_objects.proofs.PromiseLemmas.{promised-unchanged}
 use Rattle.nfs_objects.specs.Begins.{Begins}
 use Rattle.nfs_objects.specs.Knows.{Knows}
 use Rattle.nfs_objects.specs.Promise.{Given, Held, IsPromised}
-use Rattle.nfs_objects.specs.Stands.{Kept}
+use Rattle.nfs_objects.specs.Stands.{StoreMeaning}
 use Rattle.nfs_objects.specs.Values.{DraftValue, done_value}
 use Rattle.nfs_inodes.specs.Known.{Means}
 use Rattle.nfs_inodes.specs.declared.found.Known.{Known}
@@ -50,7 +50,7 @@ getattr-step m ctx object result is = record {
 abbrev pub attributes_in : Result Known NfsStatus → Result Attributes NfsStatus
 attributes_in found = elim found [ Ok x ↦ Ok x.attributes | Err e ↦ Err e ]
 
-tells : (ctx : Ctx) (object : List ℕ) (k : Kept) (found : Result Known NfsStatus) → Means ctx object found k
+tells : (ctx : Ctx) (object : List ℕ) (k : StoreMeaning) (found : Result Known NfsStatus) → Means ctx object found k
     → told k.state ctx object ≡ attributes_in found
 tells ctx object k (Ok x) means = passed _ means.names (ap (λ a. Ok a) (sym (means.known).shows))
 tells ctx object k (Err e) means = failed _ means.refused

@@ -24,7 +24,7 @@ use Rattle.nfs_objects.proofs.UsageSumLemmas.{AllFit, turned-fit}
 use Rattle.nfs_objects.specs.Edits.{counted_anew, with_living}
 use Rattle.nfs_objects.specs.Knows.{Does, Knows, Possible, Turns}
 use Rattle.nfs_objects.specs.Sound.{Sound}
-use Rattle.nfs_objects.specs.Stands.{Kept}
+use Rattle.nfs_objects.specs.Stands.{StoreMeaning}
 use Rattle.nfs_objects.specs.Store.{Store}
 use Rattle.nfs_objects.specs.Values.{DraftValue}
 use Rattle.nfs_inodes.proofs.KeptBesideLemmas.{attributes-sound, bytes-is, bytes-sound, changed-is}
@@ -54,10 +54,10 @@ there living n o = get-inserted living n o n
     ∙ ap (λ b. cond b (Some o) (get living n)) ((unsigned_Decides n n).1 refl)
 
 -- the state where attributes of what lives at a number are set
-settled-state : (k : Kept) (n : ℕ) (o : Living) (set : Settings) → get k.state.objects n ≡ Some o
+settled-state : (k : StoreMeaning) (n : ℕ) (o : Living) (set : Settings) → get k.state.objects n ≡ Some o
     → (attributes_changed n set k).state ≡ with_object k.state n (with_settings set o)
 settled-state k n o set lives =
-    ap (λ (q : Kept). q.state)
+    ap (λ (q : StoreMeaning). q.state)
     (changed-is k n (k.links n) (λ o. Some (with_settings set o)) o (with_settings set o) lives refl)
 
 -- the state with the object of this size and these attributes
@@ -65,7 +65,7 @@ abbrev state_set : State → Known → Option ℕ → Settings → State
 state_set m x size set = with_object m x.number
     (with_settings set (shell x (content_after (content_at m x.number) size)))
 
-set-state : (k : Kept) (x : Known) (now : Time) (wanted : Option ℕ) (size : Option NewSize) (set : Settings)
+set-state : (k : StoreMeaning) (x : Known) (now : Time) (wanted : Option ℕ) (size : Option NewSize) (set : Settings)
     → IsKnown k.state x → IsSizeOf x wanted size
     → (attributes_changed x.number set (size_set now x.number wanted k)).state ≡ state_set k.state x wanted set
 set-state k x now None None set known sized = settled-state k x.number (object_at k.state x) set known.lives
@@ -75,7 +75,7 @@ set-state k x now (Some wanted) (Some new) set known sized =
     let file = with_content (object_at k.state x) now
     (Regular (resized (bytes_of (content_at k.state x.number)) wanted)) in
     let regular = subst (λ (y : Known). y.attributes.kind ≡ types.Regular) sized.0 new.file.kind in
-    ap (λ (q : Kept). (attributes_changed x.number set q).state)
+    ap (λ (q : StoreMeaning). (attributes_changed x.number set q).state)
     (bytes-is k x now (λ old. resized old wanted) (bytes_of (content_at k.state x.number)) known
     (regular-bytes (content_at k.state x.number) (kind-is k.state x known ∙ regular)))
     ∙ settled-state (counted_anew x.number (get k.state.objects x.number)
@@ -84,7 +84,7 @@ set-state k x now (Some wanted) (Some new) set known sized =
     ∙ ap (λ living. record k.state { objects = living })
     (put-again k.state.objects x.number file (with_settings set file))
 
-sized-sound : (k : Kept) (n : ℕ) (now : Time) (size : Option ℕ) → Sound k → AllFit (size_set now n size k).state
+sized-sound : (k : StoreMeaning) (n : ℕ) (now : Time) (size : Option ℕ) → Sound k → AllFit (size_set now n size k).state
     → Sound (size_set now n size k)
 sized-sound k n now None sound fit = sound
 sized-sound k n now (Some size) sound fit = bytes-sound k n now (λ old. resized old size) sound fit
@@ -138,7 +138,7 @@ module _ {A : Type 0} (d : DraftValue) (a : SetattrArguments) (x : Known)
     (names : Knows d (λ k. Names d.ctx a.object k x)) (exports : List LivingExport)
     (listed : Knows d (λ k. k.state.exports ≡ exports)) (checked : Result A NfsStatus)
     (checks : Checks exports a x checked d.ctx) where
-  object-end : (s : Store) (k : Kept) → Possible d s k
+  object-end : (s : Store) (k : StoreMeaning) → Possible d s k
       → set_object k.state.exports d.ctx (object_at k.state x) a
       ≡ set_found d.ctx a x (content_at k.state x.number) checked
   object-end s k w =
@@ -154,13 +154,13 @@ module _ {A : Type 0} (d : DraftValue) (a : SetattrArguments) (x : Known)
     abbrev set : Settings
     set = settings_after d.ctx x a.attributes
 
-    ends-as : (s : Store) (k : Kept) → Possible d s k
+    ends-as : (s : Store) (k : StoreMeaning) → Possible d s k
         → setattr_end k.state d.ctx a ≡ Ok (tt, state_set k.state x a.attributes.size set)
     ends-as s k w = passed _ (names s k w).names (passed _
         (object-end s k w ∙ ap (set_found d.ctx a x (content_at k.state x.number)) is) refl)
 
     -- the file with its new size, if one is set, and then the attributes
-    abbrev resizing : Kept → Kept
+    abbrev resizing : StoreMeaning → StoreMeaning
     resizing = size_set (time_of d.ctx.moment) x.number a.attributes.size
 
     pub set-does : (mid new : DraftValue) (size : Option NewSize) (settings : Settings)

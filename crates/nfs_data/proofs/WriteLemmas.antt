@@ -15,7 +15,7 @@ use Rattle.nfs_objects.proofs.UsageSumLemmas.{turned-fit}
 use Rattle.nfs_objects.proofs.KnowsLemmas.{failed, passed}
 use Rattle.nfs_objects.proofs.PromiseLemmas.{does-nothing, turns-none}
 use Rattle.nfs_objects.specs.Knows.{Does, Knows, Possible, Turns}
-use Rattle.nfs_objects.specs.Stands.{Kept}
+use Rattle.nfs_objects.specs.Stands.{StoreMeaning}
 use Rattle.nfs_objects.specs.Store.{Store}
 use Rattle.nfs_objects.specs.Values.{DraftValue}
 use Rattle.nfs_inodes.proofs.KeptBesideLemmas.{bytes-is, bytes-sound}
@@ -36,7 +36,7 @@ module _ {A : Type 0} (d : DraftValue) (a : WriteArguments) (x : Known)
     (names : Knows d (λ k. Names d.ctx a.file k x)) (exports : List LivingExport)
     (listed : Knows d (λ k. k.state.exports ≡ exports)) (checked : Result A NfsStatus)
     (checks : Checks exports a x checked d.ctx) where
-  object-end : (s : Store) (k : Kept) → Possible d s k
+  object-end : (s : Store) (k : StoreMeaning) → Possible d s k
       → write_object k.state.exports d.ctx (object_at k.state x) a
       ≡ write_found d.ctx a x (content_at k.state x.number) checked
   object-end s k w =
@@ -53,7 +53,7 @@ module _ {A : Type 0} (d : DraftValue) (a : WriteArguments) (x : Known)
     file_after m = with_content (object_at m x) (time_of d.ctx.moment)
         (Regular (bytes_after a (bytes_of (content_at m x.number))))
 
-    ends-as : (b : Bool) → (write_count a == 0) ≡ b → (s : Store) (k : Kept) → Possible d s k
+    ends-as : (b : Bool) → (write_count a == 0) ≡ b → (s : Store) (k : StoreMeaning) → Possible d s k
         → write_end k.state d.ctx a
         ≡ Ok (answer_to d.ctx a, replaced k.state x.number (cond b None (Some (file_after k.state))))
     ends-as b e s k w =
@@ -70,7 +70,7 @@ module _ {A : Type 0} (d : DraftValue) (a : WriteArguments) (x : Known)
       stays = λ k. refl;
     }
 
-    abbrev op : Kept → Kept
+    abbrev op : StoreMeaning → StoreMeaning
     op k = bytes_changed (time_of d.ctx.moment) x.number (bytes_after a) k
 
     pub written-does : (new : DraftValue) → (write_count a == 0) ≡ false → x.attributes.kind ≡ types.Regular
@@ -86,6 +86,6 @@ module _ {A : Type 0} (d : DraftValue) (a : WriteArguments) (x : Known)
           let is : op k ≡ _ = bytes-is k x (time_of d.ctx.moment) (bytes_after a)
           (bytes_of (content_at k.state x.number)) known
           (regular-bytes (content_at k.state x.number) (kind-is k.state x known ∙ regular)) in
-          ap (λ (q : Kept). Ok (answer_to d.ctx a, q.state)) is ∙ sym (ends-as false some s k w);
+          ap (λ (q : StoreMeaning). Ok (answer_to d.ctx a, q.state)) is ∙ sym (ends-as false some s k w);
       stays = λ k. refl;
     }

@@ -6,13 +6,13 @@ use Rattle.nfs_objects.specs.Attempt.{StopsCall}
 use Rattle.nfs_objects.specs.Calls.{made_by, named_by}
 use Rattle.nfs_objects.specs.Modes.{modes_of}
 use Rattle.nfs_objects.specs.Values.{DraftValue}
-use Rattle.nfs_objects.specs.declared.change.Halt.{Halt}
+use Rattle.nfs_objects.specs.declared.change.Missing.{Missing}
 use Rattle.nfs_inodes.specs.Wants.{IsWanted}
 use Rattle.nfs_inodes.specs.declared.wishes.Want.{Want}
 use Rattle.nfs_data.specs.declared.plan.Plan.{Plan}
 
 -- the call may ask for what it lacks on the view of its draft
-abbrev pub MayHalt : NfsCall → DraftValue → Halt → Type 0
+abbrev pub MayHalt : NfsCall → DraftValue → Missing → Type 0
 MayHalt call d halt = StopsCall (modes_of (calls.Nfs call)) (named_by (calls.Nfs call) d.view) 0 d.view halt
 
 -- so it may for what it wants next, wherever its plan is then

@@ -20,7 +20,7 @@ ghost use Rattle.nfs_data.specs.Grants.{empty_directory};
 
 use nfs_inodes::{Known, Right, class_bits, exports, is_writable, may, named, reads, runs};
 use nfs_machine::{Ctx, Reply};
-use nfs_objects::{Change, Draft, Halt, LivingExport};
+use nfs_objects::{Change, Draft, LivingExport, Missing};
 use nfs_rpc::Ids;
 use nfs_wire::{AccessArguments, AccessReply, FileType, NfsCall, NfsReply};
 
@@ -37,7 +37,7 @@ const DELETE: u32 = 16;
 const EXECUTE: u32 = 32;
 
 /// Tries ACCESS.
-pub(crate) fn attempt(draft: Draft<'_>, arguments: &AccessArguments) -> Result<Change, Halt>
+pub(crate) fn attempt(draft: Draft<'_>, arguments: &AccessArguments) -> Result<Change, Missing>
     requires { Begins (calls.Nfs (NfsCall.Access arguments.now)) draft }
     ensures ends { EndsCall (calls.Nfs (NfsCall.Access arguments.now)) draft.entry.ctx draft.entry.view result }
     ensures first { EndsFirst (calls.Nfs (NfsCall.Access arguments.now)) draft.entry.view result }
@@ -61,7 +61,7 @@ pub(crate) fn attempt(draft: Draft<'_>, arguments: &AccessArguments) -> Result<C
 }
 
 /// The rights to an object that are asked and granted.
-fn rights_to(draft: &Draft<'_>, known: &Known, asked: u32) -> Result<u32, Halt>
+fn rights_to(draft: &Draft<'_>, known: &Known, asked: u32) -> Result<u32, Missing>
     requires { Knows draft.now (λ k. IsKnown k.state known.now) }
     ensures rights { MatchResult result
         (λ rights. Knows draft.now (λ k.

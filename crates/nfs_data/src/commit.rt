@@ -12,11 +12,11 @@ ghost use Rattle.nfs_objects.specs.Only.{EndsAtOnce, EndsFirstOnly};
 
 use nfs_inodes::{Known, named, nothing_shown, regular, verifier, wcc_of};
 use nfs_machine::{Ctx, Reply};
-use nfs_objects::{Change, Draft, Halt};
+use nfs_objects::{Change, Draft, Missing};
 use nfs_wire::{CommitArguments, CommitReply, NfsCall, NfsReply, NfsStatus, Verifier};
 
 /// Tries COMMIT.
-pub(crate) fn attempt(draft: Draft<'_>, arguments: &CommitArguments) -> Result<Change, Halt>
+pub(crate) fn attempt(draft: Draft<'_>, arguments: &CommitArguments) -> Result<Change, Missing>
     requires { Begins (calls.Nfs (NfsCall.Commit arguments.now)) draft }
     ensures ends { EndsCall (calls.Nfs (NfsCall.Commit arguments.now)) draft.entry.ctx draft.entry.view result }
     ensures first { EndsFirst (calls.Nfs (NfsCall.Commit arguments.now)) draft.entry.view result }

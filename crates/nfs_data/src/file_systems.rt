@@ -11,14 +11,14 @@ use bytes::Bytes;
 use nfs_inodes::{BLOCK, LINK_LIMIT, SIZE_LIMIT, TRANSFER_LIMIT, named};
 use nfs_machine::Reply;
 use nfs_machine::paths::MAX_NAME;
-use nfs_objects::{Change, Draft, Halt};
+use nfs_objects::{Change, Draft, Missing};
 use nfs_wire::{FileSystem, FsinfoReply, NfsCall, NfsReply, PathLimits, PathconfReply, Time};
 
 /// There are links (1) and symbolic links (2), PATHCONF is the same everywhere (8), and times can be set (16).
 const PROPERTIES: u32 = 1 + 2 + 8 + 16;
 
 /// Tries FSINFO of this handle.
-pub(crate) fn fsinfo(draft: Draft<'_>, object: &Bytes) -> Result<Change, Halt>
+pub(crate) fn fsinfo(draft: Draft<'_>, object: &Bytes) -> Result<Change, Missing>
     requires { Begins (calls.Nfs (NfsCall.Fsinfo object.now)) draft }
     ensures ends { EndsCall (calls.Nfs (NfsCall.Fsinfo object.now)) draft.entry.ctx draft.entry.view result }
     ensures first { EndsFirst (calls.Nfs (NfsCall.Fsinfo object.now)) draft.entry.view result }
@@ -59,7 +59,7 @@ fn file_system() -> FileSystem
 }
 
 /// Tries PATHCONF of this handle.
-pub(crate) fn pathconf(draft: Draft<'_>, object: &Bytes) -> Result<Change, Halt>
+pub(crate) fn pathconf(draft: Draft<'_>, object: &Bytes) -> Result<Change, Missing>
     requires { Begins (calls.Nfs (NfsCall.Pathconf object.now)) draft }
     ensures ends { EndsCall (calls.Nfs (NfsCall.Pathconf object.now)) draft.entry.ctx draft.entry.view result }
     ensures first { EndsFirst (calls.Nfs (NfsCall.Pathconf object.now)) draft.entry.view result }

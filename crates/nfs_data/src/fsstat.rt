@@ -12,14 +12,14 @@ ghost use Rattle.nfs_objects.specs.Sums.{export_usage};
 use bytes::Bytes;
 use nfs_inodes::{export_usage, named};
 use nfs_machine::Reply;
-use nfs_objects::{Change, Draft, Halt, Usage};
+use nfs_objects::{Change, Draft, Missing, Usage};
 use nfs_wire::{FsstatReply, NfsCall, NfsReply, Space};
 
 /// The files that an export is told to have room for, those that are there among them.
 const TOTAL_FILES: u64 = 4_294_967_295;
 
 /// Tries FSSTAT of this handle.
-pub(crate) fn attempt(draft: Draft<'_>, object: &Bytes) -> Result<Change, Halt>
+pub(crate) fn attempt(draft: Draft<'_>, object: &Bytes) -> Result<Change, Missing>
     requires { Begins (calls.Nfs (NfsCall.Fsstat object.now)) draft }
     ensures ends { EndsCall (calls.Nfs (NfsCall.Fsstat object.now)) draft.entry.ctx draft.entry.view result }
     ensures first { EndsFirst (calls.Nfs (NfsCall.Fsstat object.now)) draft.entry.view result }

@@ -9,11 +9,11 @@ ghost use Rattle.nfs_objects.specs.Only.{EndsAtOnce, EndsFirstOnly};
 use bytes::Bytes;
 use nfs_inodes::{Known, named};
 use nfs_machine::Reply;
-use nfs_objects::{Change, Draft, Halt};
+use nfs_objects::{Change, Draft, Missing};
 use nfs_wire::{Attributes, NfsCall, NfsReply, NfsStatus};
 
 /// Tries GETATTR of this handle.
-pub(crate) fn attempt(draft: Draft<'_>, object: &Bytes) -> Result<Change, Halt>
+pub(crate) fn attempt(draft: Draft<'_>, object: &Bytes) -> Result<Change, Missing>
     requires { Begins (calls.Nfs (NfsCall.Getattr object.now)) draft }
     ensures ends { EndsCall (calls.Nfs (NfsCall.Getattr object.now)) draft.entry.ctx draft.entry.view result }
     ensures first { EndsFirst (calls.Nfs (NfsCall.Getattr object.now)) draft.entry.view result }

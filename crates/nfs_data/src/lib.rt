@@ -25,7 +25,7 @@ mod setattr;
 mod write;
 
 use nfs_machine::{Ctx, Reply};
-use nfs_objects::{CHANGING, Change, Draft, Halt, Outcome, READING, View, outcome};
+use nfs_objects::{CHANGING, Change, Draft, Missing, Outcome, READING, View, outcome};
 use nfs_wire::{NfsCall, NfsReply};
 use std::alloc::{AllocError, Global};
 
@@ -46,7 +46,12 @@ pub fn attempt(alloc: Global, call: &NfsCall, ctx: &Ctx, view: &View) -> Result<
     outcome(ended(alloc, call, ctx, view))
 }
 
-fn ended<'a>(alloc: Global, call: &'a NfsCall, ctx: &'a Ctx, view: &'a View) -> Result<Change, Halt>
+fn ended<'a>(
+    alloc: Global,
+    call: &'a NfsCall,
+    ctx: &'a Ctx,
+    view: &'a View,
+) -> Result<Change, Missing>
     requires data { is_data_call call.now ≡ true }
     requires suits { Suits (modes_of (calls.Nfs call.now)) view.now }
     ensures ends { EndsCall (calls.Nfs call.now) ctx.now view.now result }
@@ -91,7 +96,7 @@ fn ended<'a>(alloc: Global, call: &'a NfsCall, ctx: &'a Ctx, view: &'a View) -> 
 }
 
 /// NULL does nothing (RFC 1813, 3.3.0).
-fn null(draft: Draft<'_>) -> Result<Change, Halt>
+fn null(draft: Draft<'_>) -> Result<Change, Missing>
     requires { Begins (calls.Nfs NfsCall.Null) draft }
     ensures ends { EndsCall (calls.Nfs NfsCall.Null) draft.entry.ctx draft.entry.view result }
     ensures first { EndsFirst (calls.Nfs NfsCall.Null) draft.entry.view result }

@@ -16,7 +16,7 @@ ghost use Rattle.nfs_data.specs.Plans.{MayGoOn, MayHalt};
 use crate::{read, setattr, write};
 use nfs_inodes::wishes::Want;
 use nfs_machine::{Call, Ctx};
-use nfs_objects::{Draft, Halt, Modes, View};
+use nfs_objects::{Draft, Missing, Modes, View};
 use nfs_wire::NfsCall;
 use std::alloc::Global;
 
@@ -32,7 +32,7 @@ pub enum Plan {
 }
 
 /// What is wanted, and where the plan is once it is taken. None where the plan is over, as far as the view tells.
-type Next = Option<(Want, Plan)>;
+type NextWant = Option<(Want, Plan)>;
 
 /// The plan of a call that takes what its handle names.
 pub fn behind_first(call: &NfsCall) -> Plan {
@@ -44,7 +44,7 @@ pub fn behind_first(call: &NfsCall) -> Plan {
 }
 
 /// What a call that is there in its plan wants next.
-pub fn next(alloc: Global, call: &Call, ctx: &Ctx, view: &View, plan: Plan) -> Next
+pub fn next(alloc: Global, call: &Call, ctx: &Ctx, view: &View, plan: Plan) -> NextWant
     requires { Suits (modes_of call.now) view.now }
     ensures { IfSome result (λ next. IsWanted (modes_of call.now) (named_by call.now view.now)
         (new_numbers call.now view.now) view.now next.0) }
@@ -62,12 +62,12 @@ pub fn next(alloc: Global, call: &Call, ctx: &Ctx, view: &View, plan: Plan) -> N
 }
 
 /// The same of its draft, which is of no use then; and where the plan is once it is taken.
-fn go_on(draft: &mut Draft<'_>, call: &NfsCall, after: Plan) -> Next
+fn go_on(draft: &mut Draft<'_>, call: &NfsCall, after: Plan) -> NextWant
     requires { Begins (calls.Nfs call.now) draft.old }
     ensures { MayGoOn call.now draft.old result }
 {
     match ask(draft, call) {
-        Err(Halt::Need(asked)) => Some((Want::Addresses(asked), after)),
+        Err(Missing::Need(asked)) => Some((Want::Addresses(asked), after)),
         _ => None,
     }
 }
@@ -77,7 +77,7 @@ fn go_on(draft: &mut Draft<'_>, call: &NfsCall, after: Plan) -> Next
 /// # Errors
 ///
 /// `Need` of what it lacks, and `Memory`. The draft is of no use then.
-fn ask(draft: &mut Draft<'_>, call: &NfsCall) -> Result<(), Halt>
+fn ask(draft: &mut Draft<'_>, call: &NfsCall) -> Result<(), Missing>
     requires { Begins (calls.Nfs call.now) draft.old }
     ensures { IfErr result (MayHalt call.now draft.old) }
 {

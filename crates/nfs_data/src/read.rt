@@ -14,13 +14,13 @@ ghost use Rattle.nfs_inodes.specs.Stops.{StopsAt};
 ghost use Rattle.nfs_data.specs.Plans.{MayHalt};
 ghost use Rattle.nfs_data.specs.Reads.{read_found};
 
-use nfs_inodes::{File, Known, Right, named, permitted, read, regular};
+use nfs_inodes::{Known, KnownFile, Right, named, permitted, read, regular};
 use nfs_machine::{Ctx, Reply};
-use nfs_objects::{Change, Draft, Halt};
+use nfs_objects::{Change, Draft, Missing};
 use nfs_wire::{NfsCall, NfsReply, NfsStatus, ReadArguments, ReadData, ReadReply};
 
 /// Tries READ.
-pub(crate) fn attempt(draft: Draft<'_>, arguments: &ReadArguments) -> Result<Change, Halt>
+pub(crate) fn attempt(draft: Draft<'_>, arguments: &ReadArguments) -> Result<Change, Missing>
     requires { Begins (calls.Nfs (NfsCall.Read arguments.now)) draft }
     ensures ends { EndsCall (calls.Nfs (NfsCall.Read arguments.now)) draft.entry.ctx draft.entry.view result }
     ensures first { EndsFirst (calls.Nfs (NfsCall.Read arguments.now)) draft.entry.view result }
@@ -38,7 +38,7 @@ pub(crate) fn attempt(draft: Draft<'_>, arguments: &ReadArguments) -> Result<Cha
 /// # Errors
 ///
 /// `Need` of what it lacks, and `Memory`.
-pub(crate) fn ask(draft: &Draft<'_>, arguments: &ReadArguments) -> Result<(), Halt>
+pub(crate) fn ask(draft: &Draft<'_>, arguments: &ReadArguments) -> Result<(), Missing>
     requires { Begins (calls.Nfs (NfsCall.Read arguments.now)) draft.now }
     ensures { IfErr result (MayHalt (NfsCall.Read arguments.now) draft.now) }
 {
@@ -53,7 +53,7 @@ fn read_of(
     draft: &Draft<'_>,
     known: &Known,
     arguments: &ReadArguments,
-) -> Result<Result<ReadData, NfsStatus>, Halt>
+) -> Result<Result<ReadData, NfsStatus>, Missing>
     requires { Knows draft.now (λ k. IsKnown k.state known.now) }
     ensures { MatchResult result
         (λ found. Knows draft.now (λ k.
@@ -67,7 +67,7 @@ fn read_of(
 }
 
 /// The checks of READ.
-fn readable(ctx: &Ctx, known: &Known) -> Result<File, NfsStatus>
+fn readable(ctx: &Ctx, known: &Known) -> Result<KnownFile, NfsStatus>
     ensures known { IfOk result (λ file. file.known ≡ known.now) }
     ensures checks { (content : Content) (a : ReadArguments) → type_of content ≡ known.now.attributes.kind →
         read_object ctx.now (shell known.now content) a ≡ read_found content a result }

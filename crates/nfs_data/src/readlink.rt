@@ -7,11 +7,11 @@ ghost use Rattle.nfs_objects.specs.Begins.{Begins};
 use bytes::Bytes;
 use nfs_inodes::{named, text};
 use nfs_machine::Reply;
-use nfs_objects::{Change, Draft, Halt};
+use nfs_objects::{Change, Draft, Missing};
 use nfs_wire::{NfsCall, NfsReply, ReadlinkReply};
 
 /// Tries READLINK of this handle.
-pub(crate) fn attempt(draft: Draft<'_>, object: &Bytes) -> Result<Change, Halt>
+pub(crate) fn attempt(draft: Draft<'_>, object: &Bytes) -> Result<Change, Missing>
     requires { Begins (calls.Nfs (NfsCall.Readlink object.now)) draft }
     ensures ends { EndsCall (calls.Nfs (NfsCall.Readlink object.now)) draft.entry.ctx draft.entry.view result }
     ensures first { EndsFirst (calls.Nfs (NfsCall.Readlink object.now)) draft.entry.view result }

@@ -25,19 +25,19 @@ ghost use Rattle.nfs_data.specs.Settings.{IsSetEnd, IsSizeOf, content_found};
 ghost use Rattle.nfs_data.specs.Settings.{content_set, set_found, settings_after};
 
 use nfs_inodes::{
-    File, Known, MODE_LIMIT, Right, SIZE_LIMIT, Settings, ask_resize, changeable, exports,
+    Known, KnownFile, MODE_LIMIT, Right, SIZE_LIMIT, Settings, ask_resize, changeable, exports,
     is_client_time, is_member, is_server_time, is_time, may, named, nothing_shown, now, object,
     regular, resize, set_attributes, time_set, touch, wcc_of,
 };
 use nfs_machine::{Ctx, Reply};
-use nfs_objects::{Change, Draft, Halt, LivingExport};
+use nfs_objects::{Change, Draft, LivingExport, Missing};
 use nfs_rpc::Ids;
 use nfs_wire::{
     Attributes, NfsCall, NfsReply, NfsStatus, SetAttributes, SetattrArguments, SetattrReply, Time,
 };
 
 /// Tries SETATTR.
-pub(crate) fn attempt(mut draft: Draft<'_>, arguments: &SetattrArguments) -> Result<Change, Halt>
+pub(crate) fn attempt(mut draft: Draft<'_>, arguments: &SetattrArguments) -> Result<Change, Missing>
     requires { Begins (calls.Nfs (NfsCall.Setattr arguments.now)) draft }
     ensures ends { EndsCall (calls.Nfs (NfsCall.Setattr arguments.now)) draft.entry.ctx draft.entry.view result }
     ensures first { EndsFirst (calls.Nfs (NfsCall.Setattr arguments.now)) draft.entry.view result }
@@ -66,7 +66,7 @@ pub(crate) fn attempt(mut draft: Draft<'_>, arguments: &SetattrArguments) -> Res
 /// # Errors
 ///
 /// `Need` of what it lacks, and `Memory`.
-pub(crate) fn ask(draft: &Draft<'_>, arguments: &SetattrArguments) -> Result<(), Halt>
+pub(crate) fn ask(draft: &Draft<'_>, arguments: &SetattrArguments) -> Result<(), Missing>
     requires { Begins (calls.Nfs (NfsCall.Setattr arguments.now)) draft.now }
     ensures { IfErr result (MayHalt (NfsCall.Setattr arguments.now) draft.now) }
 {
@@ -77,7 +77,7 @@ pub(crate) fn ask(draft: &Draft<'_>, arguments: &SetattrArguments) -> Result<(),
 }
 
 /// The same of the object that its handle names.
-fn ask_size(draft: &Draft<'_>, known: &Known, arguments: &SetattrArguments) -> Result<(), Halt>
+fn ask_size(draft: &Draft<'_>, known: &Known, arguments: &SetattrArguments) -> Result<(), Missing>
     requires none { draft.now.writes ≡ [] }
     requires lives { IsThere draft.now.view (Addr.Inode known.now.number) }
     requires shown { IsShown draft.now known.now }
@@ -101,7 +101,7 @@ fn set(
     draft: &mut Draft<'_>,
     known: &Known,
     arguments: &SetattrArguments,
-) -> Result<Result<(), NfsStatus>, Halt>
+) -> Result<Result<(), NfsStatus>, Missing>
     requires begins { Begins (calls.Nfs (NfsCall.Setattr arguments.now)) draft.old }
     requires names { Knows draft.old (λ k. Names draft.old.ctx arguments.now.object k known.now) }
     requires shown { IsShown draft.old known.now }
@@ -122,7 +122,7 @@ fn set(
 }
 
 /// Gives a file its new size, if there is one.
-fn resize_to(draft: &mut Draft<'_>, number: u64, size: Option<NewSize>) -> Result<(), Halt>
+fn resize_to(draft: &mut Draft<'_>, number: u64, size: Option<NewSize>) -> Result<(), Missing>
     requires none { draft.old.writes ≡ [] }
     requires alone { draft.old.modes ≡ changing }
     requires file { IfSome size (λ new. new.file.known.number ≡ number) }
@@ -142,7 +142,7 @@ fn resize_to(draft: &mut Draft<'_>, number: u64, size: Option<NewSize>) -> Resul
 /// A file, and the size that it gets in bytes.
 #[derive(Clone, Copy)]
 struct NewSize {
-    file: File,
+    file: KnownFile,
     size: u64,
 }
 

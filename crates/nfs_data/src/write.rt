@@ -17,15 +17,15 @@ ghost use Rattle.nfs_data.specs.Plans.{MayHalt};
 ghost use Rattle.nfs_data.specs.Writes.{HasRoom, IsWriteEnd, answer_to, write_found};
 
 use nfs_inodes::{
-    File, Known, Right, SIZE_LIMIT, TRANSFER_LIMIT, changeable, exports, named, nothing_shown,
+    Known, KnownFile, Right, SIZE_LIMIT, TRANSFER_LIMIT, changeable, exports, named, nothing_shown,
     permitted, regular, verifier, wcc, write,
 };
 use nfs_machine::{Ctx, Reply};
-use nfs_objects::{Change, Draft, Halt, LivingExport};
+use nfs_objects::{Change, Draft, LivingExport, Missing};
 use nfs_wire::{NfsCall, NfsReply, NfsStatus, WriteArguments, WriteReply, Written};
 
 /// Tries WRITE.
-pub(crate) fn attempt(mut draft: Draft<'_>, arguments: &WriteArguments) -> Result<Change, Halt>
+pub(crate) fn attempt(mut draft: Draft<'_>, arguments: &WriteArguments) -> Result<Change, Missing>
     requires { Begins (calls.Nfs (NfsCall.Write arguments.now)) draft }
     ensures ends { EndsCall (calls.Nfs (NfsCall.Write arguments.now)) draft.entry.ctx draft.entry.view result }
     ensures first { EndsFirst (calls.Nfs (NfsCall.Write arguments.now)) draft.entry.view result }
@@ -46,7 +46,7 @@ pub(crate) fn attempt(mut draft: Draft<'_>, arguments: &WriteArguments) -> Resul
 /// # Errors
 ///
 /// `Need` of what it lacks, and `Memory`. The draft is of no use then.
-pub(crate) fn ask(draft: &mut Draft<'_>, arguments: &WriteArguments) -> Result<(), Halt>
+pub(crate) fn ask(draft: &mut Draft<'_>, arguments: &WriteArguments) -> Result<(), Missing>
     requires { Begins (calls.Nfs (NfsCall.Write arguments.now)) draft.old }
     ensures { IfErr result (MayHalt (NfsCall.Write arguments.now) draft.old) }
 {
@@ -61,7 +61,7 @@ fn store(
     draft: &mut Draft<'_>,
     known: &Known,
     arguments: &WriteArguments,
-) -> Result<Result<Written, NfsStatus>, Halt>
+) -> Result<Result<Written, NfsStatus>, Missing>
     requires begins { Begins (calls.Nfs (NfsCall.Write arguments.now)) draft.old }
     requires names { Knows draft.old (λ k. Names draft.old.ctx arguments.now.file k known.now) }
     requires number { HasNumber arguments.now.file known.now.number }
@@ -88,7 +88,7 @@ fn writable(
     exports: &[LivingExport],
     known: &Known,
     arguments: &WriteArguments,
-) -> Result<File, NfsStatus>
+) -> Result<KnownFile, NfsStatus>
     ensures known { IfOk result (λ file. file.known ≡ known.now) }
     ensures checks { (content : Content) → type_of content ≡ known.now.attributes.kind →
         write_object exports.now ctx.now (shell known.now content) arguments.now

@@ -19,7 +19,7 @@ use Rattle.nfs_engine.specs.declared.arrival.Reading.{Reading}
 use Rattle.nfs_engine.specs.declared.arrival.Reading.TheVariants.{Asks, Faulted}
 use Rattle.nfs_engine.specs.declared.asking.Asked.{Asked}
 use Rattle.nfs_engine.specs.declared.request.Request.{Request}
-use Rattle.nfs_engine.specs.declared.running.Place.{Place}
+use Rattle.nfs_engine.specs.declared.running.CallSlot.{CallSlot}
 use Rattle.nfs_engine.specs.declared.running.AdmitError.{AdmitError}
 use Rattle.nfs_engine.specs.declared.running.AdmitError.TheVariants.{Memory, Spent}
 
@@ -145,7 +145,7 @@ module _ (r : Request) (origin : Option Origin) (is : IsCandidate r origin) wher
 
 -- a call that begins is made under what the server was started with
 pub entered : (journal : JournalValue) (replies : RepliesValue) (calls later : CallsValue) (setting : Setting)
-    (limit : ℕ) (r : Request) (origin : Option Origin) (t : TxnValue) (place : Place) → IsCandidate r origin →
+    (limit : ℕ) (r : Request) (origin : Option Origin) (t : TxnValue) (place : CallSlot) → IsCandidate r origin →
     IsNoRepeat (book_value journal replies calls setting limit) (candidate_value r) →
     IsBegun calls later origin (Ok place) → t ≡ record {
       id = place.id;

@@ -3,7 +3,7 @@ use Rattle.std.proofs.Common.{◌≡◌, ℕ, ◌<◌, ◌≤◌, List, ◌++◌
 use Rattle.std.specs.Int.{w32, to_be_bytes}
 use Rattle.nfs_xdr.specs.Writing.{appended, with_word, with_hyper, with_padded, with_arm}
 use Rattle.nfs_rpc.specs.Messages.{reply_of}
-use Rattle.nfs_rpc.specs.declared.faults.Answer.TheVariants.{Success}
+use Rattle.nfs_rpc.specs.declared.faults.ReplyHead.TheVariants.{Success}
 use Rattle.side_wire.specs.Mount.{mount_result_bytes}
 use Rattle.side_wire.specs.declared.mount.MountReply.TheVariants as mount
 use Rattle.side_wire.specs.declared.mount.MountStatus.{MountStatus}

@@ -14,7 +14,7 @@ use Rattle.nfs_engine.specs.Repeats.{Keeps, NoneIsKept, kept_for, origin_of}
 use Rattle.nfs_engine.specs.Running.{CallsValue, IsBegun, IsInProgress, origin_at, without_call}
 use Rattle.nfs_engine.specs.declared.running.AdmitError.{AdmitError}
 use Rattle.nfs_engine.specs.declared.running.AdmitError.TheVariants.{Memory, Spent}
-use Rattle.nfs_engine.specs.declared.running.Place.{Place}
+use Rattle.nfs_engine.specs.declared.running.CallSlot.{CallSlot}
 
 -- what is known of none
 pub idle_of : (b : BookValue) (origin : Option Origin) → IfSome origin (IsUnknown b) →
@@ -51,7 +51,7 @@ module _ (journal : JournalValue) (replies : RepliesValue) (calls : CallsValue) 
   with_calls later = book_value journal replies later setting limit
 
   -- a call began, or nothing changed
-  pub begun : (later : CallsValue) (origin : Option Origin) (result : Result Place AdmitError) →
+  pub begun : (later : CallsValue) (origin : Option Origin) (result : Result CallSlot AdmitError) →
       IsBegun calls later origin result → IfSome origin (IsUnknown old) → IsBook (with_calls later)
   begun later origin (Ok place) began unknown = record {
     run = same_run old (with_calls later) refl refl refl refl is.run;

@@ -11,7 +11,7 @@ use Rattle.nfs_machine.specs.State.{State}
 use Rattle.nfs_machine.specs.declared.calls.Call.{Call}
 use Rattle.nfs_machine.specs.declared.context.Ctx.{Ctx}
 use Rattle.nfs_objects.specs.Promise.{IsPromised, IsStep}
-use Rattle.nfs_objects.specs.Stands.{Kept, Represents}
+use Rattle.nfs_objects.specs.Stands.{StoreMeaning, Represents}
 use Rattle.nfs_objects.specs.Store.{Store, with_writes}
 use Rattle.nfs_objects.specs.declared.address.Addr.{Addr}
 use Rattle.nfs_replies.specs.Replies.{RepliesValue}
@@ -111,7 +111,7 @@ called_fits received xid call ctx called setting under =
 
 -- ---- commits
 -- what the store stands for, with what is kept beside the state
-abbrev kept_of : (s : Store) (m : State) → StandsFor s m → Kept
+abbrev kept_of : (s : Store) (m : State) → StandsFor s m → StoreMeaning
 kept_of s m stands = record { state = m; links = stands.links; parents = stands.parents; usage = stands.usage }
 
 module _ (old : BookValue) (f : FinishedValue) (called : IsCalled f.received f.xid f.done.call f.done.ctx)

@@ -33,7 +33,8 @@ use Rattle.nfs_objects.proofs.DirectoryStoreLemmas.{no-entries}
 use Rattle.nfs_objects.proofs.StandsInExportLemmas.{inode-as, inode-stands}
 use Rattle.nfs_objects.proofs.UsageSumLemmas.{both-sums, counted-by, used-by}
 use Rattle.nfs_objects.proofs.TallyLemmas.{insert-total, none-total, total}
-use Rattle.nfs_objects.specs.Stands.{IsFitting, Kept, export_table_of, exports_of, inode_in, inode_of, links_kept}
+use Rattle.nfs_objects.specs.Stands.{IsFitting, StoreMeaning, export_table_of, exports_of, inode_in, inode_of}
+use Rattle.nfs_objects.specs.Stands.{links_kept}
 use Rattle.nfs_objects.specs.Bits.{has, no_bits}
 use Rattle.nfs_objects.specs.FileMaps.{FileMapValue}
 use Rattle.nfs_objects.specs.Stands.{Beside, HoldsEntries, IsMapped, IsStored, StandDirectories, StandFiles, bytes_at}
@@ -403,7 +404,7 @@ module _ (es : List ExportValue) (moment : Moment) (key : List ℕ) where
       let o = only n i is in
       inr (subst (λ (j : Stored). j.export ≤ length es) o.2 o.1)
 
-  abbrev kept : Kept
+  abbrev kept : StoreMeaning
   kept = record {
     state = opening es moment;
     links = λ n. links_kept (inode_of (store.at (Inode n)));

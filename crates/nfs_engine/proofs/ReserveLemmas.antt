@@ -96,6 +96,26 @@ moved_twice s t u first second = record {
   apart = λ was. second.apart (first.apart was);
 }
 
+-- taking out an address that the map lacks changes nothing
+pub unmoved : (index : ℕ) (ns : List (Option Slot)) (others left : TableValue Addr Slot) (a : Addr)
+    → lookup (same_address a) (entries others) ≡ None → tables.Changes same_address others left a None
+    → Moves (shard_value index ns (entries others) 0) (shard_value index ns (entries left) 0)
+unmoved index ns others left a none removes = record {
+  slots = λ b. ap (option_or (numbered (shard_value index ns (entries others) 0) b)) (still b);
+  apart = λ was b some. still b ∙ was b some;
+}
+  where
+    still : (b : Addr) → found (slots_seen (entries left)) b ≡ found (slots_seen (entries others)) b
+    still b =
+        found-turned slot_value others left a None removes b
+        ∙ elim (is_addr a b) as (λ t. is_addr a b ≡ t → cond t None (found (slots_seen (entries others)) b)
+        ≡ found (slots_seen (entries others)) b) [
+          | true ↦ λ same.
+              sym (ap (found (slots_seen (entries others))) (sym (is_addr-same a b same))
+              ∙ found-lookup slot_value a (entries others) ∙ ap (option_map slot_value) none)
+          | false ↦ λ apart. refl
+        ] refl
+
 module _ (index next : ℕ) (numbers room now : Slab Slot) (others left : TableValue Addr Slot)
     (number id key : ℕ)
     (good : IsSound (shard_value index numbers.slots (entries others) next))

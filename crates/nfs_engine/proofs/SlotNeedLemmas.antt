@@ -13,7 +13,7 @@ use Rattle.nfs_objects.specs.Values.{write_value}
 use Rattle.nfs_engine.proofs.AddressMapLemmas.{found-lookup, same_address, seen}
 use Rattle.nfs_engine.specs.Found.{found}
 use Rattle.nfs_engine.specs.Tables.{KeepsSlots, KeptValue, kept_value, needs_slot, slots_needed}
-use Rattle.nfs_engine.specs.declared.objects.Kept.{Kept}
+use Rattle.nfs_engine.specs.declared.objects.StoredObject.{StoredObject}
 
 abbrev Slots : Type 0
 Slots = List (Addr × KeptValue)
@@ -22,11 +22,11 @@ abbrev Writes : Type 0
 Writes = List (Addr × Option Object)
 
 -- what the map has at an address is its slot
-pub slot-found : (a : Addr) (es : List (Addr × Kept)) →
+pub slot-found : (a : Addr) (es : List (Addr × StoredObject)) →
     is_some (lookup (same_address a) es) ≡ is_some (found (seen kept_value es) a)
 slot-found a es = same (lookup (same_address a) es) ∙ ap is_some (sym (found-lookup kept_value a es))
   where
-    same : (o : Option Kept) → is_some o ≡ is_some (option_map kept_value o)
+    same : (o : Option StoredObject) → is_some o ≡ is_some (option_map kept_value o)
     same None = refl
     same (Some k) = refl
 

@@ -13,11 +13,11 @@ use Rattle.nfs_objects.specs.Values.{is_addr}
 use Rattle.nfs_engine.proofs.AddressMapLemmas.{found-lookup, same_address, seen}
 use Rattle.nfs_engine.specs.Found.{Changes, found}
 use Rattle.nfs_engine.specs.Tables.{KeptValue, empty_kept, filled, generation_in, kept_at, kept_value, store_of}
-use Rattle.nfs_engine.specs.declared.objects.Kept.{Kept}
+use Rattle.nfs_engine.specs.declared.objects.StoredObject.{StoredObject}
 use Rattle.nfs_objects.specs.declared.address.Addr.TheVariants.{Locks}
 
 -- what is kept, as the map has it
-pub kept-lookup : (a : Addr) (es : List (Addr × Kept)) →
+pub kept-lookup : (a : Addr) (es : List (Addr × StoredObject)) →
     unwrap_or (option_map kept_value (lookup (same_address a) es)) empty_kept ≡ kept_at (seen kept_value es) a
 kept-lookup a es = ap (λ (o : Option KeptValue). unwrap_or o empty_kept) (sym (found-lookup kept_value a es))
 

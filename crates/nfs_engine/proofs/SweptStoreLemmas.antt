@@ -15,7 +15,7 @@ use Rattle.nfs_objects.specs.Directories.{led_in_part, width_in}
 use Rattle.nfs_objects.specs.FileMaps.{FileMapValue, IsContent}
 use Rattle.nfs_objects.specs.SameLaws.{bits_decides}
 use Rattle.nfs_objects.specs.Stands.{HasBlocks, HoldsEntries, IsMapped, IsPart, IsPendingIn, IsPlaced, IsStored}
-use Rattle.nfs_objects.specs.Stands.{Kept, Represents, StandLocks, beside_at, bucket_at, bucket_there}
+use Rattle.nfs_objects.specs.Stands.{StoreMeaning, Represents, StandLocks, beside_at, bucket_at, bucket_there}
 use Rattle.nfs_objects.specs.Stands.{bytes_at, content_of, entry_map_in, entry_map_of, export_table_of, exported_file}
 use Rattle.nfs_objects.specs.Stands.{exports_of, inode_in, inode_there, links_kept}
 use Rattle.nfs_objects.specs.Stands.{lives_in, living_of_inode, map_of, pages_of, parent_kept, stored_bucket}
@@ -245,7 +245,7 @@ module _ (old new : Store) (w : SweepValue) (sweeps : Sweeps old new w) where
   }
 
   -- ---- what it stands for
-  module _ (k : Kept) (was : Represents old k) where
+  module _ (k : StoreMeaning) (was : Represents old k) where
     abbrev exports : List LivingExport
     exports = k.state.exports
 

@@ -28,7 +28,7 @@ use Rattle.nfs_engine.specs.Tables.{IsTidy, IsTidyBut, KeepsSlots, KeptValue, Pu
 use Rattle.nfs_engine.specs.Tables.{generation_in, idle_at, is_idle, is_taken, kept_at, kept_value, needs_slot}
 use Rattle.nfs_engine.specs.Tables.{slots_needed, store_of}
 use Rattle.nfs_engine.specs.Tables.{takes_from}
-use Rattle.nfs_engine.specs.declared.objects.Kept.{Kept}
+use Rattle.nfs_engine.specs.declared.objects.StoredObject.{StoredObject}
 
 abbrev Slots : Type 0
 Slots = List (Addr × KeptValue)
@@ -123,10 +123,10 @@ module _ (old new : Slots) (w : Addr × Option Object) (puts : Puts old new w) w
       by false other = tidy a apart
 
 -- ---- what is put into the map
-abbrev slots : tables.TableValue Addr Kept → Slots
+abbrev slots : tables.TableValue Addr StoredObject → Slots
 slots m = seen kept_value (tables.entries m)
 
-module _ (old : tables.TableValue Addr Kept) (a : Addr) (o : Option Object) where
+module _ (old : tables.TableValue Addr StoredObject) (a : Addr) (o : Option Object) where
   of-slot : (new : Slots) (v : KeptValue) → (is_some (found (slots old) a) || is_some o) ≡ true →
       v ≡ filled (kept_at (slots old) a) o → Changes (found (slots old)) (found new) a (Some v) →
       Puts (slots old) new (a, o)
@@ -136,8 +136,8 @@ module _ (old : tables.TableValue Addr Kept) (a : Addr) (o : Option Object) wher
       (subst (λ (x : KeptValue). Changes (found (slots old)) (found new) a (Some x)) is changes)
 
   -- in the slot that is there
-  pub puts-there : (was k : Kept) → Some was ≡ lookup (same_address a) (tables.entries old) →
-      (new : tables.TableValue Addr Kept) → Rewrites same_address old new a k →
+  pub puts-there : (was k : StoredObject) → Some was ≡ lookup (same_address a) (tables.entries old) →
+      (new : tables.TableValue Addr StoredObject) → Rewrites same_address old new a k →
       kept_value k ≡ filled (kept_value was) o → Puts (slots old) (slots new) (a, o)
   puts-there was k there new writes is =
       of-slot (slots new) (kept_value k) (ap (λ (x : Option KeptValue). is_some x || is_some o) known)
@@ -148,7 +148,7 @@ module _ (old : tables.TableValue Addr Kept) (a : Addr) (o : Option Object) wher
       known = found-lookup kept_value a (tables.entries old) ∙ ap (option_map kept_value) (sym there)
 
   -- whether something stood there
-  pub stood-there : (was : Kept) → Some was ≡ lookup (same_address a) (tables.entries old) → (stood : Bool) →
+  pub stood-there : (was : StoredObject) → Some was ≡ lookup (same_address a) (tables.entries old) → (stood : Bool) →
       stood ≡ is_some was.object → stood ≡ is_some (kept_at (slots old) a).object
   stood-there was there stood is = given-some arc_value was.object stood is
       ∙ ap (λ (x : Option KeptValue). is_some (unwrap_or x empty_kept).object)
@@ -159,8 +159,8 @@ module _ (old : tables.TableValue Addr Kept) (a : Addr) (o : Option Object) wher
     unknown = found-lookup kept_value a (tables.entries old) ∙ ap (option_map kept_value) (sym absent)
 
     -- in a new one
-    pub puts-new : is_some o ≡ true → (k : Kept) → kept_value k ≡ filled empty_kept o →
-        (new : tables.TableValue Addr Kept) → tables.Changes same_address old new a (Some k) →
+    pub puts-new : is_some o ≡ true → (k : StoredObject) → kept_value k ≡ filled empty_kept o →
+        (new : tables.TableValue Addr StoredObject) → tables.Changes same_address old new a (Some k) →
         Puts (slots old) (slots new) (a, o)
     puts-new some k is new updates =
         of-slot (slots new) (kept_value k) ((λ i. is_some (unknown i) || some i))
@@ -301,12 +301,13 @@ module _ (old new : Slots) (w : Addr × Option Object) (out : TakesOutIdle old n
       by false other = others (takes_from a w) refl (ap (λ t. t && not (is_some w.1)) other)
 
 -- ---- what is taken out of the map
-pub idle-there : (a : Addr) (es : List (Addr × Kept)) (was : Kept) → Some was ≡ lookup (same_address a) es →
+pub idle-there : (a : Addr) (es : List (Addr × StoredObject)) (was : StoredObject)
+    → Some was ≡ lookup (same_address a) es →
     is_idle (kept_value was) ≡ idle_at (seen kept_value es) a
 idle-there a es was there =
     ap idle_of (ap (option_map kept_value) there ∙ sym (found-lookup kept_value a es))
 
-pub idle-nowhere : (a : Addr) (es : List (Addr × Kept)) → None ≡ lookup (same_address a) es →
+pub idle-nowhere : (a : Addr) (es : List (Addr × StoredObject)) → None ≡ lookup (same_address a) es →
     false ≡ idle_at (seen kept_value es) a
 idle-nowhere a es absent =
     ap idle_of (ap (option_map kept_value) absent ∙ sym (found-lookup kept_value a es))

@@ -7,7 +7,7 @@ use Rattle.nfs_replies.specs.Origins.{is_among}
 use Rattle.nfs_replies.specs.declared.origins.Origin.{Origin}
 use Rattle.nfs_engine.specs.declared.running.AdmitError.{AdmitError}
 use Rattle.nfs_engine.specs.declared.running.AdmitError.TheVariants.{Memory, Spent}
-use Rattle.nfs_engine.specs.declared.running.Place.{Place}
+use Rattle.nfs_engine.specs.declared.running.CallSlot.{CallSlot}
 use Rattle.nfs_engine.specs.declared.running.Running.{Running}
 
 pub record CallsValue : Type 0 where
@@ -62,7 +62,7 @@ pub record Joins (old new : List (Option Running)) (key id : ℕ) (origin : Opti
   pub count : living_count new ≡ living_count old + 1
 
 -- the call joins them under the next number, or nothing changed; numbers are spent just at their end
-abbrev pub IsBegun : CallsValue → CallsValue → Option Origin → Result Place AdmitError → Type 0
+abbrev pub IsBegun : CallsValue → CallsValue → Option Origin → Result CallSlot AdmitError → Type 0
 IsBegun old new origin (Ok place) =
     (place.id ≡ old.next_id) × (new.next_id ≡ old.next_id + 1) ×
     Joins old.living new.living place.key place.id origin

@@ -11,20 +11,20 @@ use Rattle.nfs_objects.specs.Store.{Store}
 use Rattle.nfs_objects.specs.Values.{Seen, is_addr}
 use Rattle.nfs_objects.specs.declared.view.Reserved.{Reserved}
 use Rattle.nfs_engine.specs.Found.{Changes, found}
-use Rattle.nfs_engine.specs.declared.objects.Kept.{Kept}
+use Rattle.nfs_engine.specs.declared.objects.StoredObject.{StoredObject}
 
 -- an object, and the greatest generation that its number was given
 pub record KeptValue : Type 0 where
   pub object : Option Object
   pub last : ℕ
 
-abbrev pub kept_value : Kept → KeptValue
+abbrev pub kept_value : StoredObject → KeptValue
 kept_value k = record { object = option_map arc_value k.object; last = k.last }
 
 abbrev pub empty_kept : KeptValue
 empty_kept = record { object = None; last = 0 }
 
-abbrev pub kept_slots : List (Addr × Kept) → List (Addr × KeptValue)
+abbrev pub kept_slots : List (Addr × StoredObject) → List (Addr × KeptValue)
 kept_slots slots = map (λ e. (e.0, kept_value e.1)) slots
 
 -- what is kept at each address, how many more addresses take no memory, and at how many something stands

@@ -13,7 +13,7 @@ ghost use Rattle.nfs_machine.specs.RpcReplies.{failure_message, refusal_message,
 
 use crate::forms::{is_formed, mount_is_formed, nlm_is_formed};
 use nfs_machine::{Refusal, Reply};
-use nfs_rpc::{Answer, Early, Fault, finish_record, start_record, write_reply};
+use nfs_rpc::{Early, Fault, ReplyHead, finish_record, start_record, write_reply};
 use nfs_wire::NfsReply;
 use nfs_xdr::{Writer, XdrError};
 use side_wire::{MountReply, NlmReply, mount, nlm};
@@ -51,10 +51,11 @@ pub fn success(alloc: Global, xid: u32, reply: &Reply) -> Result<Vec<u8>, AllocE
 /// A reply with SUCCESS, and the results behind it.
 fn write_success(alloc: Global, xid: u32, reply: &Reply) -> Result<Vec<u8>, XdrError>
     requires { HasForm reply.now }
-    ensures { IfOk result (λ bytes. bytes.items ≡ fragment true (reply_of xid Answer.Success ++ results_of reply.now)) }
+    ensures { IfOk result (λ bytes. bytes.items ≡ fragment true (reply_of xid ReplyHead.Success ++ results_of
+        reply.now)) }
 {
     let mut writer = start_record(alloc, CAPACITY)?;
-    write_reply(&mut writer, xid, Answer::Success)?;
+    write_reply(&mut writer, xid, ReplyHead::Success)?;
     write_results(&mut writer, reply)?;
     Ok(finish_record(writer))
 }
@@ -98,7 +99,7 @@ fn spell_mount(alloc: Global, xid: u32, reply: &MountReply) -> Result<Option<Vec
         (λ answer. IfSome answer (λ bytes. bytes.items ≡ success_message xid (replies.Mount reply.now))) }
 {
     let mut writer = start_record(alloc, CAPACITY)?;
-    write_reply(&mut writer, xid, Answer::Success)?;
+    write_reply(&mut writer, xid, ReplyHead::Success)?;
     mount::write_result(&mut writer, reply)?;
     if writer.len() > MAX_LENGTH {
         return Ok(None);
@@ -113,7 +114,7 @@ fn spell_nlm(alloc: Global, xid: u32, reply: &NlmReply) -> Result<Option<Vec<u8>
         (λ answer. IfSome answer (λ bytes. bytes.items ≡ success_message xid (replies.Nlm reply.now))) }
 {
     let mut writer = start_record(alloc, CAPACITY)?;
-    write_reply(&mut writer, xid, Answer::Success)?;
+    write_reply(&mut writer, xid, ReplyHead::Success)?;
     nlm::write_result(&mut writer, reply)?;
     if writer.len() > MAX_LENGTH {
         return Ok(None);
@@ -128,7 +129,7 @@ fn spell_nfs(alloc: Global, xid: u32, reply: &NfsReply) -> Result<Option<Vec<u8>
         (λ answer. IfSome answer (λ bytes. bytes.items ≡ success_message xid (replies.Nfs reply.now))) }
 {
     let mut writer = start_record(alloc, room_for(reply))?;
-    write_reply(&mut writer, xid, Answer::Success)?;
+    write_reply(&mut writer, xid, ReplyHead::Success)?;
     nfs_wire::write_result(&mut writer, reply)?;
     if writer.len() > MAX_LENGTH {
         return Ok(None);
@@ -158,7 +159,7 @@ pub fn failure(alloc: Global, xid: u32, fault: Fault) -> Result<Vec<u8>, AllocEr
     ensures { IfOk result (λ bytes. bytes.items ≡ failure_message xid fault) }
 {
     let mut writer = start_record(alloc, CAPACITY).map_err(|_| AllocError)?;
-    write_reply(&mut writer, xid, Answer::Failure(fault)).map_err(|_| AllocError)?;
+    write_reply(&mut writer, xid, ReplyHead::Failure(fault)).map_err(|_| AllocError)?;
     Ok(finish_record(writer))
 }
 

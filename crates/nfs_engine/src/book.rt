@@ -37,13 +37,13 @@ use crate::objects::Objects;
 use crate::opening::{Config, StartError, is_limit, opening_writes};
 use crate::outbox::Posted;
 use crate::records::Era;
-use crate::running::{AdmitError, Calls, Place};
+use crate::running::{AdmitError, CallSlot, Calls};
 use crate::sweeping::Sweep;
 use bytes::Bytes;
 use nfs_machine::laws::side_replies_have_forms;
 use nfs_machine::{Ctx, Limits};
 use nfs_objects::{Addr, Object, View, Write};
-use nfs_replies::{Capacity, RecordKey, Replies, Sought};
+use nfs_replies::{Capacity, HashedRef, RecordKey, Replies};
 use nfs_tables::Placing;
 use std::alloc::{AllocError, Global};
 use std::marker::Model;
@@ -243,7 +243,7 @@ impl Book {
         ensures { Admits self.old self.new
             (record { received = FromHost (received_value received); reading = readings.Asks asked }) result }
     {
-        let sought = Sought::new(self.record_key(), &received.message);
+        let sought = HashedRef::new(self.record_key(), &received.message);
         let recalled = self.recall(received.host.text(), sought);
         let received = Incoming::Record(received);
         match recalled {
@@ -269,7 +269,7 @@ impl Book {
 
     /// What is known of a record that came from this host; a reply that is kept comes to the front. An error comes only
     /// where a reply is kept, and changes nothing.
-    fn recall(&mut self, host: &Bytes, sought: Sought<'_>) -> Result<Recalled, AllocError>
+    fn recall(&mut self, host: &Bytes, sought: HashedRef<'_>) -> Result<Recalled, AllocError>
         ensures { Recalls self.old self.new
             (record { host = host.now; bytes = sought.entry.bytes.now }) result }
     {
@@ -297,7 +297,7 @@ impl Book {
         } = candidate;
         request.begin_under(self.start, self.limits);
         match self.calls.begin(origin) {
-            Ok(Place { id, key }) => Ok(Admission::Begin(Txn {
+            Ok(CallSlot { id, key }) => Ok(Admission::Begin(Txn {
                 id,
                 key,
                 request,
@@ -340,7 +340,7 @@ impl Book {
         ensures err { IfErr result (λ back. (back ≡ finished) × (self.new ≡ self.old)) }
     {
         // They bring that this is what came in asks and keeps the promise, and that messages can be spelled.
-        finished.is_finished();
+        finished.show_finished();
         side_replies_have_forms();
         let Some(numbered) = self.journal.make_room_for(alloc, &finished) else {
             return Err(finished);
@@ -482,7 +482,7 @@ impl Book {
 
     /// The records are a run of the machine to a state that the store stands for, and no reply is kept for what a call
     /// in progress came with.
-    pub fn run(&self)
+    pub fn show_run(&self)
         ensures run { IsRun self.now }
         ensures unkept { NoneIsKept self.now.replies self.now.living }
     {

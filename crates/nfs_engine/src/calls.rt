@@ -71,7 +71,7 @@ impl Txn {
     }
 
     /// It is what came in asks.
-    pub fn is_called(&self)
+    pub fn show_called(&self)
         ensures { IsCalled self.now.received self.now.xid self.now.call self.now.ctx }
     {
         let _ = &self.request;
@@ -223,7 +223,7 @@ impl Finished {
     }
 
     /// It is what came in asks, and keeps the promise.
-    pub fn is_finished(&self)
+    pub fn show_finished(&self)
         ensures called { IsCalled self.now.received self.now.xid self.now.done.call self.now.done.ctx }
         ensures promised { IsPromised self.now.done }
     {

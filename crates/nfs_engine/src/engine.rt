@@ -90,17 +90,17 @@ impl Engine {
     }
 
     /// The shards together are the book's store.
-    pub fn tie(&self)
+    pub fn show_tie(&self)
         ensures { IsTied self.now }
     {
         let _ = &self.book;
     }
 
     /// The records of the era are a run of the machine to a state that the store stands for.
-    pub fn run(&self)
+    pub fn show_run(&self)
         ensures { IsRun self.now.book }
     {
-        self.book.run();
+        self.book.show_run();
     }
 
     /// At how many addresses of the store something stands.
@@ -193,8 +193,8 @@ impl Engine {
         ensures err { IfErr result (λ back. (back ≡ finished) × (self.new ≡ self.old)) }
     {
         // They bring the promise, and that no reply is kept for a call in progress.
-        finished.is_finished();
-        self.book.run();
+        finished.show_finished();
+        self.book.show_run();
         if make_room(&mut self.shards, &finished).is_err() {
             return Err(finished);
         }

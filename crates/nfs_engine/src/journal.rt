@@ -18,7 +18,7 @@ use crate::calls::Finished;
 use crate::objects::Objects;
 use crate::outbox::{Outbox, Posted};
 use crate::ready::Ready;
-use crate::records::{Era, Records};
+use crate::records::{Era, EraRecords};
 use crate::release::{Release, Then};
 use crate::request::Request;
 use crate::shard::SHARDS;
@@ -70,7 +70,7 @@ pub(crate) struct Numbered {
 #[derive(Drop)]
 pub(crate) struct Journal {
     objects: Objects,
-    records: Records,
+    records: EraRecords,
     outbox: Outbox,
     /// The objects as the era began. Clauses alone read it: it has no bytes.
     began: Snapshot<Objects>,
@@ -101,7 +101,7 @@ impl Journal {
         let began = Snapshot::of(&objects);
         Journal {
             objects,
-            records: Records::new(alloc),
+            records: EraRecords::new(alloc),
             outbox: Outbox::new(alloc),
             began,
         }
@@ -115,7 +115,7 @@ impl Journal {
     }
 
     /// The records of the era.
-    pub(crate) fn records(&self) -> &Records
+    pub(crate) fn records(&self) -> &EraRecords
         ensures { result.now ≡ self.now.records }
     {
         &self.records

@@ -24,7 +24,7 @@ use std::sync::Arc;
 
 /// What is kept at an address.
 #[derive(Drop)]
-pub(crate) struct Kept {
+pub(crate) struct StoredObject {
     pub object: Option<Arc<Object>>,
     /// The greatest generation that the number was given; 0 was never given.
     pub last: u64,
@@ -35,7 +35,7 @@ pub(crate) struct Kept {
 /// long as something stands there; of its look-ups only comparisons of views (`fits`) make use.
 #[derive(Drop)]
 pub(crate) struct Objects {
-    slots: Table<Addr, Kept>,
+    slots: Table<Addr, StoredObject>,
     /// At how many addresses something stands.
     standing: u64,
 }
@@ -221,7 +221,7 @@ fn count_after(count: u64, stood: bool, stands: bool) -> u64
 
 /// Makes the writes, for which there is room: at how many addresses something stands then. Each slot that is there
 /// stays.
-fn put_all(slots: &mut Table<Addr, Kept>, standing: u64, writes: Vec<Write>) -> u64
+fn put_all(slots: &mut Table<Addr, StoredObject>, standing: u64, writes: Vec<Write>) -> u64
     requires room { slots_needed (kept_slots (entries slots.old)) (map write_value writes.items) ≤ slots.old.room }
     requires count { HasObjects (store_of (kept_slots (entries slots.old))) standing }
     requires tidy { IsTidy (kept_slots (entries slots.old)) }
@@ -239,7 +239,7 @@ fn put_all(slots: &mut Table<Addr, Kept>, standing: u64, writes: Vec<Write>) -> 
 }
 
 /// Makes a write: at how many addresses something stands then.
-fn make(slots: &mut Table<Addr, Kept>, standing: u64, write: Write) -> u64
+fn make(slots: &mut Table<Addr, StoredObject>, standing: u64, write: Write) -> u64
     requires room { needs_slot (kept_slots (entries slots.old)) (write_value write) ≡ true → 0 < slots.old.room }
     requires count { HasObjects (store_of (kept_slots (entries slots.old))) standing }
     ensures puts { Puts (kept_slots (entries slots.old)) (kept_slots (entries slots.new)) (write_value write) }
@@ -257,7 +257,7 @@ fn make(slots: &mut Table<Addr, Kept>, standing: u64, write: Write) -> u64
 /// Makes a write for which a slot is there: at how many addresses something stands then. A slot that it leaves with
 /// nothing in it goes.
 fn write(
-    slots: &mut Table<Addr, Kept>,
+    slots: &mut Table<Addr, StoredObject>,
     standing: u64,
     address: Addr,
     object: Option<Arc<Object>>,
@@ -281,7 +281,7 @@ fn write(
 
 /// Puts an object at an address, or takes away what stands there: whether something stood there. Only something that is
 /// put where no slot is takes room. The address is looked up once, and once more where a slot comes.
-fn put(slots: &mut Table<Addr, Kept>, address: Addr, object: Option<Arc<Object>>) -> bool
+fn put(slots: &mut Table<Addr, StoredObject>, address: Addr, object: Option<Arc<Object>>) -> bool
     requires { needs_slot (kept_slots (entries slots.old)) (address, option_map arc_value object) ≡ true
         → 0 < slots.old.room }
     ensures puts { Puts (kept_slots (entries slots.old)) (kept_slots (entries slots.new))
@@ -294,11 +294,11 @@ fn put(slots: &mut Table<Addr, Kept>, address: Addr, object: Option<Arc<Object>>
     if let Some(slot) = slots.get_mut(&address) {
         let stood = slot.object.is_some();
         let last = slot.last.max(given);
-        *slot = Kept { object, last };
+        *slot = StoredObject { object, last };
         return stood;
     }
     if object.is_some() {
-        let kept = Kept {
+        let kept = StoredObject {
             object,
             last: given,
         };
@@ -308,7 +308,7 @@ fn put(slots: &mut Table<Addr, Kept>, address: Addr, object: Option<Arc<Object>>
 }
 
 /// Takes out the slots that these writes left with nothing in them.
-fn remove_idle(slots: &mut Table<Addr, Kept>, writes: &[Write])
+fn remove_idle(slots: &mut Table<Addr, StoredObject>, writes: &[Write])
     requires { IsTidyBut (kept_slots (entries slots.old)) (map write_value writes.now) }
     ensures store { store_of (kept_slots (entries slots.new)) ≡ store_of (kept_slots (entries slots.old)) }
     ensures tidy { IsTidy (kept_slots (entries slots.new)) }
@@ -319,7 +319,7 @@ fn remove_idle(slots: &mut Table<Addr, Kept>, writes: &[Write])
 }
 
 /// Takes out the slot of what this write took away, where nothing is kept in it.
-fn take_out_idle(slots: &mut Table<Addr, Kept>, write: &Write)
+fn take_out_idle(slots: &mut Table<Addr, StoredObject>, write: &Write)
     ensures { TakesOutIdle (kept_slots (entries slots.old)) (kept_slots (entries slots.new)) (write_value write.now) }
 {
     if write.object.is_none() && is_idle(slots, write.address) {
@@ -328,7 +328,7 @@ fn take_out_idle(slots: &mut Table<Addr, Kept>, write: &Write)
 }
 
 /// Whether there is a slot at an address in which nothing is kept.
-fn is_idle(slots: &Table<Addr, Kept>, address: Addr) -> bool
+fn is_idle(slots: &Table<Addr, StoredObject>, address: Addr) -> bool
     ensures { result ≡ idle_at (kept_slots (entries slots.now)) address }
 {
     match slots.get(&address) {

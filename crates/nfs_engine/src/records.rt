@@ -20,13 +20,13 @@ pub struct Era {
 
 /// What was executed since the era began, in order. Records are numbered from 1, over all eras.
 #[derive(Drop)]
-pub(crate) struct Records {
+pub(crate) struct EraRecords {
     list: Vec<Arc<Executed>>,
     before: u64,
     bytes: u64,
 }
 
-impl Model for Records {
+impl Model for EraRecords {
     ghost use Rattle.std.specs.Prelude.{◌+◌, ◌-◌, ◌<◌, ◌^◌, length, map};
     ghost use Rattle.std.specs.Vec.{vec_capacity};
     ghost use Rattle.nfs_engine.specs.Arrivals.{shared_value};
@@ -44,12 +44,12 @@ impl Model for Records {
     ghost invariant = { λ r. r.before + length r.list.items < 2 ^ 64 };
 }
 
-impl Records {
+impl EraRecords {
     /// No record yet, in the first era.
-    pub(crate) fn new(alloc: Global) -> Records
+    pub(crate) fn new(alloc: Global) -> EraRecords
         ensures { (result.list ≡ []) × (result.before ≡ 0) × (result.bytes ≡ 0) }
     {
-        Records {
+        EraRecords {
             list: Vec::new(alloc),
             before: 0,
             bytes: 0,

@@ -14,7 +14,7 @@ use crate::arrival::{Incoming, Received};
 use crate::changing::is_changing;
 use bytes::Bytes;
 use nfs_machine::Call;
-use nfs_replies::{Origin, Origins, RecordKey, Sought};
+use nfs_replies::{HashedRef, Origin, Origins, RecordKey};
 use slab::Slab;
 use std::alloc::{AllocError, Global};
 use std::marker::Model;
@@ -41,7 +41,7 @@ pub struct Running {
 
 /// Where a call in progress stands.
 #[derive(Clone, Copy)]
-pub(crate) struct Place {
+pub(crate) struct CallSlot {
     pub id: u64,
     pub key: usize,
 }
@@ -85,7 +85,7 @@ impl Calls {
     }
 
     /// Whether one of them changes something, and came from this host as this record.
-    pub(crate) fn has(&self, host: &Bytes, sought: Sought<'_>) -> bool
+    pub(crate) fn has(&self, host: &Bytes, sought: HashedRef<'_>) -> bool
         ensures { Decides result
             (IsInProgress self.now.living (record { host = host.now; bytes = sought.entry.bytes.now })) }
     {
@@ -122,7 +122,7 @@ impl Calls {
     }
 
     /// One call more, with what it came with, if it changes something. An error changes nothing.
-    pub(crate) fn begin(&mut self, origin: Option<Origin>) -> Result<Place, AdmitError>
+    pub(crate) fn begin(&mut self, origin: Option<Origin>) -> Result<CallSlot, AdmitError>
         requires { IfSome origin (λ o. IsInProgress self.old.living o → ⊥) }
         ensures { IsBegun self.old self.new origin result }
     {
@@ -138,7 +138,7 @@ impl Calls {
         };
         let key = self.living.insert_reserved(Running { id, origin });
         self.next_id = next_id;
-        Ok(Place { id, key })
+        Ok(CallSlot { id, key })
     }
 
     /// This call is no longer in progress.

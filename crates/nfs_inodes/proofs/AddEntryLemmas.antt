@@ -23,7 +23,7 @@ use Rattle.nfs_objects.specs.Store.{Store, with_writes}
 use Rattle.nfs_objects.specs.Values.{DraftValue, known_at, with_written}
 use Rattle.nfs_objects.specs.declared.address.Addr.{Addr}
 use Rattle.nfs_objects.specs.declared.address.Addr.TheVariants as addresses
-use Rattle.nfs_objects.specs.declared.change.Halt.{Halt}
+use Rattle.nfs_objects.specs.declared.change.Missing.{Missing}
 use Rattle.nfs_objects.specs.declared.entry_map.EntryMap.{EntryMap}
 use Rattle.nfs_objects.specs.declared.modes.Mode.{Mode}
 use Rattle.nfs_objects.specs.declared.object.Object.{Object}
@@ -283,7 +283,7 @@ pub record Comes (key : List ℕ) (d mid new : DraftValue) (n : ℕ) (counts wid
   pub is : new ≡ with_written mid (addresses.Part n bucket part) (Some (objects.Part names))
 
 -- what it halts with: with an address that is below, or with the one that is named
-pub part-stops : (d mid : DraftValue) (n bucket width part : ℕ) (halt : Halt) → KeepsButBucket d mid n bucket →
+pub part-stops : (d mid : DraftValue) (n bucket width part : ℕ) (halt : Missing) → KeepsButBucket d mid n bucket →
     PartsLive d n bucket width → part < suc width → Lacks mid (addresses.Part n bucket part) halt →
     StopsAt d (lacked_of d (addresses.Part n bucket width ∷ [])) halt
 part-stops d mid n bucket width part halt keeps lives less lacks = by (cases_eq part width)

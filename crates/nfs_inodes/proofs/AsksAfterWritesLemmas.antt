@@ -17,7 +17,7 @@ use Rattle.nfs_objects.specs.Unfiled.{Enters}
 use Rattle.nfs_objects.specs.Values.{DraftValue, is_addr, known_at, with_written}
 use Rattle.nfs_objects.specs.declared.address.Addr.{Addr}
 use Rattle.nfs_objects.specs.declared.address.Addr.TheVariants as addresses
-use Rattle.nfs_objects.specs.declared.change.Halt.{Halt}
+use Rattle.nfs_objects.specs.declared.change.Missing.{Missing}
 use Rattle.nfs_objects.specs.declared.modes.Mode.{Mode}
 use Rattle.nfs_objects.specs.declared.modes.Mode.TheVariants.{Exclusive}
 use Rattle.nfs_objects.specs.declared.object.Object.{Object}
@@ -74,7 +74,7 @@ module _ (n : ℕ) (old new : DraftValue) (enters : Enters n old new) where
   parts-live-on q bucket width knows live part less =
       lives-on (addresses.Part q bucket part) knows (live part less)
 
-  pub stops-back : (named : List Addr) (halt : Halt) → StopsAt new named halt → StopsAt old named halt
+  pub stops-back : (named : List Addr) (halt : Missing) → StopsAt new named halt → StopsAt old named halt
   stops-back named halt stops =
       subst (λ v. StopsCall old.modes named 0 v halt) enters.view
       (subst (λ m. StopsCall m named 0 new.view halt) enters.modes stops)
@@ -140,7 +140,7 @@ is-part (Some (objects.Locks locks)) part is = cc
 
 -- ---- halts
 -- what is named, known or there stops nothing else
-pub lives-stops : (d : DraftValue) (named : List Addr) (a : Addr) (halt : Halt) →
+pub lives-stops : (d : DraftValue) (named : List Addr) (a : Addr) (halt : Missing) →
     IsAmong named a ⊎ (IsSome (known_at d a) ⊎ IsThere d.view a) → Lacks d a halt → StopsAt d named halt
 lives-stops d named a halt (inl among) lacks = lacks-stops d named 0 a halt lacks (inl among)
 lives-stops d named a halt (inr (inl some)) lacks = absurd (never-lacking d a halt some lacks)
@@ -200,13 +200,13 @@ lacked-back old new (b ∷ named) knows a among =
     by false was false is (inr others) rest = inr (rest others)
 
 -- what a draft lacks of these stops at them
-pub lacked-stops : (d : DraftValue) (named : List Addr) (a : Addr) (halt : Halt) → IsAmong named a → Lacks d a halt →
+pub lacked-stops : (d : DraftValue) (named : List Addr) (a : Addr) (halt : Missing) → IsAmong named a → Lacks d a halt →
     StopsAt d (lacked_of d named) halt
 lacked-stops d named a halt among lacks =
     lacks-stops d (lacked_of d named) 0 a halt lacks (inl (lacked-among d named a among lacks.unknown))
 
 -- and what stops later at some of them stops before
-pub lacked-stops-back : (n : ℕ) (old new : DraftValue) (few named : List Addr) (halt : Halt) → Enters n old new →
+pub lacked-stops-back : (n : ℕ) (old new : DraftValue) (few named : List Addr) (halt : Missing) → Enters n old new →
     KeepsKnown old new → ((a : Addr) → IsAmong (lacked_of old few) a → IsAmong named a) →
     StopsAt new (lacked_of new few) halt → StopsAt old named halt
 lacked-stops-back n old new few named halt enters knows among stops =

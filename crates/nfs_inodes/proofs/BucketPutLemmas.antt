@@ -21,7 +21,7 @@ use Rattle.nfs_objects.proofs.SeenLemmas.{is_addr-same, known-stands}
 use Rattle.nfs_objects.proofs.TurnsLemmas.{locks-kept, locks-put, turns-where-written, turns-written}
 use Rattle.nfs_objects.specs.Fits.{Fits}
 use Rattle.nfs_objects.specs.Knows.{Knows, Turns, TurnsWhere}
-use Rattle.nfs_objects.specs.Stands.{Beside, IsPendingIn, IsPlaced, Kept, Represents, beside_at, bucket_at}
+use Rattle.nfs_objects.specs.Stands.{Beside, IsPendingIn, IsPlaced, StoreMeaning, Represents, beside_at, bucket_at}
 use Rattle.nfs_objects.specs.Stands.{bucket_there, filled}
 use Rattle.nfs_objects.specs.Stands.{content_of, exported_file, file_of, file_there, lives_in, map_in, stored_bucket}
 use Rattle.nfs_objects.specs.Store.{Store, with_write, with_writes}
@@ -139,7 +139,7 @@ regular-mapped beside (contents.CharacterDevice device) e = cc
 regular-mapped beside contents.Socket e = cc
 regular-mapped beside contents.Fifo e = cc
 
-module _ (s : Store) (k : Kept) (stands : Represents s k) where
+module _ (s : Store) (k : StoreMeaning) (stands : Represents s k) where
   -- what may be put somewhere: its export lives, and it is placed
   record MayStand (file : LockedValue) : Type 0 where
     pub lives : lives_in k.state.exports file.export ≡ true
@@ -211,7 +211,8 @@ write-same s index o is = λ i. record { at = λ a. same a i; last = s.last }
         ] refl
 
 -- several files of a bucket have this
-files-stand : (index : ℕ) (files : List LockedValue) → AreOf index files → (s : Store) (k : Kept) → Represents s k →
+files-stand : (index : ℕ) (files : List LockedValue) → AreOf index files → (s : Store) (k : StoreMeaning)
+    → Represents s k →
     (old new : BucketValue) → bucket_there s index ≡ old → AreInserted old files new → MayAllHave k.state files →
     Represents (with_write s (addresses.Locks index) (stored_bucket new)) (all_set files k)
 files-stand index [] own s k stands old new there is may =

@@ -12,7 +12,7 @@ use Rattle.nfs_objects.specs.Stands.{header_in}
 use Rattle.nfs_objects.specs.Values.{DraftValue, ViewValue, known_at}
 use Rattle.nfs_objects.specs.declared.address.Addr.{Addr}
 use Rattle.nfs_objects.specs.declared.address.Addr.TheVariants as addresses
-use Rattle.nfs_objects.specs.declared.change.Halt.{Halt}
+use Rattle.nfs_objects.specs.declared.change.Missing.{Missing}
 use Rattle.nfs_objects.specs.declared.directory.Directory.{Directory}
 use Rattle.nfs_objects.specs.declared.entry_map.EntryMap.{EntryMap}
 use Rattle.nfs_objects.specs.declared.object.Content.{Content}
@@ -52,7 +52,7 @@ less-width less more fewer bucket = by (cases_lt (width_in more.counts bucket) (
         (let no = ltb-true width width told in omega (arith, no))
 
 -- the directory that gets a name may be asked for
-pub directory-stops : (d : DraftValue) (n : ℕ) (name : List ℕ) (cookie : ℕ) (halt : Halt) →
+pub directory-stops : (d : DraftValue) (n : ℕ) (name : List ℕ) (cookie : ℕ) (halt : Missing) →
     StopsAt d (addresses_of d.view n) halt → StopsAt d (grown_at d n name cookie) halt
 directory-stops d n name cookie halt stops =
     stops-wider d.modes (addresses_of d.view n) (grown_at d n name cookie) 0 d.view halt
@@ -110,7 +110,7 @@ module _ (d : DraftValue) (n : ℕ) (i : Inode) (h : Directory) (has : HasDirect
                 | inr there ↦ inr there
               ]
 
-      pub grown-stops : (halt : Halt) → StopsAt mid (lacked_of mid (places_for others n name cookie)) halt →
+      pub grown-stops : (halt : Missing) → StopsAt mid (lacked_of mid (places_for others n name cookie)) halt →
           StopsAt d (grown_at d n name cookie) halt
       grown-stops halt stops =
           stops-wider d.modes (lacked_of mid (places_for others n name cookie)) (grown_at d n name cookie) 0 d.view halt

@@ -19,7 +19,8 @@ use Rattle.nfs_objects.specs.ExportTables.{ExportTableValue, IsExportTable, tabl
 use Rattle.nfs_objects.specs.Knows.{Shows, Turns}
 use Rattle.nfs_objects.specs.Bits.{no_bits}
 use Rattle.nfs_objects.specs.declared.object.Content.{Content}
-use Rattle.nfs_objects.specs.Stands.{HasBlocks, HoldsEntries, IsFitting, Kept, Represents, bucket_there, entry_map_in}
+use Rattle.nfs_objects.specs.Stands.{HasBlocks, HoldsEntries, IsFitting, StoreMeaning, Represents, bucket_there}
+use Rattle.nfs_objects.specs.Stands.{entry_map_in}
 use Rattle.nfs_objects.specs.Stands.{entry_map_of, export_table_of, exports_of, inode_in, links_kept, lives_in}
 use Rattle.nfs_objects.specs.Stands.{living_in, living_of_inode, map_in, pages_of, parent_kept}
 use Rattle.nfs_objects.specs.Store.{Store, with_write, with_writes}
@@ -65,7 +66,7 @@ none-has d table is numbered s k fits stands =
 last-same : (last generation : ℕ) → generation ≤ last → max last generation ≡ last
 last-same last generation within = omega (arith, within)
 
-module _ (s : Store) (k : Kept) (n : ℕ) (i j : Inode) (stands : Represents s k)
+module _ (s : Store) (k : StoreMeaning) (n : ℕ) (i j : Inode) (stands : Represents s k)
     (at : s.at (addresses.Inode n) ≡ Some (objects.Inode i)) (is : j ≡ record i { export = 0 })
     (none : lives_in k.state.exports 0 ≡ false) (unlocked : file_in (bucket_there s (n % bucket_count)) n ≡ None) where
   abbrev left : Store

@@ -11,7 +11,7 @@ use Rattle.nfs_objects.specs.Asks.{IsThere}
 use Rattle.nfs_objects.specs.Directories.{AreBeside, is_listed}
 use Rattle.nfs_objects.specs.Drafts.{MayChange}
 use Rattle.nfs_objects.specs.Fits.{Fits}
-use Rattle.nfs_objects.specs.Stands.{HasEntries, HoldsEntries, Kept, StandEntries, content_of, entry_map_in}
+use Rattle.nfs_objects.specs.Stands.{HasEntries, HoldsEntries, StoreMeaning, StandEntries, content_of, entry_map_in}
 use Rattle.nfs_objects.specs.Stands.{entry_map_of}
 use Rattle.nfs_objects.specs.Stands.{inode_of}
 use Rattle.nfs_objects.specs.Store.{Store, with_writes}
@@ -45,7 +45,7 @@ bare-content contents.Socket is = refl
 bare-content contents.Fifo is = refl
 
 module _ (d : DraftValue) (n : ℕ) (o : Option Object) (known : known_at d (addresses.Inode n) ≡ Some o) where
-  holds : (s : Store) (k : Kept) → Fits d.view s → (stand : StandEntries (with_writes s d.writes) k n) →
+  holds : (s : Store) (k : StoreMeaning) → Fits d.view s → (stand : StandEntries (with_writes s d.writes) k n) →
       HoldsEntries (with_writes s d.writes) n (entry_map_of o) stand.entries
   holds s k fits stand = subst (λ x. HoldsEntries (with_writes s d.writes) n (entry_map_of x) stand.entries)
       (known-stands d s (addresses.Inode n) o fits known) stand.holds
@@ -70,7 +70,7 @@ module _ (d : DraftValue) (n : ℕ) (o : Option Object) (known : known_at d (add
     map-is : entry_map_of o ≡ Some directory.entries
     map-is = ap map_of_inode (sym is) ∙ ap entry_map_in content
 
-    has : (s : Store) (k : Kept) → Fits d.view s → (stand : StandEntries (with_writes s d.writes) k n) →
+    has : (s : Store) (k : StoreMeaning) → Fits d.view s → (stand : StandEntries (with_writes s d.writes) k n) →
         HasEntries (with_writes s d.writes) n directory.entries stand.entries
     has s k fits stand =
         subst (λ m. HoldsEntries (with_writes s d.writes) n m stand.entries) map-is (holds s k fits stand)

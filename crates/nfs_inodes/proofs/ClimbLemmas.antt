@@ -23,7 +23,7 @@ use Rattle.nfs_objects.proofs.SeenLemmas.{is_addr-same, unknown-unseen}
 use Rattle.nfs_objects.specs.Asks.{IsThere}
 use Rattle.nfs_objects.specs.Knows.{Knows, Possible}
 use Rattle.nfs_objects.specs.Modes.{held_mode}
-use Rattle.nfs_objects.specs.Stands.{Kept, Represents, beside_at, content_of, filled, header_in}
+use Rattle.nfs_objects.specs.Stands.{StoreMeaning, Represents, beside_at, content_of, filled, header_in}
 use Rattle.nfs_objects.specs.Stands.{living_of_inode, parent_in}
 use Rattle.nfs_objects.specs.Store.{Store, with_writes}
 use Rattle.nfs_objects.specs.Values.{DraftValue, Seen, is_addr, known_at, seen_at, shown_at, written_at}
@@ -38,7 +38,7 @@ use Rattle.nfs_inodes.proofs.PutObjectLemmas.{inode-known}
 use Rattle.nfs_inodes.proofs.StandsLemmas.{directory-kind, kind-is, known-lives, lives-there, parent-there}
 use Rattle.nfs_inodes.specs.Gathers.{MayWish, wish, wish_above}
 use Rattle.nfs_inodes.specs.Known.{HasInode, IsKnown, content_at}
-use Rattle.nfs_inodes.specs.declared.kinds.Directory.{Directory}
+use Rattle.nfs_inodes.specs.declared.kinds.KnownDirectory.{KnownDirectory}
 
 -- ---- one directory up
 two-parts : {X : Type 0} (f : X → ℕ) (m : FinMap nat_cmp X) (k j : ℕ) (v u : X) → get m k ≡ Some v →
@@ -287,7 +287,7 @@ count-all p (e ∷ es) =
           (arith, rest, none, sum_by-cons (λ (x : Seen). cond {A = ℕ} (p x) 1 0) e es))
     ] refl
 
-module _ (d : DraftValue) (upper : ℕ) (directory : Directory) (none : d.writes ≡ [])
+module _ (d : DraftValue) (upper : ℕ) (directory : KnownDirectory) (none : d.writes ≡ [])
     (known : Knows d (λ k. IsKnown k.state directory.known)) where
   abbrev lower : ℕ
   lower = directory.known.number
@@ -316,7 +316,7 @@ module _ (d : DraftValue) (upper : ℕ) (directory : Directory) (none : d.writes
     abbrev Parent : ℕ → Type 0
     Parent parent = Knows d (λ k. k.parents number ≡ parent)
 
-    parent-of : (s : Store) (k : Kept) → Possible d s k → (parent : ℕ) → k.parents number ≡ parent →
+    parent-of : (s : Store) (k : StoreMeaning) → Possible d s k → (parent : ℕ) → k.parents number ≡ parent →
         IsParent k.state number parent
     parent-of s k w parent is =
         let o = living-directory (get k.state.objects number) (c.directory s k w) in

@@ -9,7 +9,7 @@ use Rattle.std.proofs.Common.{Result, Ok, Err, get_or, length-append}
 use Rattle.std.specs.Prelude.{MatchResult, OnOk}
 use Rattle.std.proofs.lemmas.List.{get_or_append_left, get_or_push, length-take, take_all}
 use Rattle.nfs_objects.specs.Attempt.{StopsCall}
-use Rattle.nfs_objects.specs.declared.change.Halt.{Halt}
+use Rattle.nfs_objects.specs.declared.change.Missing.{Missing}
 use Rattle.std.specs.Cmp.{unsigned_Decides}
 use Rattle.std.specs.Int.{bit_at}
 use Rattle.nfs_objects.proofs.BitSetLemmas.{has-none}
@@ -22,7 +22,8 @@ use Rattle.nfs_objects.specs.Calls.{IsAmong}
 use Rattle.nfs_objects.specs.FileMaps.{block_size}
 use Rattle.nfs_objects.specs.Fits.{Fits}
 use Rattle.nfs_objects.specs.SameLaws.{bits_decides}
-use Rattle.nfs_objects.specs.Stands.{HasBlocks, IsMapped, IsStored, Kept, Represents, block_of, map_of, stored_in}
+use Rattle.nfs_objects.specs.Stands.{HasBlocks, IsMapped, IsStored, StoreMeaning, Represents, block_of, map_of}
+use Rattle.nfs_objects.specs.Stands.{stored_in}
 use Rattle.nfs_objects.specs.Stands.{stored_map}
 use Rattle.nfs_objects.specs.Store.{Store, with_writes}
 use Rattle.nfs_objects.specs.Unfiled.{Lays}
@@ -715,7 +716,7 @@ module _ (old : DraftValue) (n : ℕ) (pages : Bits) (size : ℕ) (shows : HasPa
         empty : (m : ℕ) → take {A = ℕ} m [] ≡ []
         empty m = take_all m [] (omega arith)
 
-        nothing : (s : Store) (k : Kept) (i : ℕ) → Fits old.view s → Represents (with_writes s old.writes) k →
+        nothing : (s : Store) (k : StoreMeaning) (i : ℕ) → Fits old.view s → Represents (with_writes s old.writes) k →
             page * 512 ≤ i → i < (page + 1) * 512 → at-old s (addresses.Block n i) ≡ None
         nothing s k i fits stands here before =
             let row : page ≡ i / 512 = omega (arith, here, before) in
@@ -773,7 +774,8 @@ module _ (old : DraftValue) (n : ℕ) (pages : Bits) (size : ℕ) (shows : HasPa
             ⊎ (page * 512 + place < (size / block_size))
         pub stands : IsStored (has cut.left place) (at-new s (addresses.Block n (page * 512 + place)))
 
-      module _ (s : Store) (k : Kept) (fits : Fits old.view s) (stands : Represents (with_writes s old.writes) k) where
+      module _ (s : Store) (k : StoreMeaning) (fits : Fits old.view s) (stands : Represents (with_writes s old.writes)
+          k) where
         filed : HasBlocks (with_writes s old.writes) n pages
         filed = has-blocks old n pages shows s k fits stands
 
@@ -1002,7 +1004,7 @@ module _ (old new : DraftValue) (n before size : ℕ) (left : Bits) where
     maps = cut.maps;
   }
 
-pub smaller-result : (old new : DraftValue) (n before size : ℕ) (r : Result Bits Halt) →
+pub smaller-result : (old new : DraftValue) (n before size : ℕ) (r : Result Bits Missing) →
     MatchResult r (IsCutAt old new n size) (StopsAt old []) → MatchResult r (IsResized old new n before size)
     (StopsAt old [])
 smaller-result old new n before size (Ok left) cut = smaller old new n before size left cut
@@ -1082,7 +1084,7 @@ in-end d file first maps from page end asked most past asks =
     }) asks
 
 -- what halts a draft whose blocks and maps were written halts the one before
-pub laid-stops : (n : ℕ) (d mid : DraftValue) (named : List Addr) (halt : Halt) → Lays n d mid → StopsAt mid named
+pub laid-stops : (n : ℕ) (d mid : DraftValue) (named : List Addr) (halt : Missing) → Lays n d mid → StopsAt mid named
     halt →
     StopsAt d named halt
 laid-stops n d mid named halt lays stops =

@@ -10,7 +10,7 @@ use Rattle.nfs_objects.specs.Asks.{IsThere}
 use Rattle.nfs_objects.specs.Directories.{AreBeside, has_some, in_page, is_beside, is_listed, led_in_part, width_in}
 use Rattle.nfs_objects.specs.PageRuns.{lists}
 use Rattle.nfs_objects.specs.Fits.{Fits}
-use Rattle.nfs_objects.specs.Stands.{HasEntries, HoldsEntries, IsPart, Kept, StandEntries, entry_map_in}
+use Rattle.nfs_objects.specs.Stands.{HasEntries, HoldsEntries, IsPart, StoreMeaning, StandEntries, entry_map_in}
 use Rattle.nfs_objects.specs.Stands.{entry_map_of, stored_page}
 use Rattle.nfs_objects.specs.Store.{Store, with_writes}
 use Rattle.nfs_objects.specs.Values.{DraftValue, known_at}
@@ -62,7 +62,7 @@ pub directory-lives : (d : DraftValue) (n : ℕ) (i : Inode) (m : EntryMap) → 
     entry_map_in i.content ≡ Some m → StillStands d → DirectoryLives d n m
 directory-lives d n i m found is still a told = by (known_at d a) refl
   where
-    holds : (s : Store) (k : Kept) → Fits d.view s → StandEntries (with_writes s d.writes) k n →
+    holds : (s : Store) (k : StoreMeaning) → Fits d.view s → StandEntries (with_writes s d.writes) k n →
         IsSome ((with_writes s d.writes).at a)
     holds s k fits stand =
         let at : (with_writes s d.writes).at (addresses.Inode n) ≡ Some (objects.Inode i) =

@@ -9,7 +9,8 @@ use Rattle.nfs_objects.specs.Bits.{has, no_bits}
 use Rattle.nfs_objects.specs.Edits.{with_living}
 use Rattle.nfs_objects.specs.Fits.{Fits}
 use Rattle.nfs_objects.specs.Knows.{Turns}
-use Rattle.nfs_objects.specs.Stands.{Beside, HasBlocks, HasEntries, HoldsEntries, IsFitting, IsMapped, IsStored, Kept}
+use Rattle.nfs_objects.specs.Stands.{Beside, HasBlocks, HasEntries, HoldsEntries, IsFitting, IsMapped, IsStored}
+use Rattle.nfs_objects.specs.Stands.{StoreMeaning}
 use Rattle.nfs_objects.specs.Stands.{Represents}
 use Rattle.nfs_objects.specs.Stands.{beside_at, entries_at, entry_map_in}
 use Rattle.nfs_objects.specs.Stands.{lives_in, living_of_inode, map_in, map_of, pages_of, parent_in}
@@ -62,13 +63,14 @@ module _ (d laid : DraftValue) (n : ℕ) (i j : Inode) (before after : EntryMap)
     (Asked : List Entry → Type 0) (relists : Relists n d laid before after change Asked) (found : HasInode d n (Some i))
     (was : entry_map_in i.content ≡ Some before) (is : entry_map_in j.content ≡ Some after) where
   -- what is beside it then
-  abbrev pub beside_then : Kept → Beside
+  abbrev pub beside_then : StoreMeaning → Beside
   beside_then k = record (beside_at k.state n) { entries = change (entries_at k.state n) }
 
   -- the draft with its inode
-  pub listing-turns : (op : Kept → Kept)
-      → ((s : Store) (k : Kept) → Fits d.view s → Represents (with_writes s d.writes) k → Asked (entries_at k.state n))
-      → ((s : Store) (k : Kept) → Fits d.view s → Represents (with_writes s d.writes) k →
+  pub listing-turns : (op : StoreMeaning → StoreMeaning)
+      → ((s : Store) (k : StoreMeaning) → Fits d.view s → Represents (with_writes s d.writes) k
+      → Asked (entries_at k.state n))
+      → ((s : Store) (k : StoreMeaning) → Fits d.view s → Represents (with_writes s d.writes) k →
       op k ≡ with_living k n (living_of_inode (beside_then k) j) j.links (parent_in j.content))
       → j.export ≡ i.export → j.generation ≡ i.generation → IsFitting n j
       → Turns d (with_written laid (addresses.Inode n) (Some (objects.Inode j))) op
@@ -106,7 +108,8 @@ module _ (d laid : DraftValue) (n : ℕ) (i j : Inode) (before after : EntryMap)
 
   -- so it is with a change of what lives there that is the inode with its new entries
   pub listed-turns : (f : Living → Option Living) (links : ℕ → ℕ)
-      → ((s : Store) (k : Kept) → Fits d.view s → Represents (with_writes s d.writes) k → Asked (entries_at k.state n))
+      → ((s : Store) (k : StoreMeaning) → Fits d.view s → Represents (with_writes s d.writes) k
+      → Asked (entries_at k.state n))
       → ((beside : Beside) → Asked beside.entries → f (living_of_inode beside i) ≡
       Some (living_of_inode (record beside { entries = change beside.entries }) j))
       → j.links ≡ links i.links → parent_in j.content ≡ parent_in i.content → j.export ≡ i.export

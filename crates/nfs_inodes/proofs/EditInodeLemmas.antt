@@ -9,7 +9,7 @@ use Rattle.nfs_objects.proofs.PromiseLemmas.{turns-none}
 use Rattle.nfs_objects.proofs.TurnsLemmas.{edit-turns}
 use Rattle.nfs_objects.specs.Edits.{edited, with_living}
 use Rattle.nfs_objects.specs.Knows.{Turns}
-use Rattle.nfs_objects.specs.Stands.{Beside, IsFitting, Kept, entry_map_in, living_of_inode, map_in, parent_in}
+use Rattle.nfs_objects.specs.Stands.{Beside, IsFitting, StoreMeaning, entry_map_in, living_of_inode, map_in, parent_in}
 use Rattle.nfs_objects.specs.Values.{DraftValue, with_written}
 use Rattle.nfs_objects.specs.declared.address.Addr.TheVariants as addresses
 use Rattle.nfs_objects.specs.declared.object.Inode.{Inode}
@@ -19,11 +19,11 @@ use Rattle.nfs_inodes.proofs.StandsLemmas.{lives-there, shows-export}
 use Rattle.nfs_inodes.specs.Known.{HasInode}
 
 module _ (object : Living → Living) (links : ℕ → ℕ) where
-  abbrev over : Kept → ℕ → Option Living → Kept
+  abbrev over : StoreMeaning → ℕ → Option Living → StoreMeaning
   over k n o = elim o [ None ↦ k | Some p ↦ with_living k n (object p) (links (k.links n)) (k.parents n) ]
 
   -- of what lives there
-  pub edited-is : (k : Kept) (n : ℕ) (o : Living) → get k.state.objects n ≡ Some o → edited k n object links ≡
+  pub edited-is : (k : StoreMeaning) (n : ℕ) (o : Living) → get k.state.objects n ≡ Some o → edited k n object links ≡
       with_living k n (object o) (links (k.links n)) (k.parents n)
   edited-is k n o lives = ap (over k n) lives
 

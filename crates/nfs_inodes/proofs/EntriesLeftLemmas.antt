@@ -22,7 +22,8 @@ use Rattle.nfs_objects.specs.Fits.{Fits}
 use Rattle.nfs_objects.specs.Knows.{Knows, Possible}
 use Rattle.nfs_objects.specs.PageRuns.{IsNextPage, lists}
 use Rattle.nfs_objects.specs.Sound.{Sound}
-use Rattle.nfs_objects.specs.Stands.{HasEntries, Kept, Represents, entries_at, entry_map_in, page_of, stored_page}
+use Rattle.nfs_objects.specs.Stands.{HasEntries, StoreMeaning, Represents, entries_at, entry_map_in, page_of}
+use Rattle.nfs_objects.specs.Stands.{stored_page}
 use Rattle.nfs_objects.specs.Stands.{content_of, parent_in}
 use Rattle.nfs_objects.specs.Store.{Store, with_writes}
 use Rattle.nfs_objects.specs.Values.{DraftValue, known_at}
@@ -127,11 +128,11 @@ module _ (d : DraftValue) (x : Known) (known : Knows d (λ k. IsKnown k.state x)
 
   -- ---- page by page
   module _ (i : Inode) (h : Header) (has : HasInode d x.number (Some i)) (is : i.content ≡ contents.Directory h) where
-    there : (s : Store) (k : Kept) → Possible d s k →
+    there : (s : Store) (k : StoreMeaning) → Possible d s k →
         HasEntries (with_writes s d.writes) x.number h.entries (entries_at k.state x.number)
     there s k w = entries-there d x.number i h.entries has (ap entry_map_in is) s k w.fits w.stands
 
-    rise : (s : Store) (k : Kept) → Possible d s k → WellFormed k.state →
+    rise : (s : Store) (k : StoreMeaning) → Possible d s k → WellFormed k.state →
         (last : ℕ) × CookiesRise 2 (entries_at k.state x.number) last
     rise s k w formed =
         subst (λ es. (last : ℕ) × CookiesRise 2 es last) (entries-own k.state x.number)
@@ -178,7 +179,7 @@ module _ (d : DraftValue) (x : Known) (known : Knows d (λ k. IsKnown k.state x)
           ∙ ap (behind cookie) (sym more))
 
     -- ---- what is left
-    left-is : (s : Store) (k : Kept) → Possible d s k →
+    left-is : (s : Store) (k : StoreMeaning) → Possible d s k →
         behind cookie (all_entries x.number (k.parents x.number) (entries_of (content_at k.state x.number)))
         ≡ dots_behind x.number h.parent cookie ++ behind cookie (entries_at k.state x.number)
     left-is s k w =
@@ -233,7 +234,7 @@ all-front P (x ∷ xs) ys all = (all.0, all-front P xs ys all.1)
 
 -- what stands in each store stands there one by one
 each-apart : (d : DraftValue) (es : List Entry) →
-    ((s : Store) (k : Kept) → Fits d.view s → Represents s k → Sound k → WellFormed k.state →
+    ((s : Store) (k : StoreMeaning) → Fits d.view s → Represents s k → Sound k → WellFormed k.state →
     AllByRecursion (λ (e : Entry). IsSome (s.at (addresses.Inode e.number))) es) → EachLives d.view es
 each-apart d [] all = tt
 each-apart d (e ∷ es) all = (

@@ -11,7 +11,7 @@ use Rattle.nfs_objects.specs.Sums.{group_of}
 use Rattle.nfs_objects.specs.Values.{DraftValue, is_addr, known_at}
 use Rattle.nfs_objects.specs.declared.address.Addr.{Addr}
 use Rattle.nfs_objects.specs.declared.address.Addr.TheVariants as addresses
-use Rattle.nfs_objects.specs.declared.change.Halt.{Halt}
+use Rattle.nfs_objects.specs.declared.change.Missing.{Missing}
 use Rattle.nfs_objects.specs.declared.directory.Directory.{Directory}
 use Rattle.nfs_objects.specs.declared.entry_map.EntryMap.{EntryMap}
 use Rattle.nfs_objects.specs.declared.modes.Mode.{Mode}
@@ -186,7 +186,7 @@ usage-apart export n a (inr none) = absurd none
 
 -- ---- halts
 -- what reads the directory may add to it
-pub grown-stops : (d : DraftValue) (n : ℕ) (name : List ℕ) (cookie : ℕ) (halt : Halt) →
+pub grown-stops : (d : DraftValue) (n : ℕ) (name : List ℕ) (cookie : ℕ) (halt : Missing) →
     StopsAt d (addresses_of d.view n) halt → StopsAt d (grown_at d n name cookie) halt
 grown-stops d n name cookie halt stops =
     front-stops d (addresses_of d.view n) (elim (header_at d n) [

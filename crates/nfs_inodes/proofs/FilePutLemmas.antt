@@ -24,7 +24,8 @@ use Rattle.nfs_objects.specs.FileMaps.{FileMapValue, IsContent, block_size}
 use Rattle.nfs_objects.specs.Drafts.{MayChange, MayGive}
 use Rattle.nfs_objects.specs.Fits.{Fits}
 use Rattle.nfs_objects.specs.Knows.{Turns}
-use Rattle.nfs_objects.specs.Stands.{Beside, HasBlocks, HoldsEntries, IsFitting, Kept, Represents, StandDirectories}
+use Rattle.nfs_objects.specs.Stands.{Beside, HasBlocks, HoldsEntries, IsFitting, StoreMeaning, Represents}
+use Rattle.nfs_objects.specs.Stands.{StandDirectories}
 use Rattle.nfs_objects.specs.Stands.{beside_at}
 use Rattle.nfs_objects.specs.Stands.{bytes_at, entry_map_in, entry_map_of, lives_in, living_of_inode}
 use Rattle.nfs_objects.specs.Stands.{map_in, parent_in, stored_in}
@@ -55,7 +56,7 @@ use Rattle.nfs_objects.specs.Stands.{bucket_at}
 use Rattle.nfs_inodes.specs.Locks.{HasNone}
 
 -- where a file stands, no page and no part does, also once its blocks and maps were written
-file-bare : (s t : Store) (k : Kept) (n : ℕ) (i : Inode) (map : FileMapValue) → KeepsEntries s t →
+file-bare : (s t : Store) (k : StoreMeaning) (n : ℕ) (i : Inode) (map : FileMapValue) → KeepsEntries s t →
     s.at (addresses.Inode n) ≡ Some (objects.Inode i) → i.content ≡ contents.Regular map → StandDirectories s k →
     (entries : List Entry) → HoldsEntries t n None entries
 file-bare s t k n i map keeps at is stand entries =
@@ -70,9 +71,9 @@ module _ (d laid : DraftValue) (n : ℕ) (i : Inode) (has : HasInode d n (Some i
       let j : Inode = record i
       { content = contents.Regular after; modified = touch i.changed now; changed = touch i.changed now } in
       i.content ≡ contents.Regular map
-      → ((s : Store) (k : Kept) → Fits d.view s → Represents (with_writes s d.writes) k →
+      → ((s : Store) (k : StoreMeaning) → Fits d.view s → Represents (with_writes s d.writes) k →
       HasBlocks (with_writes s laid.writes) n after.pages)
-      → ((s : Store) (k : Kept) → Fits d.view s → Represents (with_writes s d.writes) k →
+      → ((s : Store) (k : StoreMeaning) → Fits d.view s → Represents (with_writes s d.writes) k →
       IsContent after.size (λ b. stored_in ((with_writes s laid.writes).at (addresses.Block n b)))
       (change (bytes_at k.state n)))
       → IsFitting n j
@@ -123,7 +124,7 @@ laid-change n d laid lays a may =
 
 -- what lives at a number goes, once no block and no map of it is there, and then no page and no part
 pub gone-turns : (d cut laid : DraftValue) (n : ℕ) → Lays n d cut → Enters n cut laid
-    → ((s : Store) (k : Kept) → Fits d.view s → Represents (with_writes s d.writes) k →
+    → ((s : Store) (k : StoreMeaning) → Fits d.view s → Represents (with_writes s d.writes) k →
     HasBlocks (with_writes s laid.writes) n no_bits × HoldsEntries (with_writes s laid.writes) n None [])
     → HasNone d n → Turns d (with_written laid (addresses.Inode n) None) (λ k. freed k n)
 gone-turns d cut laid n lays enters bare unlocked = record {
@@ -148,9 +149,9 @@ module _ (d mid laid : DraftValue) (n : ℕ) (i : Inode) (map after : FileMapVal
 
   pub written-turns : (share : Share) (uses : Usage) (new : DraftValue) (j : Inode) → HasInode d n (Some i)
       → i.content ≡ contents.Regular map → Lays n mid laid
-      → ((s : Store) (k : Kept) → Fits mid.view s → Represents (with_writes s mid.writes) k →
+      → ((s : Store) (k : StoreMeaning) → Fits mid.view s → Represents (with_writes s mid.writes) k →
       HasBlocks (with_writes s laid.writes) n after.pages)
-      → ((s : Store) (k : Kept) → Fits mid.view s → Represents (with_writes s mid.writes) k →
+      → ((s : Store) (k : StoreMeaning) → Fits mid.view s → Represents (with_writes s mid.writes) k →
       IsContent after.size (λ b. stored_in ((with_writes s laid.writes).at (addresses.Block n b)))
       (change (bytes_at k.state n)))
       → j ≡ put → IsShareOf i share → uses ≡ one_using ((after.size + 4095) / block * block)
@@ -178,7 +179,7 @@ module _ (d mid laid : DraftValue) (n : ℕ) (i : Inode) (map after : FileMapVal
       (λ e. ap (λ (x : Share). in_export x.export uses e) shares ∙ ap (λ u. in_export i.export u e) used
       ∙ ap (λ z. in_export i.export (one_using ((z + 4095) / block * block)) e) (sym length-is)
       ∙ ap (λ p. shares_of p e) (sym (put-there k.state n file))))
-      ∙ ap (λ (q : Kept). counted_anew n (get k.state.objects n) q)
+      ∙ ap (λ (q : StoreMeaning). counted_anew n (get k.state.objects n) q)
       (sym (changed-is k n (k.links n) (with_bytes now change) (living_of_inode beside i) file lives changed)))
       (turns-both d mid new (counted n share.export share.usage uses)
       (λ k. changed_at k n (with_bytes now change)) counts
@@ -225,7 +226,7 @@ put-made i copy j at now made after is when same new =
 pub range-content : (mid laid : DraftValue) (n : ℕ) (map : FileMapValue) (offset size : ℕ) (more : List ℕ)
     (pages : Bits) →
     HasMap mid n map → WritesRange mid laid n offset more pages → 0 < length more →
-    size ≡ max map.size (offset + length more) → (s : Store) (k : Kept) → Fits mid.view s →
+    size ≡ max map.size (offset + length more) → (s : Store) (k : StoreMeaning) → Fits mid.view s →
     Represents (with_writes s mid.writes) k →
     IsContent size (λ b. stored_in ((with_writes s laid.writes).at (addresses.Block n b)))
     (written (bytes_at k.state n) offset more)

@@ -16,10 +16,10 @@ use Rattle.nfs_objects.specs.Asks.{Lacks}
 use Rattle.nfs_objects.specs.Calls.{addresses_of, locks_at}
 use Rattle.nfs_objects.specs.Edits.{freed}
 use Rattle.nfs_objects.specs.Knows.{Turns}
-use Rattle.nfs_objects.specs.Stands.{Kept}
+use Rattle.nfs_objects.specs.Stands.{StoreMeaning}
 use Rattle.nfs_objects.specs.Values.{DraftValue}
 use Rattle.nfs_objects.specs.declared.address.Addr.TheVariants as addresses
-use Rattle.nfs_objects.specs.declared.change.Halt.{Halt}
+use Rattle.nfs_objects.specs.declared.change.Missing.{Missing}
 use Rattle.nfs_inodes.proofs.ReaderHaltLemmas.{lacking-stops}
 use Rattle.nfs_inodes.proofs.PutObjectLemmas.{removed-turns, turns-as}
 use Rattle.nfs_inodes.specs.Counts.{uncounted}
@@ -60,7 +60,7 @@ module _ (n : ℕ) where
       ∙ left-twice (get granted q)
       ∙ sym (get-grants_but (λ (g : PendingGrant). g.file == n) granted q))
 
-  freed-locked : (k : Kept) → freed (locks_freed n k) n ≡ freed k n
+  freed-locked : (k : StoreMeaning) → freed (locks_freed n k) n ≡ freed k n
   freed-locked k = λ i. record (freed k n) {
     state = record ((freed k n).state) {
       locks = removed-twice k.state.locks n i;
@@ -79,19 +79,19 @@ module _ (n : ℕ) where
       (turns-both mid forgot new (locks_freed n) (λ k. freed k n) forgets frees))
 
 -- ---- halts where locks are taken away
-pub forget-stops : (d : DraftValue) (n : ℕ) (halt : Halt) → StopsAt d (locks_at n) halt →
+pub forget-stops : (d : DraftValue) (n : ℕ) (halt : Missing) → StopsAt d (locks_at n) halt →
     StopsAt d (addresses_of d.view n ++ locks_at n) halt
 forget-stops d n halt stops =
     stops-wider d.modes (locks_at n) (addresses_of d.view n ++ locks_at n) 0 d.view halt
     (covers-among (locks_at n) (addresses_of d.view n ++ locks_at n) d.view
     (λ a among. among-behind (addresses_of d.view n) (locks_at n) a among)) stops
 
-pub forget-result : {A : Type 0} (d : DraftValue) (n : ℕ) (P : A → Type 0) (r : Result A Halt) →
+pub forget-result : {A : Type 0} (d : DraftValue) (n : ℕ) (P : A → Type 0) (r : Result A Missing) →
     MatchResult r P (StopsAt d (locks_at n)) → MatchResult r P (StopsAt d (addresses_of d.view n ++ locks_at n))
 forget-result d n P (Ok x) does = does
 forget-result d n P (Err halt) stops = forget-stops d n halt stops
 
-pub inode-lacked : (d : DraftValue) (n : ℕ) (halt : Halt) → Lacks d (addresses.Inode n) halt →
+pub inode-lacked : (d : DraftValue) (n : ℕ) (halt : Missing) → Lacks d (addresses.Inode n) halt →
     StopsAt d (addresses_of d.view n ++ locks_at n) halt
 inode-lacked d n halt lacks =
     stops-wider d.modes (addresses.Inode n ∷ []) (addresses_of d.view n ++ locks_at n) 0 d.view halt

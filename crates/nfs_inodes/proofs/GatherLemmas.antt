@@ -17,7 +17,7 @@ use Rattle.nfs_objects.specs.declared.address.Addr.{Addr}
 use Rattle.nfs_objects.specs.declared.address.Addr.TheVariants as addresses
 use Rattle.nfs_objects.specs.declared.modes.Mode.{Mode}
 use Rattle.nfs_inodes.specs.Gathers.{EachKnown, Gathers, IsKnownOrAsked, MayWish, wish}
-use Rattle.nfs_inodes.specs.declared.gather.Wishes.{Wishes}
+use Rattle.nfs_inodes.specs.declared.gather.WantedObjects.{WantedObjects}
 
 -- ---- each address once
 once-more : (asked : List (Addr × Mode)) (x : Addr × Mode) → EachOnce asked →
@@ -59,7 +59,7 @@ module _ (d : DraftValue) (n : ℕ) where
       ] refl is
 
 -- ---- one more entry
-module _ (d : DraftValue) (entries : List Entry) (e : Entry) (n : ℕ) (number : e.number ≡ n) (old new : Wishes)
+module _ (d : DraftValue) (entries : List Entry) (e : Entry) (n : ℕ) (number : e.number ≡ n) (old new : WantedObjects)
     (gathers : Gathers d entries old) where
   abbrev Goes : List (Addr × Mode) → Entry → Type 0
   Goes asked x = IsKnownOrAsked d asked (addresses.Inode x.number)
@@ -116,7 +116,7 @@ module _ (d : DraftValue) (entries : List Entry) (e : Entry) (n : ℕ) (number :
       }
 
 -- ---- the end
-module _ (d : DraftValue) (entries : List Entry) (wishes : Wishes) (gathers : Gathers d entries wishes) where
+module _ (d : DraftValue) (entries : List Entry) (wishes : WantedObjects) (gathers : Gathers d entries wishes) where
   pub none-lacked : wishes.asked.items ≡ [] → EachKnown d entries
   none-lacked none =
       all-map (λ (e : Entry). IsKnownOrAsked d wishes.asked.items (addresses.Inode e.number))

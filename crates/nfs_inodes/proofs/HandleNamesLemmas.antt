@@ -17,7 +17,7 @@ use Rattle.nfs_machine.specs.declared.context.Ctx.{Ctx}
 use Rattle.nfs_machine.specs.declared.handle.Handle.{Handle}
 use Rattle.nfs_objects.specs.Knows.{Knows, Possible}
 use Rattle.nfs_objects.specs.Sound.{Sound}
-use Rattle.nfs_objects.specs.Stands.{Kept}
+use Rattle.nfs_objects.specs.Stands.{StoreMeaning}
 use Rattle.nfs_objects.specs.Values.{DraftValue}
 use Rattle.nfs_inodes.proofs.StandsLemmas.{weak-is}
 use Rattle.nfs_inodes.specs.Known.{IsKnown, IsObject, Means, Names, NamesNothing, is_handle_of, object_at}
@@ -31,7 +31,7 @@ no-names : {q : Resolved} {n : ℕ} {o : Living} (e : NfsStatus) → object_of q
 no-names {n} {o} e refused names = let no : object_of (machine.Names n o) ≡ Err e = ap object_of (sym names)
     ∙ refused in cc
 
-module _ (ctx : Ctx) (bytes : List ℕ) (k : Kept) where
+module _ (ctx : Ctx) (bytes : List ℕ) (k : StoreMeaning) where
   names-of : (x : Known) → Sound k → IsKnown k.state x
       → resolve k.state ctx bytes ≡ machine.Names x.number (object_at k.state x) → Names ctx bytes k x
   names-of x sound is resolves = record {
@@ -76,7 +76,7 @@ module _ (d : DraftValue) (bytes : List ℕ) where
     abbrev resolved : Bool → Option Living → Resolved
     resolved b o = cond b (living_at o h) machine.Stale
 
-    resolves : (k : Kept) → resolve k.state d.ctx bytes ≡ resolved (admitted d.ctx k.state.exports)
+    resolves : (k : StoreMeaning) → resolve k.state d.ctx bytes ≡ resolved (admitted d.ctx k.state.exports)
         (get k.state.objects h.fileid)
     resolves k = ap (named (get k.state.objects) k.state.exports d.ctx) is
 
@@ -91,7 +91,8 @@ module _ (d : DraftValue) (bytes : List ℕ) where
 
     module _ (exports : List LivingExport) (listed : Knows d (λ k. k.state.exports ≡ exports)) (x : Known)
         (there : Knows d (λ k. IsObject k.state h.fileid (Some x))) where
-      found : (s : _) (k : Kept) → Possible d s k → resolve k.state d.ctx bytes ≡ resolved (admitted d.ctx exports)
+      found : (s : _) (k : StoreMeaning) → Possible d s k
+          → resolve k.state d.ctx bytes ≡ resolved (admitted d.ctx exports)
           (Some (object_at k.state x))
       found s k w =
           resolves k ∙ ap (λ es. resolved (admitted d.ctx es) (get k.state.objects h.fileid)) (listed s k w)

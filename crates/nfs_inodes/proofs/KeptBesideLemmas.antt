@@ -28,7 +28,7 @@ use Rattle.nfs_machine.specs.declared.context.Ctx.{Ctx}
 use Rattle.nfs_objects.proofs.UsageSumLemmas.{AllFit, counted-sums, stays-counted}
 use Rattle.nfs_objects.specs.Edits.{counted_anew, set_at, with_living, with_new}
 use Rattle.nfs_objects.specs.Sound.{Sound}
-use Rattle.nfs_objects.specs.Stands.{Kept}
+use Rattle.nfs_objects.specs.Stands.{StoreMeaning}
 use Rattle.nfs_objects.specs.Sums.{in_export, one_using, shares_of, usage_in}
 use Rattle.nfs_objects.specs.declared.view.Reserved.{Reserved}
 use Rattle.nfs_inodes.proofs.UsageChangeLemmas.{NamesSound, names-sound, sound-counted, sound-stays}
@@ -50,7 +50,7 @@ put-there m n new = get-inserted m.objects n new n
     ∙ ap (λ b. cond b (Some new) (get m.objects n)) ((unsigned_Decides n n).1 refl)
 
 -- one object in the place of another of the same export, which uses what that used
-pub replaced-usage : (k : Kept) (n : ℕ) (o new : Living) (links parent : ℕ) → get k.state.objects n ≡ Some o →
+pub replaced-usage : (k : StoreMeaning) (n : ℕ) (o new : Living) (links parent : ℕ) → get k.state.objects n ≡ Some o →
     new.export ≡ o.export → used_of new.content ≡ used_of o.content →
     (e g : ℕ) → usage_in (with_object k.state n new) e g ≡ usage_in k.state e g
 replaced-usage k n o new links parent lives export used =
@@ -60,7 +60,7 @@ replaced-usage k n o new links parent lives export used =
     ∙ ap (λ u. in_export o.export (one_using u) e) used ∙ ap (λ p. shares_of p e) (sym lives))
 
 -- ---- one object stands in the place of another that names nothing else
-module _ (k : Kept) (n : ℕ) (o new : Living) (lives : get k.state.objects n ≡ Some o) (keeps : KeepsNames o new)
+module _ (k : StoreMeaning) (n : ℕ) (o new : Living) (lives : get k.state.objects n ≡ Some o) (keeps : KeepsNames o new)
     (sound : Sound k) where
   abbrev m1 : State
   m1 = with_object k.state n new
@@ -113,20 +113,20 @@ module _ (k : Kept) (n : ℕ) (o new : Living) (lives : get k.state.objects n �
       ∙ ap (λ u. in_export o.export (one_using u) e) used ∙ ap (λ p. shares_of p e) (sym lives))
 
 -- ---- a change that may leave the object
-module _ (k : Kept) (n count : ℕ) (change : Living → Option Living) where
-  abbrev over : Option Living → Kept
+module _ (k : StoreMeaning) (n count : ℕ) (change : Living → Option Living) where
+  abbrev over : Option Living → StoreMeaning
   over o = elim o [ None ↦ k | Some o ↦ elim (change o) [ None ↦ k | Some p ↦ with_living k n p count (k.parents n) ] ]
 
-  abbrev into : Option Living → Kept
+  abbrev into : Option Living → StoreMeaning
   into p = elim p [ None ↦ k | Some p ↦ with_living k n p count (k.parents n) ]
 
   pub changed-is : (o p : Living) → get k.state.objects n ≡ Some o → change o ≡ Some p
       → changed_with k n count change ≡ with_living k n p count (k.parents n)
   changed-is o p lives is = ap over lives ∙ ap into is
 
-module _ (k : Kept) (n : ℕ) (change : Living → Option Living) where
+module _ (k : StoreMeaning) (n : ℕ) (change : Living → Option Living) where
   -- what is true of what is kept, and of what is kept with the object changed, is true after it
-  by-change : (P : Kept → Type 0) → P k
+  by-change : (P : StoreMeaning → Type 0) → P k
       → ((o p : Living) → get k.state.objects n ≡ Some o → change o ≡ Some p
       → P (with_living k n p (k.links n) (k.parents n))) → P (changed_at k n change)
   by-change P here there = by (get k.state.objects n) refl
@@ -153,14 +153,14 @@ module _ (k : Kept) (n : ℕ) (change : Living → Option Living) where
       → Sound (counted_anew n (get k.state.objects n) (changed_at k n change))
   changed-counted keeps sound fit =
       sound-counted k (changed_at k n change) n
-      (by-change (λ (x : Kept). (q : ℕ) → (n == q) ≡ false → get x.state.objects q ≡ get k.state.objects q)
+      (by-change (λ (x : StoreMeaning). (q : ℕ) → (n == q) ≡ false → get x.state.objects q ≡ get k.state.objects q)
       (λ q other. refl) (λ o p lives is. others-stay k.state n p))
-      (by-change (λ (x : Kept). x.usage ≡ k.usage) refl (λ o p lives is. refl)) sound
+      (by-change (λ (x : StoreMeaning). x.usage ≡ k.usage) refl (λ o p lives is. refl)) sound
       (by-change NamesSound (names-sound k sound)
       (λ o p lives is. replaced-names-sound k n o p lives (keeps o p is) sound)) fit
 
 -- the attributes of an object change
-pub attributes-sound : (k : Kept) (n : ℕ) (set : Settings) → Sound k → Sound (attributes_changed n set k)
+pub attributes-sound : (k : StoreMeaning) (n : ℕ) (set : Settings) → Sound k → Sound (attributes_changed n set k)
 attributes-sound k n set sound =
     changed-sound k n (λ o. Some (with_settings set o))
     (λ o p is. subst (KeepsNames o) (same o p is)
@@ -187,17 +187,18 @@ bytes-keep now change o p is = by (bytes_in o.content) refl is
           content = λ e. (let no : true ≡ false = sym e ∙ none in cc);
         })
 
-pub bytes-sound : (k : Kept) (n : ℕ) (now : Time) (change : List ℕ → List ℕ) → Sound k
+pub bytes-sound : (k : StoreMeaning) (n : ℕ) (now : Time) (change : List ℕ → List ℕ) → Sound k
     → AllFit (bytes_changed now n change k).state → Sound (bytes_changed now n change k)
 bytes-sound k n now change sound fit = changed-counted k n (with_bytes now change) (bytes-keep now change) sound fit
 
-pub bytes-is : (k : Kept) (x : Known) (now : Time) (change : List ℕ → List ℕ) (bytes : List ℕ) → IsKnown k.state x
+pub bytes-is : (k : StoreMeaning) (x : Known) (now : Time) (change : List ℕ → List ℕ) (bytes : List ℕ)
+    → IsKnown k.state x
     → bytes_in (content_at k.state x.number) ≡ Ok bytes
     → bytes_changed now x.number change k ≡ counted_anew x.number (get k.state.objects x.number)
     (with_living k x.number (with_content (object_at k.state x) now (Regular (change bytes))) (k.links x.number)
     (k.parents x.number))
 bytes-is k x now change bytes is regular =
-    ap (λ (q : Kept). counted_anew x.number (get k.state.objects x.number) q)
+    ap (λ (q : StoreMeaning). counted_anew x.number (get k.state.objects x.number) q)
     (changed-is k x.number (k.links x.number) (with_bytes now change) (object_at k.state x)
     (with_content (object_at k.state x) now (Regular (change bytes))) is.lives
     (ap (λ (r : Result (List ℕ) NfsStatus). elim r [
@@ -252,7 +253,8 @@ room-of ctx links (CharacterDevice device) checked is = cc
 room-of ctx links Socket checked is = cc
 room-of ctx links Fifo checked is = cc
 
-module _ (k : Kept) (x : Known) (is : IsKnown k.state x) (now : Time) (name : List ℕ) (r : Reserved) (o : Living)
+module _ (k : StoreMeaning) (x : Known) (is : IsKnown k.state x) (now : Time) (name : List ℕ) (r : Reserved)
+    (o : Living)
     (entries : List Entry) (last : ℕ)
     (listed : entries_in (content_at k.state x.number) ≡ Ok (record { list = entries; last_cookie = last }))
     (absent : entry_of entries name ≡ None) where
@@ -265,7 +267,7 @@ module _ (k : Kept) (x : Known) (is : IsKnown k.state x) (now : Time) (name : Li
   abbrev links_then : ℕ
   links_then = links_with x.attributes.links o.content
 
-  abbrev widened : Kept
+  abbrev widened : StoreMeaning
   widened = with_living k x.number wider links_then (k.parents x.number)
 
   added-is : name_added now x.number links_then entry k ≡ widened
@@ -280,11 +282,11 @@ module _ (k : Kept) (x : Known) (is : IsKnown k.state x) (now : Time) (name : Li
       ]) listed
       ∙ ap (λ (f : Option Entry). elim f [ None ↦ Some wider | Some there ↦ None ]) absent)
 
-  abbrev made : Kept
+  abbrev made : StoreMeaning
   made = with_new widened r.number o (first_links o.content) (first_parent x.number o.content)
 
   pub made-is : made_under now x.number x.attributes.links (last + 1) name r o k ≡ counted_anew r.number None made
-  made-is = ap (λ (q : Kept). counted_anew r.number None
+  made-is = ap (λ (q : StoreMeaning). counted_anew r.number None
       (with_new q r.number o (first_links o.content) (first_parent x.number o.content))) added-is
 
   module _ (free : IsFree k.state r) (export : o.export ≡ x.export) (generation : o.generation ≡ r.generation)
@@ -401,4 +403,4 @@ module _ (k : Kept) (x : Known) (is : IsKnown k.state x) (now : Time) (name : Li
 
       pub made-sound : AllFit (made_under now x.number x.attributes.links (last + 1) name r o k).state
           → Sound (made_under now x.number x.attributes.links (last + 1) name r o k)
-      made-sound fit = subst Sound (sym made-is) (new-sound (subst (λ (q : Kept). AllFit q.state) made-is fit))
+      made-sound fit = subst Sound (sym made-is) (new-sound (subst (λ (q : StoreMeaning). AllFit q.state) made-is fit))

@@ -8,7 +8,7 @@ use Rattle.nfs_objects.specs.Calls.{IsAmong, addresses_of, locks_at}
 use Rattle.nfs_objects.specs.Values.{DraftValue, ViewValue, is_addr}
 use Rattle.nfs_objects.specs.declared.address.Addr.{Addr}
 use Rattle.nfs_objects.specs.declared.address.Addr.TheVariants as addresses
-use Rattle.nfs_objects.specs.declared.change.Halt.{Halt}
+use Rattle.nfs_objects.specs.declared.change.Missing.{Missing}
 use Rattle.nfs_objects.specs.declared.modes.Mode.{Mode}
 use Rattle.nfs_objects.specs.declared.object.Inode.{Inode}
 use Rattle.nfs_inodes.proofs.EntryAsksLemmas.{both-asking, group-apart}
@@ -21,7 +21,7 @@ use Rattle.nfs_inodes.specs.Stops.{StopsAt, counted_at, group_at, inode_at}
 
 -- ---- halts
 -- what asks for the object may ask for what it is counted in, and for its locks
-pub locked-result : {A : Type 0} (d : DraftValue) (n : ℕ) (P : A → Type 0) (r : Result A Halt) →
+pub locked-result : {A : Type 0} (d : DraftValue) (n : ℕ) (P : A → Type 0) (r : Result A Missing) →
     MatchResult r P (StopsAt d (addresses_of d.view n)) → MatchResult r P (StopsAt d (counted_at d n ++ locks_at n))
 locked-result d n P (Ok x) does = does
 locked-result d n P (Err halt) stops = locked-stops d n halt (object-stops d n halt stops)

@@ -12,7 +12,7 @@ use Rattle.nfs_machine.specs.Shown.{touched, with_content, with_object}
 use Rattle.nfs_machine.specs.State.{Directory, Entry, Living}
 use Rattle.nfs_objects.specs.Edits.{with_living}
 use Rattle.nfs_objects.specs.Knows.{Turns}
-use Rattle.nfs_objects.specs.Stands.{Kept}
+use Rattle.nfs_objects.specs.Stands.{StoreMeaning}
 use Rattle.nfs_objects.specs.Values.{DraftValue}
 use Rattle.nfs_inodes.proofs.UsageChangeLemmas.{LivedIn, counted-lives}
 use Rattle.nfs_inodes.proofs.KeptBesideLemmas.{others-stay, put-there}
@@ -20,20 +20,21 @@ use Rattle.nfs_inodes.specs.Makes.{changed_with, name_taken, without_name}
 use Rattle.nfs_inodes.specs.Renames.{name_given, name_left, rehomed, staying, with_name_given}
 use Rattle.nfs_inodes.specs.Stops.{UsageLives}
 
-abbrev pub LivesAsBefore : (Kept → Kept) → Type 0
-LivesAsBefore op = (k : Kept) (n : ℕ) (o : Living) → get (op k).state.objects n ≡ Some o → LivedIn k.state n o.export
+abbrev pub LivesAsBefore : (StoreMeaning → StoreMeaning) → Type 0
+LivesAsBefore op = (k : StoreMeaning) (n : ℕ) (o : Living) → get (op k).state.objects n ≡ Some o
+    → LivedIn k.state n o.export
 
 pub lived-same : LivesAsBefore (λ k. k)
 lived-same k n o at = record { object = o; lives = at; same = refl }
 
-pub lived-both : (f g : Kept → Kept) → LivesAsBefore f → LivesAsBefore g → LivesAsBefore (λ k. g (f k))
+pub lived-both : (f g : StoreMeaning → StoreMeaning) → LivesAsBefore f → LivesAsBefore g → LivesAsBefore (λ k. g (f k))
 lived-both f g first second k n o at =
     let mid = second (f k) n o at in
     let was = first k n mid.object mid.lives in
     record { object = was.object; lives = was.lives; same = was.same ∙ mid.same }
 
 -- one object in the place of another of the same export
-lived-on : (k : Kept) (place : ℕ) (was is : Living) (links parent : ℕ) → get k.state.objects place ≡ Some was →
+lived-on : (k : StoreMeaning) (place : ℕ) (was is : Living) (links parent : ℕ) → get k.state.objects place ≡ Some was →
     was.export ≡ is.export → (n : ℕ) (o : Living) →
     get (with_living k place is links parent).state.objects n ≡ Some o → LivedIn k.state n o.export
 lived-on k place was is links parent lives export n o at =
@@ -52,15 +53,15 @@ lived-on k place was is links parent lives export n o at =
     ] refl
 
 -- a change of an object that leaves its export
-lived-changed : (k : Kept) (place links : ℕ) (change : Living → Option Living) →
+lived-changed : (k : StoreMeaning) (place links : ℕ) (change : Living → Option Living) →
     ((o p : Living) → change o ≡ Some p → o.export ≡ p.export) → (n : ℕ) (o : Living) →
     get (changed_with k place links change).state.objects n ≡ Some o → LivedIn k.state n o.export
 lived-changed k place links change keeps n o at = by (get k.state.objects place) refl at
   where
-    into : Option Living → Kept
+    into : Option Living → StoreMeaning
     into y = elim y [ None ↦ k | Some p ↦ with_living k place p links (k.parents place) ]
 
-    over : Option Living → Kept
+    over : Option Living → StoreMeaning
     over x = elim x [ None ↦ k | Some w ↦ into (change w) ]
 
     then : (w : Living) → get k.state.objects place ≡ Some w → (y : Option Living) → change w ≡ y →
@@ -112,7 +113,7 @@ lived-given now place left e links k = lived-changed k place links (with_name_gi
 pub lived-rehomed : (now : Time) (number directory : ℕ) → LivesAsBefore (rehomed now number directory)
 lived-rehomed now number directory k n o at = by (get k.state.objects number) refl at
   where
-    over : Option Living → Kept
+    over : Option Living → StoreMeaning
     over x = elim x [
       | None ↦ k
       | Some w ↦ with_living k number (touched w now) (k.links number)
@@ -126,7 +127,8 @@ lived-rehomed now number directory k n o at = by (get k.state.objects number) re
         (cond (is_directory w.content) directory (k.parents number)) is refl n o there
 
 -- ---- so a draft that came of one with no write knows of no object but where what its group uses stands
-pub usage-there : (old new : DraftValue) (op : Kept → Kept) → old.writes ≡ [] → Turns old new op → LivesAsBefore op →
+pub usage-there : (old new : DraftValue) (op : StoreMeaning → StoreMeaning) → old.writes ≡ [] → Turns old new op
+    → LivesAsBefore op →
     (n : ℕ) → UsageLives new n
 usage-there old new op none turns lived n =
     counted-lives old new op turns none n (λ s k w formed o at. lived k n o at)

@@ -16,7 +16,7 @@ use Rattle.nfs_objects.specs.Knows.{Knows, Turns, TurnsWhere}
 use Rattle.nfs_objects.specs.Stands.{bucket_at, exported_file, stored_bucket}
 use Rattle.nfs_objects.specs.Values.{DraftValue, known_at, with_written}
 use Rattle.nfs_objects.specs.declared.address.Addr.TheVariants as addresses
-use Rattle.nfs_objects.specs.declared.change.Halt.{Halt}
+use Rattle.nfs_objects.specs.declared.change.Missing.{Missing}
 use Rattle.nfs_objects.specs.declared.object.Object.{Object}
 use Rattle.nfs_inodes.proofs.BucketPutLemmas.{all-turns, forget-turns, locks-known, next-number, none-left, set-turns}
 use Rattle.nfs_inodes.proofs.BucketPutLemmas.{shows-next, spending-turns, unlisted-none, without-inserted}
@@ -162,18 +162,18 @@ files-put d new index files first others mid bucket own are one rest is =
     (subst (λ fs. AreInserted one.old fs bucket) (sym are) (mid, one.inserted, one.bucket, rest)))
 
 -- what halts where a bucket is lacked
-pub locks-stop : (d : DraftValue) (n index : ℕ) (halt : Halt) → index ≡ n % bucket_count →
+pub locks-stop : (d : DraftValue) (n index : ℕ) (halt : Missing) → index ≡ n % bucket_count →
     Lacks d (addresses.Locks index) halt → StopsAt d (locks_at n) halt
 locks-stop d n index halt is lacks =
     lacking-stops d (addresses.Locks (n % bucket_count)) halt (subst (λ i. Lacks d (addresses.Locks i) halt) is lacks)
 
 -- or cannot be made
-pub bucket-stops : (d : DraftValue) (n index : ℕ) (halt : Halt) → index ≡ n % bucket_count →
+pub bucket-stops : (d : DraftValue) (n index : ℕ) (halt : Missing) → index ≡ n % bucket_count →
     StopsAt d (addresses.Locks index ∷ []) halt → StopsAt d (locks_at n) halt
 bucket-stops d n index halt is stops = subst (λ i. StopsAt d (addresses.Locks i ∷ []) halt) is stops
 
 -- what is looked for among the exports besides
-pub locks-stop-behind : (d : DraftValue) (n index : ℕ) (halt : Halt) → index ≡ n % bucket_count →
+pub locks-stop-behind : (d : DraftValue) (n index : ℕ) (halt : Missing) → index ≡ n % bucket_count →
     Lacks d (addresses.Locks index) halt → StopsAt d (addresses.Exports ∷ locks_at n) halt
 locks-stop-behind d n index halt is lacks =
     stops-wider d.modes (locks_at n) (addresses.Exports ∷ locks_at n) 0 d.view halt

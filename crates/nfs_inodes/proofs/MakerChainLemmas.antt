@@ -11,12 +11,12 @@ use Rattle.nfs_objects.proofs.PromiseLemmas.{turns-both}
 use Rattle.nfs_objects.specs.Asks.{IsThere}
 use Rattle.nfs_objects.specs.Calls.{addresses_of}
 use Rattle.nfs_objects.specs.Knows.{Turns}
-use Rattle.nfs_objects.specs.Stands.{Kept, exports_of, inode_in}
+use Rattle.nfs_objects.specs.Stands.{StoreMeaning, exports_of, inode_in}
 use Rattle.nfs_objects.specs.Sums.{group_of}
 use Rattle.nfs_objects.specs.Values.{DraftValue, ViewValue, known_at}
 use Rattle.nfs_objects.specs.declared.address.Addr.{Addr}
 use Rattle.nfs_objects.specs.declared.address.Addr.TheVariants as addresses
-use Rattle.nfs_objects.specs.declared.change.Halt.{Halt}
+use Rattle.nfs_objects.specs.declared.change.Missing.{Missing}
 use Rattle.nfs_objects.specs.declared.object.Inode.{Inode}
 use Rattle.nfs_objects.specs.declared.object.Object.{Object}
 use Rattle.nfs_inodes.proofs.ReaderHaltLemmas.{stops-before}
@@ -27,19 +27,20 @@ use Rattle.nfs_inodes.specs.Stops.{StopsAt, UsageLives, counted_at, group_at, in
 use Rattle.nfs_inodes.specs.declared.found.Known.{Known}
 
 -- after a change, another at the same moment
-module _ (old mid : DraftValue) (f : Kept → Kept) (turns : Turns old mid f) (g : Time → Kept → Kept) where
+module _ (old mid : DraftValue) (f : StoreMeaning → StoreMeaning) (turns : Turns old mid f) (g : Time → StoreMeaning
+    → StoreMeaning) where
   pub turned-on : (new : DraftValue) → Turns mid new (g (time_of mid.ctx.moment)) →
       Turns old new (λ k. g (time_of old.ctx.moment) (f k))
   turned-on new next = turns-both old mid new f (g (time_of old.ctx.moment)) turns
       (subst (λ ctx. Turns mid new (g (time_of ctx.moment))) turns.ctx next)
 
   -- the other is the last
-  module _ {A : Type 0} (new : DraftValue) (h : Kept → Kept)
-      (same : (k : Kept) → g (time_of old.ctx.moment) (f k) ≡ h k) (r : Result A Halt) where
-    abbrev Turned : (Stops : Halt → Type 0) → Type 0
+  module _ {A : Type 0} (new : DraftValue) (h : StoreMeaning → StoreMeaning)
+      (same : (k : StoreMeaning) → g (time_of old.ctx.moment) (f k) ≡ h k) (r : Result A Missing) where
+    abbrev Turned : (Stops : Missing → Type 0) → Type 0
     Turned Stops = MatchResult r (λ _. Turns mid new (g (time_of mid.ctx.moment))) Stops
 
-    turned-then : (Stops After : Halt → Type 0) → ((halt : Halt) → Stops halt → After halt) → Turned Stops →
+    turned-then : (Stops After : Missing → Type 0) → ((halt : Missing) → Stops halt → After halt) → Turned Stops →
         MatchResult r (λ _. Turns old new h) After
     turned-then Stops After before = elim r as
         (λ q. MatchResult q (λ _. Turns mid new (g (time_of mid.ctx.moment))) Stops
@@ -57,14 +58,15 @@ module _ (old mid : DraftValue) (f : Kept → Kept) (turns : Turns old mid f) (g
         (stops-before old mid f few halt turns stops))
 
 -- ---- one address list of two
-pub first-stops : (d : DraftValue) (n : ℕ) (more : List Addr) (halt : Halt) → StopsAt d (addresses_of d.view n) halt →
+pub first-stops : (d : DraftValue) (n : ℕ) (more : List Addr) (halt : Missing)
+    → StopsAt d (addresses_of d.view n) halt →
     StopsAt d (addresses_of d.view n ++ more) halt
 first-stops d n more halt stops =
     stops-wider d.modes (addresses_of d.view n) (addresses_of d.view n ++ more) 0 d.view halt
     (covers-among (addresses_of d.view n) (addresses_of d.view n ++ more) d.view
     (among-front (addresses_of d.view n) more)) stops
 
-pub second-stops : (d : DraftValue) (front few : List Addr) (halt : Halt) → StopsAt d few halt →
+pub second-stops : (d : DraftValue) (front few : List Addr) (halt : Missing) → StopsAt d few halt →
     StopsAt d (front ++ few) halt
 second-stops d front few halt stops =
     stops-wider d.modes few (front ++ few) 0 d.view halt
@@ -123,7 +125,7 @@ group-lives d n view named same counts = by (known_at d addresses.Exports) refl 
         (there exports object some known (inode_in (exports_of exports) object) refl))
 
 -- an object that lives may be counted anew
-pub counted-stops : (d : DraftValue) (n : ℕ) (halt : Halt) → IsThere d.view (addresses.Inode n) → UsageLives d n →
+pub counted-stops : (d : DraftValue) (n : ℕ) (halt : Missing) → IsThere d.view (addresses.Inode n) → UsageLives d n →
     StopsAt d (counted_at d n) halt → StopsAt d [] halt
 counted-stops d n halt lives counts stops =
     stops-wider d.modes (counted_at d n) [] 0 d.view halt
@@ -141,14 +143,14 @@ type-other types.Socket none = refl
 type-other types.Fifo none = refl
 
 module _ (now : Time) (place : ℕ) (name : List ℕ) (x : Known) where
-  abbrev lost : Kept → Bool → Kept
+  abbrev lost : StoreMeaning → Bool → StoreMeaning
   lost k b = cond b (directory_lost now place x.number (name_taken now place name k))
       (link_lost now x.number x.attributes.links (name_taken now place name k))
 
-  pub lost-directory : x.attributes.kind ≡ types.Directory → (k : Kept) → directory_lost now place x.number
+  pub lost-directory : x.attributes.kind ≡ types.Directory → (k : StoreMeaning) → directory_lost now place x.number
       (name_taken now place name k) ≡ name_lost now place name x k
   lost-directory is k = ap (λ t. lost k (is_directory_type t)) (sym is)
 
-  pub lost-other : (x.attributes.kind ≡ types.Directory → ⊥) → (k : Kept) →
+  pub lost-other : (x.attributes.kind ≡ types.Directory → ⊥) → (k : StoreMeaning) →
       link_lost now x.number x.attributes.links (name_taken now place name k) ≡ name_lost now place name x k
   lost-other none k = sym (ap (lost k) (type-other x.attributes.kind none))

@@ -17,7 +17,7 @@ use Rattle.nfs_machine.specs.State.{Directory, Entry, Living, State}
 use Rattle.nfs_machine.specs.WellFormed.{WellFormed}
 use Rattle.nfs_objects.specs.Edits.{with_living}
 use Rattle.nfs_objects.specs.Sound.{Sound}
-use Rattle.nfs_objects.specs.Stands.{Kept}
+use Rattle.nfs_objects.specs.Stands.{StoreMeaning}
 use Rattle.nfs_inodes.proofs.EditInodeLemmas.{edited-is}
 use Rattle.nfs_inodes.proofs.KeptBesideLemmas.{changed-is}
 use Rattle.nfs_inodes.proofs.SoundButLemmas.{SoundBut, added-but, links-named, put-sound, sound-but}
@@ -26,7 +26,7 @@ use Rattle.nfs_inodes.specs.Links.{link_gained, linked_so}
 use Rattle.nfs_inodes.specs.Makes.{name_added, with_name}
 use Rattle.nfs_inodes.specs.declared.found.Known.{Known}
 
-module _ (k : Kept) (place x : Known) (known : IsKnown k.state place) (there : IsKnown k.state x) (now : Time)
+module _ (k : StoreMeaning) (place x : Known) (known : IsKnown k.state place) (there : IsKnown k.state x) (now : Time)
     (name : List ℕ) (entries : DirectoryEntries)
     (listed : entries_in (content_at k.state place.number) ≡ Ok entries)
     (absent : entry_of entries.list name ≡ None) where
@@ -39,7 +39,7 @@ module _ (k : Kept) (place x : Known) (known : IsKnown k.state place) (there : I
   abbrev wider : Living
   wider = with_content (object_at m place) now (with_entry entries.list entries.last_cookie name x.number)
 
-  abbrev widened : Kept
+  abbrev widened : StoreMeaning
   widened = with_living k place.number wider place.attributes.links (k.parents place.number)
 
   added-is : name_added now place.number place.attributes.links entry k ≡ widened
@@ -78,7 +78,7 @@ module _ (k : Kept) (place x : Known) (known : IsKnown k.state place) (there : I
 
     pub gained-state : (links : ℕ) → (link_gained now place.number place.attributes.links entry links k).state ≡
         with_object (with_object m place.number wider) x.number (touched (object_at m x) now)
-    gained-state links = ap (λ (q : Kept). q.state) (gained-is links)
+    gained-state links = ap (λ (q : StoreMeaning). q.state) (gained-is links)
 
     module _ (export : x.export ≡ place.export) (formed : WellFormed m) (sound : Sound k) where
       adds : AddsName m widened.state place.number x.number (object_at m place) wider (object_at m x) name

@@ -24,13 +24,13 @@ use Rattle.nfs_objects.specs.Entries.{leaf_of}
 use Rattle.nfs_objects.specs.Knows.{Knows, Possible}
 use Rattle.nfs_objects.specs.Modes.{led_at, number_at, number_in, part_address}
 use Rattle.nfs_objects.specs.PageRuns.{TellsEmpty, lists}
-use Rattle.nfs_objects.specs.Stands.{HasEntries, Kept, Represents, beside_at, content_of, directory_entries}
+use Rattle.nfs_objects.specs.Stands.{HasEntries, StoreMeaning, Represents, beside_at, content_of, directory_entries}
 use Rattle.nfs_objects.specs.Stands.{entries_at, entry_map_in, filled, header_in, part_of}
 use Rattle.nfs_objects.specs.Store.{Store, with_writes}
 use Rattle.nfs_objects.specs.Values.{DraftValue, ViewValue, known_at, shown_at, written_at}
 use Rattle.nfs_objects.specs.declared.address.Addr.{Addr}
 use Rattle.nfs_objects.specs.declared.address.Addr.TheVariants as addresses
-use Rattle.nfs_objects.specs.declared.change.Halt.{Halt}
+use Rattle.nfs_objects.specs.declared.change.Missing.{Missing}
 use Rattle.nfs_objects.specs.declared.directory.Directory.{Directory as Header}
 use Rattle.nfs_objects.specs.declared.directory.Leaf.{Leaf}
 use Rattle.nfs_objects.specs.declared.entry_map.EntryMap.{EntryMap}
@@ -250,7 +250,7 @@ empty-there d n (Some i) empty has is s k w = by (entry_map_in i.content) refl
 
 -- ---- what a name leads to stands in each store
 module _ (d : DraftValue) (x : Known) (none : d.writes ≡ []) (known : Knows d (λ k. IsKnown k.state x)) where
-  on-store : (s : Store) (k : Kept) → Represents s k → Represents (with_writes s d.writes) k
+  on-store : (s : Store) (k : StoreMeaning) → Represents s k → Represents (with_writes s d.writes) k
   on-store s k stands = subst (λ ws. Represents (with_writes s ws) k) (sym none) stands
 
   abbrev named-by : Option Entry → Option ℕ
@@ -309,7 +309,7 @@ module _ (n parent : ℕ) (es : List Entry) (name : List ℕ) where
       ∙ ap (λ b. ok_or (leads false b) status.NoEntry) (sym none)
       ∙ ap (λ o. ok_or o status.NoEntry) is
 
-pub leads-by-entry : (d : DraftValue) (n : ℕ) (name : List ℕ) (r : Result (Option ℕ) Halt) (S : Halt → Type 0) →
+pub leads-by-entry : (d : DraftValue) (n : ℕ) (name : List ℕ) (r : Result (Option ℕ) Missing) (S : Missing → Type 0) →
     false ≡ same_bytes (codes ".") name → false ≡ same_bytes (codes "..") name →
     MatchResult r (λ number. Knows d (λ k. under (content_at k.state n) name ≡ number)) S →
     MatchResult r (λ number. Knows d (λ k.

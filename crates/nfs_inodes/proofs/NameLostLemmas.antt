@@ -29,7 +29,7 @@ use Rattle.nfs_machine.specs.WellFormed.{Leads, WellFormed, is_root}
 use Rattle.nfs_objects.proofs.UsageSumLemmas.{AllFit}
 use Rattle.nfs_objects.specs.Edits.{edited, freed, set_at, with_living}
 use Rattle.nfs_objects.specs.Sound.{Sound}
-use Rattle.nfs_objects.specs.Stands.{Kept}
+use Rattle.nfs_objects.specs.Stands.{StoreMeaning}
 use Rattle.nfs_inodes.proofs.EditInodeLemmas.{edited-is}
 use Rattle.nfs_inodes.proofs.KeptBesideLemmas.{changed-is}
 use Rattle.nfs_inodes.proofs.SoundButLemmas.{SoundBut, freed-sound, insert-same, put-sound, sound-as, taken-but}
@@ -64,7 +64,7 @@ twice-set kept p n f other q =
     ] refl
 
 -- ---- a name that leads to what contains none
-module _ (k : Kept) (now : Time) (n : NamedEntry) (named : IsNamedEntry k.state n)
+module _ (k : StoreMeaning) (now : Time) (n : NamedEntry) (named : IsNamedEntry k.state n)
     (empty : entries_of n.object.content ≡ []) (formed : WellFormed k.state) (sound : Sound k) where
   abbrev m : State
   m = k.state
@@ -72,7 +72,7 @@ module _ (k : Kept) (now : Time) (n : NamedEntry) (named : IsNamedEntry k.state 
   abbrev narrower : Living
   narrower = with_content n.directory now (Directory (without n.entries n.name) n.last_cookie)
 
-  abbrev left : Kept
+  abbrev left : StoreMeaning
   left = with_living k n.place narrower (k.links n.place) (k.parents n.place)
 
   l : Loose none_loose m
@@ -126,7 +126,7 @@ module _ (k : Kept) (now : Time) (n : NamedEntry) (named : IsNamedEntry k.state 
           named.object dir,
     )
 
-    abbrev without_directory : Kept
+    abbrev without_directory : StoreMeaning
     without_directory = subdirectory_lost n.place (removed n.number left)
 
     narrower-there : get (freed left n.number).state.objects n.place ≡ Some narrower
@@ -145,7 +145,7 @@ module _ (k : Kept) (now : Time) (n : NamedEntry) (named : IsNamedEntry k.state 
 
     freed-state : without_directory.state ≡ (freed left n.number).state
     freed-state =
-        ap (λ (q : Kept). q.state) lost-is
+        ap (λ (q : StoreMeaning). q.state) lost-is
         ∙ ap (λ (objects : FinMap nat_cmp Living). record (freed left n.number).state { objects = objects })
         same-objects
 
@@ -168,7 +168,7 @@ module _ (k : Kept) (now : Time) (n : NamedEntry) (named : IsNamedEntry k.state 
         ap (links_of m n.place) named.content in
         omega (arith, one, some, counted)
 
-    abbrev settled : Kept
+    abbrev settled : StoreMeaning
     settled = removed n.number (with_living k n.place narrower fewer (k.parents n.place))
 
     settled-sound : AllFit (freed left n.number).state → Sound settled
@@ -196,7 +196,7 @@ module _ (k : Kept) (now : Time) (n : NamedEntry) (named : IsNamedEntry k.state 
     but : SoundBut n.number left
     but = but-of (k.links n.place) same
 
-    abbrev unlinked : Kept
+    abbrev unlinked : StoreMeaning
     unlinked = edited left n.number (λ o. touched o now) (λ l. l - 1)
 
     unlinked-is : unlinked ≡ with_living left n.number (touched n.object now) (left.links n.number - 1)
@@ -208,7 +208,7 @@ module _ (k : Kept) (now : Time) (n : NamedEntry) (named : IsNamedEntry k.state 
         elim (nat_le names 1) as (λ b. (cond b (removed n.number left) unlinked).state ≡ cond b
         (without_object left.state n.number) (with_object left.state n.number (touched n.object now))) [
           | true ↦ refl
-          | false ↦ ap (λ (q : Kept). q.state) unlinked-is
+          | false ↦ ap (λ (q : StoreMeaning). q.state) unlinked-is
         ]
         ∙ ap (λ names. losing_name left.state names now n.number n.object) are
 
@@ -245,7 +245,7 @@ module _ (k : Kept) (now : Time) (n : NamedEntry) (named : IsNamedEntry k.state 
         ] refl fit
 
 -- ---- the same of what is known
-module _ (k : Kept) (place x : Known) (known : IsKnown k.state place) (there : IsKnown k.state x) (now : Time)
+module _ (k : StoreMeaning) (place x : Known) (known : IsKnown k.state place) (there : IsKnown k.state x) (now : Time)
     (name : List ℕ) (entries : DirectoryEntries)
     (listed : entries_in (content_at k.state place.number) ≡ Ok entries)
     (under : object_under k.state (entry_of entries.list name) ≡ Some (target k.state x))
@@ -257,7 +257,7 @@ module _ (k : Kept) (place x : Known) (known : IsKnown k.state place) (there : I
   is-named = is-under k.state (target k.state place) entries name (target k.state x) known.lives
       (facts.is-directory (content_at k.state place.number) entries listed) under
 
-  abbrev taken : Kept
+  abbrev taken : StoreMeaning
   taken = with_living k place.number (with_content (object_at k.state place) now
       (Directory (without entries.list name) entries.last_cookie)) (k.links place.number) (k.parents place.number)
 
@@ -269,7 +269,7 @@ module _ (k : Kept) (place x : Known) (known : IsKnown k.state place) (there : I
         | Err e ↦ None
       ]) listed)
 
-  abbrev lost : Kept → Bool → Kept
+  abbrev lost : StoreMeaning → Bool → StoreMeaning
   lost from b = cond b (subdirectory_lost place.number (removed x.number from))
       (link_lost now x.number x.attributes.links from)
 
@@ -284,7 +284,7 @@ module _ (k : Kept) (place x : Known) (known : IsKnown k.state place) (there : I
       (content_at k.state x.number) plain
 
   pub lost-state : (name_lost now place.number name x k).state ≡ with_name_taken k.state now named-entry
-  lost-state = ap (λ (q : Kept). q.state) lost-as
+  lost-state = ap (λ (q : StoreMeaning). q.state) lost-as
       ∙ elim (is_directory (content_at k.state x.number)) as (λ b. is_directory (content_at k.state x.number) ≡
       b → (lost taken b).state ≡ with_name_taken k.state now named-entry) [
         | true ↦ λ dir. directory-state k now named-entry is-named empty formed sound dir
@@ -299,4 +299,4 @@ module _ (k : Kept) (place x : Known) (known : IsKnown k.state place) (there : I
         | true ↦ λ dir. directory-sound k now named-entry is-named empty formed sound dir
         | false ↦ λ plain. plain-sound k now named-entry is-named empty formed sound plain x.attributes.links
             (names-known plain)
-      ] refl (subst (λ (q : Kept). AllFit q.state) lost-as fit))
+      ] refl (subst (λ (q : StoreMeaning). AllFit q.state) lost-as fit))

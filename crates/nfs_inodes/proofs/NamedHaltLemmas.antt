@@ -12,13 +12,13 @@ use Rattle.nfs_objects.specs.Knows.{Knows, ShowsExport}
 use Rattle.nfs_objects.specs.Values.{DraftValue, ViewValue}
 use Rattle.nfs_objects.specs.declared.address.Addr.{Addr}
 use Rattle.nfs_objects.specs.declared.address.Addr.TheVariants as addresses
-use Rattle.nfs_objects.specs.declared.change.Halt.{Halt}
+use Rattle.nfs_objects.specs.declared.change.Missing.{Missing}
 use Rattle.nfs_inodes.specs.Known.{HasNumber, Means}
 use Rattle.nfs_inodes.specs.Stops.{StopsAt, StopsMaking, brought_by}
 use Rattle.nfs_inodes.specs.declared.found.Known.{Known}
 use Rattle.nfs_objects.specs.Begins.{Begins}
 
-module _ (d : DraftValue) (call : Call) (halt : Halt) (begins : Begins call d) where
+module _ (d : DraftValue) (call : Call) (halt : Missing) (begins : Begins call d) where
   pub halting : StopsCall d.modes (named_by call d.view) (new_numbers call d.view) d.view halt →
       EndsCall call d.ctx d.view (Err halt)
   halting stops =

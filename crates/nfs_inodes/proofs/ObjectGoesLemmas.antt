@@ -6,27 +6,28 @@ use Rattle.nfs_objects.specs.Attempt.{StopsCall}
 use Rattle.nfs_objects.specs.Calls.{locks_at}
 use Rattle.nfs_objects.specs.Bits.{has, no_bits}
 use Rattle.nfs_objects.specs.Fits.{Fits}
-use Rattle.nfs_objects.specs.Stands.{HasBlocks, HoldsEntries, IsMapped, IsStored, Kept, Represents, StandEntries}
+use Rattle.nfs_objects.specs.Stands.{HasBlocks, HoldsEntries, IsMapped, IsStored, StoreMeaning, Represents}
+use Rattle.nfs_objects.specs.Stands.{StandEntries}
 use Rattle.nfs_objects.specs.Stands.{map_of}
 use Rattle.nfs_objects.specs.Store.{Store, with_writes}
 use Rattle.nfs_objects.specs.Unfiled.{KeepsBlocks, Lays}
 use Rattle.nfs_objects.specs.Values.{DraftValue, ViewValue, known_at}
 use Rattle.nfs_objects.specs.declared.address.Addr.{Addr}
 use Rattle.nfs_objects.specs.declared.address.Addr.TheVariants as addresses
-use Rattle.nfs_objects.specs.declared.change.Halt.{Halt}
+use Rattle.nfs_objects.specs.declared.change.Missing.{Missing}
 use Rattle.nfs_inodes.specs.Cuts.{IsCleared}
 use Rattle.nfs_inodes.specs.Entered.{EntriesStand, IsEmptied}
 use Rattle.nfs_inodes.specs.Stops.{StillStands, StopsAt, counted_at}
 
 -- what is asked for once blocks and maps of a file were written might have been asked for before
-pub laid-stops : (n : ℕ) (d laid : DraftValue) → Lays n d laid → (asked : ViewValue → List Addr) (halt : Halt) →
+pub laid-stops : (n : ℕ) (d laid : DraftValue) → Lays n d laid → (asked : ViewValue → List Addr) (halt : Missing) →
     StopsAt laid (asked laid.view) halt → StopsAt d (asked d.view) halt
 laid-stops n d laid lays asked halt stops =
     subst (λ v. StopsCall d.modes (asked v) 0 v halt) lays.view
     (subst (λ m. StopsCall m (asked laid.view) 0 laid.view halt) lays.modes stops)
 
 -- what may be asked for where an object is counted anew may be where its locks are taken besides
-pub locked-stops : (d : DraftValue) (n : ℕ) (halt : Halt) → StopsAt d (counted_at d n) halt →
+pub locked-stops : (d : DraftValue) (n : ℕ) (halt : Missing) → StopsAt d (counted_at d n) halt →
     StopsAt d (counted_at d n ++ locks_at n) halt
 locked-stops d n halt stops =
     stops-wider d.modes (counted_at d n) (counted_at d n ++ locks_at n) 0 d.view halt
@@ -45,7 +46,7 @@ blocks-frame s t n keeps blocks = record {
 
 module _ (d cut : DraftValue) (n : ℕ) (cleared : IsCleared d cut n) where
   -- pages and parts stand as they did
-  entries-stay : (s : Store) (k : Kept) → StandEntries (with_writes s d.writes) k n →
+  entries-stay : (s : Store) (k : StoreMeaning) → StandEntries (with_writes s d.writes) k n →
       StandEntries (with_writes s cut.writes) k n
   entries-stay s k stand =
       let keeps = cleared.lays.entries s in
@@ -60,7 +61,7 @@ module _ (d cut : DraftValue) (n : ℕ) (cleared : IsCleared d cut n) where
 
   module _ (laid : DraftValue) (emptied : IsEmptied cut laid n) where
     -- and nothing is left beside the inode
-    pub nothing-left : (s : Store) (k : Kept) → Fits d.view s → Represents (with_writes s d.writes) k →
+    pub nothing-left : (s : Store) (k : StoreMeaning) → Fits d.view s → Represents (with_writes s d.writes) k →
         HasBlocks (with_writes s laid.writes) n no_bits × HoldsEntries (with_writes s laid.writes) n None []
     nothing-left s k fits stands = (
       blocks-frame (with_writes s cut.writes) (with_writes s laid.writes) n (emptied.enters.blocks s)

@@ -29,7 +29,8 @@ use Rattle.nfs_objects.specs.Edits.{counted_anew, edited, freed, recounted, with
 use Rattle.nfs_objects.specs.Entries.{leaf_of}
 use Rattle.nfs_objects.specs.Fits.{Fits, vacant}
 use Rattle.nfs_objects.specs.Knows.{Knows, ShowsExport, Turns}
-use Rattle.nfs_objects.specs.Stands.{Beside, IsFitting, Kept, Represents, beside_at, content_of, entry_map_in, filled}
+use Rattle.nfs_objects.specs.Stands.{Beside, IsFitting, StoreMeaning, Represents, beside_at, content_of, entry_map_in}
+use Rattle.nfs_objects.specs.Stands.{filled}
 use Rattle.nfs_objects.specs.Stands.{living_alone, living_in, living_of_inode, map_in, pages_of}
 use Rattle.nfs_objects.specs.Stands.{exports_of, inode_in, lives_in, parent_in}
 use Rattle.nfs_objects.specs.Store.{Store, with_writes}
@@ -39,7 +40,7 @@ use Rattle.nfs_objects.specs.Values.{DraftValue, Seen, ViewValue, is_addr, known
 use Rattle.nfs_objects.specs.Values.{written_at}
 use Rattle.nfs_objects.specs.declared.address.Addr.{Addr}
 use Rattle.nfs_objects.specs.declared.address.Addr.TheVariants as addresses
-use Rattle.nfs_objects.specs.declared.change.Halt.{Halt}
+use Rattle.nfs_objects.specs.declared.change.Missing.{Missing}
 use Rattle.nfs_objects.specs.declared.directory.Directory.{Directory}
 use Rattle.nfs_objects.specs.declared.entry_map.EntryMap.{EntryMap}
 use Rattle.nfs_objects.specs.declared.object.Content.{Content}
@@ -66,8 +67,9 @@ use Rattle.nfs_inodes.specs.Stops.{StopsAt, StopsMaking, counted_at, group_at, i
 use Rattle.nfs_inodes.specs.declared.usage.Share.{Share}
 
 -- the same change, in each store
-pub turns-as : (old new : DraftValue) (f g : Kept → Kept)
-    → ((s : Store) (k : Kept) → Fits old.view s → Represents (with_writes s old.writes) k → f k ≡ g k) → Turns old new f
+pub turns-as : (old new : DraftValue) (f g : StoreMeaning → StoreMeaning)
+    → ((s : Store) (k : StoreMeaning) → Fits old.view s → Represents (with_writes s old.writes) k → f k ≡ g k)
+    → Turns old new f
     → Turns old new g
 turns-as old new f g same turns = record {
   ctx = turns.ctx;
@@ -143,7 +145,7 @@ module _ (d : DraftValue) (n : ℕ) where
 
   -- ---- a change that may leave the object, with a count of links that comes of the one before it
   module _ (change : Living → Option Living) (links : ℕ → ℕ) where
-    abbrev over : Kept → Option Living → Kept
+    abbrev over : StoreMeaning → Option Living → StoreMeaning
     over k o = elim o [
       | None ↦ k
       | Some o ↦ elim (change o) [
@@ -153,10 +155,10 @@ module _ (d : DraftValue) (n : ℕ) where
       ]
     ]
 
-    abbrev into : Kept → Option Living → Kept
+    abbrev into : StoreMeaning → Option Living → StoreMeaning
     into k p = elim p [ None ↦ k | Some p ↦ with_living k n p (links (k.links n)) (k.parents n) ]
 
-    abbrev op : Kept → Kept
+    abbrev op : StoreMeaning → StoreMeaning
     op k = changed_with k n (links (k.links n)) change
 
     pub none-turns-with : HasInode d n None → Turns d d op
@@ -357,9 +359,9 @@ stays-vacant old mid late r n kind none first shown others keeps same s fits =
     by vacant false is = refl
 
 -- a new object with the number and generation that were reserved, once its directory has its name
-put-new-turns : (old mid new : DraftValue) (f : Kept → Kept) (r : Reserved) (i : Inode) (o : Living)
+put-new-turns : (old mid new : DraftValue) (f : StoreMeaning → StoreMeaning) (r : Reserved) (i : Inode) (o : Living)
     (links parent : ℕ)
-    → Turns old mid f → ((k : Kept) → (f k).state.exports ≡ k.state.exports) → ShowsExport old o.export
+    → Turns old mid f → ((k : StoreMeaning) → (f k).state.exports ≡ k.state.exports) → ShowsExport old o.export
     → new ≡ with_written mid (addresses.Inode r.number) (Some (objects.Inode i))
     → ((s : Store) → Fits old.view s → (with_writes s mid.writes).at (addresses.Inode r.number) ≡ None)
     → pages_of (Some (objects.Inode i)) ≡ no_bits → IfSome (entry_map_in i.content) (λ m. m ≡ no_entries m.key)
@@ -386,18 +388,18 @@ put-new-turns old mid new f r i o links parent turns stay live is vacant none ba
     }))))
 
 -- a change of what lives at a number leaves the exports
-pub exports-stay : (k : Kept) (n links : ℕ) (change : Living → Option Living) →
+pub exports-stay : (k : StoreMeaning) (n links : ℕ) (change : Living → Option Living) →
     (changed_with k n links change).state.exports ≡ k.state.exports
 exports-stay k n links change = by (get k.state.objects n)
   where
-    into : Option Living → Kept
+    into : Option Living → StoreMeaning
     into p = elim p [ None ↦ k | Some p ↦ with_living k n p links (k.parents n) ]
 
     made : (p : Option Living) → (into p).state.exports ≡ k.state.exports
     made None = refl
     made (Some p) = refl
 
-    by : (o : Option Living) → (elim o as (λ (x : Option Living). Kept) [
+    by : (o : Option Living) → (elim o as (λ (x : Option Living). StoreMeaning) [
       | None ↦ k
       | Some o ↦ into (change o)
     ]).state.exports ≡ k.state.exports
@@ -422,24 +424,25 @@ has-kept d mid n i keeps has = record {
 }
 
 -- the object at a number has another share of this export
-abbrev pub counted : (number export : ℕ) → (before after : Usage) → Kept → Kept
+abbrev pub counted : (number export : ℕ) → (before after : Usage) → StoreMeaning → StoreMeaning
 counted number export before after k = recounted number (in_export export before) (in_export export after) k
 
 -- ---- why it may be asked for
-pub object-stops : (d : DraftValue) (n : ℕ) (halt : Halt) → StopsAt d (addresses_of d.view n) halt
+pub object-stops : (d : DraftValue) (n : ℕ) (halt : Missing) → StopsAt d (addresses_of d.view n) halt
     → StopsAt d (counted_at d n) halt
 object-stops d n halt stops =
     stops-wider d.modes (addresses_of d.view n) (counted_at d n) 0 d.view halt
     (covers-among (addresses_of d.view n) (counted_at d n) d.view
     (among-front (addresses_of d.view n) (group_at n (inode_at d n)))) stops
 
-pub making-stops : (d : DraftValue) (few : List Addr) (export : ℕ) (halt : Halt) → StopsAt d few halt
+pub making-stops : (d : DraftValue) (few : List Addr) (export : ℕ) (halt : Missing) → StopsAt d few halt
     → StopsMaking d (few ++ usages_of export 64) halt
 making-stops d few export halt stops =
     stops-wider d.modes few (few ++ usages_of export 64) 1 d.view halt
     (covers-among few (few ++ usages_of export 64) d.view (among-front few (usages_of export 64))) stops
 
-pub counting-stops : (old mid : DraftValue) (op : Kept → Kept) (few : List Addr) (export number : ℕ) (halt : Halt)
+pub counting-stops : (old mid : DraftValue) (op : StoreMeaning → StoreMeaning) (few : List Addr) (export number : ℕ)
+    (halt : Missing)
     → Turns old mid op
     → StopsAt mid (addresses.Usage export (group_of number) ∷ []) halt
     → StopsMaking old (few ++ usages_of export 64) halt
@@ -450,7 +453,7 @@ counting-stops old mid op few export number halt turns stops =
       tt,
     ) (stops-before old mid op (λ view. addresses.Usage export (group_of number) ∷ []) halt turns stops)
 
-pub all-stops : {A : Type 0} (d : DraftValue) (n : ℕ) (P : A → Type 0) (r : Result A Halt)
+pub all-stops : {A : Type 0} (d : DraftValue) (n : ℕ) (P : A → Type 0) (r : Result A Missing)
     → MatchResult r P (StopsAt d (addresses_of d.view n))
     → MatchResult r P (StopsAt d (counted_at d n))
 all-stops d n P (Ok x) does = does
@@ -472,7 +475,7 @@ inode-known d n i has =
     ]) has.known
     ∙ ap (λ es. inode_in es has.object) (sym has.living.is) ∙ sym has.is
 
-pub usage-stops : (d : DraftValue) (n : ℕ) (i : Inode) (share : Share) (halt : Halt) → HasInode d n (Some i)
+pub usage-stops : (d : DraftValue) (n : ℕ) (i : Inode) (share : Share) (halt : Missing) → HasInode d n (Some i)
     → IsShareOf i share
     → StopsAt d (addresses.Usage share.export (group_of n) ∷ []) halt → StopsAt d (counted_at d n) halt
 usage-stops d n i share halt has shares stops =
@@ -487,12 +490,12 @@ usage-stops d n i share halt has shares stops =
     ) stops
 
 -- what stays is counted as it was
-same-counts : (d : DraftValue) (n : ℕ) (op : Kept → Kept) → Turns d d op
-    → ((s : Store) (k : Kept) → Fits d.view s → Represents (with_writes s d.writes) k → op k ≡ k)
+same-counts : (d : DraftValue) (n : ℕ) (op : StoreMeaning → StoreMeaning) → Turns d d op
+    → ((s : Store) (k : StoreMeaning) → Fits d.view s → Represents (with_writes s d.writes) k → op k ≡ k)
     → Turns d d (λ k. counted_anew n (get k.state.objects n) (op k))
 same-counts d n op turns same =
     turns-as d d (λ k. k) (λ k. counted_anew n (get k.state.objects n) (op k)) (λ s k stand represents.
-    sym (ap (λ (q : Kept). counted_anew n (get k.state.objects n) q) (same s k stand represents)
+    sym (ap (λ (q : StoreMeaning). counted_anew n (get k.state.objects n) q) (same s k stand represents)
     ∙ ap (λ u. record k { usage = u }) (as-before k)))
     (turns-none d)
   where
@@ -504,7 +507,7 @@ same-counts d n op turns same =
     stays share u true = ap (λ b. cond b u (moved share share u)) (itself share)
     stays share u false = refl
 
-    as-before : (k : Kept) → (counted_anew n (get k.state.objects n) k).usage ≡ k.usage
+    as-before : (k : StoreMeaning) → (counted_anew n (get k.state.objects n) k).usage ≡ k.usage
     as-before k = λ i e g. stays (shares_of (get k.state.objects n) e) (k.usage e g) (group_of n == g) i
 
 module _ (d : DraftValue) (n : ℕ) (change : Living → Option Living) where
@@ -522,7 +525,7 @@ module _ (d : DraftValue) (n : ℕ) (change : Living → Option Living) where
 
 -- the share that an inode tells is that of what lives there
 pub share-stands : (d : DraftValue) (n : ℕ) (i : Inode) (share : Share) → HasInode d n (Some i) → IsShareOf i share
-    → (s : Store) (k : Kept) → Fits d.view s → Represents (with_writes s d.writes) k
+    → (s : Store) (k : StoreMeaning) → Fits d.view s → Represents (with_writes s d.writes) k
     → (e : ℕ) → in_export share.export share.usage e ≡ shares_of (get k.state.objects n) e
 share-stands d n i share has shares s k fits stands e =
     ap (λ (x : Share). in_export x.export x.usage e) shares
@@ -541,13 +544,13 @@ uncounted-none d n has =
     stays u true = refl
     stays u false = refl
 
-    group-stays : (k : Kept) → get k.state.objects n ≡ None → (e g : ℕ)
+    group-stays : (k : StoreMeaning) → get k.state.objects n ≡ None → (e g : ℕ)
         → (uncounted n k).usage e g ≡ k.usage e g
     group-stays k lives e g =
         ap (λ p. cond (group_of n == g) (exchanged (shares_of p e) no_usage (k.usage e g)) (k.usage e g)) lives
         ∙ stays (k.usage e g) (group_of n == g)
 
-    as-before : (k : Kept) → get k.state.objects n ≡ None → (uncounted n k).usage ≡ k.usage
+    as-before : (k : StoreMeaning) → get k.state.objects n ≡ None → (uncounted n k).usage ≡ k.usage
     as-before k lives = λ i e g. group-stays k lives e g i
 
 pub uncounted-some : (d mid : DraftValue) (n : ℕ) (i : Inode) (share : Share) (none : Usage) → HasInode d n (Some i)
@@ -563,7 +566,7 @@ uncounted-some d mid n i share none has shares is counts =
 
 -- the same of a result that is handed on
 pub uncounted-result : {A : Type 0} (d mid : DraftValue) (n : ℕ) (i : Inode) (share : Share) (none : Usage)
-    (r : Result A Halt) → HasInode d n (Some i) → IsShareOf i share
+    (r : Result A Missing) → HasInode d n (Some i) → IsShareOf i share
     → none ≡ no_usage → MatchResult r (λ _. Turns d mid (counted n share.export share.usage none))
     (StopsAt d (addresses.Usage share.export (group_of n) ∷ []))
     → MatchResult r (λ _. Turns d mid (uncounted n)) (StopsAt d (counted_at d n))
@@ -581,7 +584,7 @@ removed-turns d mid new n counts frees =
     (λ e. refl) (λ e. ap (λ p. shares_of p e) (sym (gone k)))))
     (turns-both d mid new (uncounted n) (λ k. freed k n) counts frees)
   where
-    gone : (k : Kept) → get (freed k n).state.objects n ≡ None
+    gone : (k : StoreMeaning) → get (freed k n).state.objects n ≡ None
     gone k = get-removed k.state.objects n n
         ∙ ap (λ b. cond b None (get k.state.objects n)) ((unsigned_Decides n n).1 refl)
 
@@ -600,9 +603,10 @@ pub keeps-generation : (d mid : DraftValue) (n : ℕ) (i : Inode) (generation : 
 keeps-generation d mid n i generation has keeps is = inl (i, keeps.inodes n ∙ known-inode d n i has, sym is)
 
 -- a new object, once its directory has its name and it is counted
-pub made-turns : (old mid late new : DraftValue) (f : Kept → Kept) (r : Reserved) (i : Inode) (o : Living)
+pub made-turns : (old mid late new : DraftValue) (f : StoreMeaning → StoreMeaning) (r : Reserved) (i : Inode)
+    (o : Living)
     (links parent export : ℕ) (after : Usage) → Turns old mid f
-    → ((k : Kept) → (f k).state.exports ≡ k.state.exports) → ShowsExport old o.export
+    → ((k : StoreMeaning) → (f k).state.exports ≡ k.state.exports) → ShowsExport old o.export
     → Turns mid late (recounted r.number (in_export export no_usage) (in_export export after))
     → new ≡ with_written late (addresses.Inode r.number) (Some (objects.Inode i))
     → ((s : Store) → Fits old.view s → (with_writes s late.writes).at (addresses.Inode r.number) ≡ None)

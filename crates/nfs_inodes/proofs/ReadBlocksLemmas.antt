@@ -21,7 +21,8 @@ use Rattle.nfs_objects.specs.Bits.{has, no_bits}
 use Rattle.nfs_objects.specs.FileMaps.{FileMapValue, IsContent, block_size, part_at}
 use Rattle.nfs_objects.specs.Fits.{Fits}
 use Rattle.nfs_objects.specs.Knows.{Knows}
-use Rattle.nfs_objects.specs.Stands.{HasBlocks, IsMapped, IsStored, Kept, Represents, block_of, bytes_at, inode_of}
+use Rattle.nfs_objects.specs.Stands.{HasBlocks, IsMapped, IsStored, StoreMeaning, Represents, block_of, bytes_at}
+use Rattle.nfs_objects.specs.Stands.{inode_of}
 use Rattle.nfs_objects.specs.Stands.{map_in, map_of, pages_of}
 use Rattle.nfs_objects.specs.Stands.{beside_at, content_of, file_bytes, filled, stored_in}
 use Rattle.nfs_objects.specs.Store.{Store, with_writes, with_write}
@@ -29,7 +30,7 @@ use Rattle.nfs_objects.specs.Values.{DraftValue, is_addr, known_at, shown_at, wr
 use Rattle.nfs_objects.specs.declared.address.Addr.{Addr}
 use Rattle.nfs_objects.specs.declared.address.Addr.TheVariants as addresses
 use Rattle.nfs_objects.specs.declared.bits.Bits.{Bits}
-use Rattle.nfs_objects.specs.declared.change.Halt.{Halt}
+use Rattle.nfs_objects.specs.declared.change.Missing.{Missing}
 use Rattle.nfs_objects.specs.declared.object.Content.{Content}
 use Rattle.nfs_objects.specs.declared.object.Content.TheVariants as contents
 use Rattle.nfs_objects.specs.declared.object.Inode.{Inode}
@@ -65,14 +66,14 @@ unknown-stays d s a unknown = unwritten d.writes s (shown_at d.view.entries a) a
 
 -- what stands in a store that the draft was written to stood there before, where the draft does not know it
 pub was-there : (d : DraftValue) (a : Addr) → StillStands d → known_at d a ≡ None →
-    ((s : Store) (k : Kept) → Fits d.view s → Represents (with_writes s d.writes) k →
+    ((s : Store) (k : StoreMeaning) → Fits d.view s → Represents (with_writes s d.writes) k →
     IsSome ((with_writes s d.writes).at a)) → IsThere d.view a
 was-there d a still unknown there s k fits stands sound formed =
     let new = still s k fits stands in
     subst (λ o. IsSome o) (unknown-stays d s a unknown) (there s new.0 fits new.1)
 
 -- what is known is not lacking
-pub never-lacking : (d : DraftValue) (a : Addr) (halt : Halt) → IsSome (known_at d a) → Lacks d a halt → ⊥
+pub never-lacking : (d : DraftValue) (a : Addr) (halt : Missing) → IsSome (known_at d a) → Lacks d a halt → ⊥
 never-lacking d a halt some lacks = by (known_at d a) lacks.unknown some
   where
     by : (o : Option (Option Object)) → o ≡ None → IsSome o → ⊥
@@ -119,7 +120,7 @@ module _ (s : Store) (n : ℕ) (pages : Bits) (filed : HasBlocks s n pages) wher
   pub no-page : (i : ℕ) → has pages (i / 512) ≡ false → s.at (addresses.Block n i) ≡ None
   no-page i none = no-block i (ap (λ o. has (map_of o) (i % 512)) (no-map (i / 512) none) ∙ has-none (i % 512))
 
-module _ (d : DraftValue) (n : ℕ) (pages : Bits) (shows : HasPages d n pages) (s : Store) (k : Kept)
+module _ (d : DraftValue) (n : ℕ) (pages : Bits) (shows : HasPages d n pages) (s : Store) (k : StoreMeaning)
     (fits : Fits d.view s)
     (stands : Represents (with_writes s d.writes) k) where
   pub has-blocks : HasBlocks (with_writes s d.writes) n pages
@@ -127,14 +128,14 @@ module _ (d : DraftValue) (n : ℕ) (pages : Bits) (shows : HasPages d n pages) 
 
 -- a map page that is there stands there, and a block that its map tells of
 pub page-stands : (d : DraftValue) (n : ℕ) (pages : Bits) (page : ℕ) → HasPages d n pages → has pages page ≡ true →
-    (s : Store) (k : Kept) → Fits d.view s → Represents (with_writes s d.writes) k →
+    (s : Store) (k : StoreMeaning) → Fits d.view s → Represents (with_writes s d.writes) k →
     IsSome ((with_writes s d.writes).at (addresses.Map n page))
 page-stands d n pages page shows there s k fits stands =
     some-map _ (subst (λ b. IsMapped b ((with_writes s d.writes).at (addresses.Map n page))) there
     ((has-blocks d n pages shows s k fits stands).maps page))
 
 pub told-stands : (d : DraftValue) (n page : ℕ) (bits : Bits) (place : ℕ) → place < 512 → ShowsMap d n page bits →
-    has bits place ≡ true → (s : Store) (k : Kept) → Fits d.view s → Represents (with_writes s d.writes) k →
+    has bits place ≡ true → (s : Store) (k : StoreMeaning) → Fits d.view s → Represents (with_writes s d.writes) k →
     IsSome ((with_writes s d.writes).at (addresses.Block n (page * 512 + place)))
 told-stands d n page bits place below shows told s k fits stands =
     some-block (t.at (addresses.Block n i)) (subst (λ b. IsStored b (t.at (addresses.Block n i))) tells
@@ -200,7 +201,7 @@ block-there d n i (Some bytes) known some = by (known_at d (addresses.Block n i)
         (bytes.now, is ∙ ap Some (is-block o bytes.now same))
 
 -- what was asked for is not lacking
-pub known-block : (d : DraftValue) (n i : ℕ) (r : Result (Option (Bor (List ℕ))) Halt) →
+pub known-block : (d : DraftValue) (n i : ℕ) (r : Result (Option (Bor (List ℕ))) Missing) →
     IsSome (known_at d (addresses.Block n i)) →
     MatchResult r (λ block. option_map block_of (known_at d (addresses.Block n i)) ≡ Some (option_copied block))
     (Lacks d (addresses.Block n i)) →
@@ -220,7 +221,7 @@ known-map d s n page was fits known = by (known_at d (addresses.Map n page)) ref
     by (Some o) is e =
         let same : map_of o ≡ was = cc in ap map_of (known-stands d s (addresses.Map n page) o fits is) ∙ same
 
-pub known-told : (d : DraftValue) (n page : ℕ) (r : Result Bits Halt) → IsSome (known_at d (addresses.Map n page)) →
+pub known-told : (d : DraftValue) (n page : ℕ) (r : Result Bits Missing) → IsSome (known_at d (addresses.Map n page)) →
     MatchResult r (λ bits. option_map map_of (known_at d (addresses.Map n page)) ≡ Some bits)
     (Lacks d (addresses.Map n page)) → MatchResult r (ShowsMap d n page) (StopsAt d [])
 known-told d n page (Ok bits) some is = λ s k fits stands. known-map d s n page bits fits is
@@ -233,7 +234,7 @@ absent-told d n page pages bits shows none is s k fits stands =
     ap map_of (no-map (with_writes s d.writes) n pages (has-blocks d n pages shows s k fits stands) page none) ∙ sym is
 
 -- the bytes of a file are what its blocks tell
-pub content-there : (d : DraftValue) (n : ℕ) (map : FileMapValue) → HasMap d n map → (s : Store) (k : Kept) →
+pub content-there : (d : DraftValue) (n : ℕ) (map : FileMapValue) → HasMap d n map → (s : Store) (k : StoreMeaning) →
     Fits d.view s → Represents (with_writes s d.writes) k →
     IsContent map.size (λ b. stored_in ((with_writes s d.writes).at (addresses.Block n b))) (bytes_at k.state n)
 content-there d n map has s k fits stands =

@@ -21,14 +21,14 @@ use Rattle.nfs_objects.specs.Edits.{with_living}
 use Rattle.nfs_objects.specs.Entries.{leaf_of}
 use Rattle.nfs_objects.specs.Fits.{Fits}
 use Rattle.nfs_objects.specs.Knows.{Turns}
-use Rattle.nfs_objects.specs.Stands.{Beside, IsFitting, Kept, Represents, beside_at, content_of, entries_at}
+use Rattle.nfs_objects.specs.Stands.{Beside, IsFitting, StoreMeaning, Represents, beside_at, content_of, entries_at}
 use Rattle.nfs_objects.specs.Stands.{entry_map_in}
 use Rattle.nfs_objects.specs.Stands.{filled, lives_in, living_alone, living_of_inode, map_in, parent_in}
 use Rattle.nfs_objects.specs.Store.{Store, with_write, with_writes}
 use Rattle.nfs_objects.specs.Unfiled.{Relists}
 use Rattle.nfs_objects.specs.Values.{DraftValue, with_written}
 use Rattle.nfs_objects.specs.declared.address.Addr.TheVariants as addresses
-use Rattle.nfs_objects.specs.declared.change.Halt.{Halt}
+use Rattle.nfs_objects.specs.declared.change.Missing.{Missing}
 use Rattle.nfs_objects.specs.declared.directory.Directory.{Directory}
 use Rattle.nfs_objects.specs.declared.directory.Leaf.{Leaf}
 use Rattle.nfs_objects.specs.declared.entry_map.EntryMap.{EntryMap}
@@ -72,20 +72,20 @@ other-parent contents.Fifo parent none = refl
 -- ---- what a name leads to
 module _ (d : DraftValue) (n : ℕ) (i : Inode) (h : Directory) (has : HasDirectory d n i h) (name : List ℕ)
     (leaf : Option Leaf) (shows : ShowsLeaf d n h.entries name leaf) where
-  leaf-is : (s : Store) (k : Kept) → Fits d.view s → Represents (with_writes s d.writes) k →
+  leaf-is : (s : Store) (k : StoreMeaning) → Fits d.view s → Represents (with_writes s d.writes) k →
       option_map leaf_of (entry_of (entries_at k.state n) name) ≡ leaf
   leaf-is s k fits stands =
       leaf-stands d s n h.entries (entries_at k.state n) fits
       (entries-there d n i h.entries has.inode (ap entry_map_in has.content) s k fits stands) name leaf shows
 
   -- where it leads somewhere its entry is there, and else it is not
-  pub leaf-there : true ≡ is_some leaf → (s : Store) (k : Kept) → Fits d.view s
+  pub leaf-there : true ≡ is_some leaf → (s : Store) (k : StoreMeaning) → Fits d.view s
       → Represents (with_writes s d.writes) k →
       (there : Entry) × (entry_of (entries_at k.state n) name ≡ Some there)
   leaf-there some s k fits stands =
       entry-found (entry_of (entries_at k.state n) name) (some ∙ ap is_some (sym (leaf-is s k fits stands)))
 
-  pub leaf-absent : false ≡ is_some leaf → (s : Store) (k : Kept) → Fits d.view s
+  pub leaf-absent : false ≡ is_some leaf → (s : Store) (k : StoreMeaning) → Fits d.view s
       → Represents (with_writes s d.writes) k →
       entry_of (entries_at k.state n) name ≡ None
   leaf-absent none s k fits stands =
@@ -127,7 +127,8 @@ module _ (d laid new : DraftValue) (n : ℕ) (i j : Inode) (h : Directory) (has 
   as-listed : (last : ℕ) (change : List Entry → List Entry) (Asked : List Entry → Type 0) →
       j ≡ relisted i h now links last after → Relists n d laid h.entries after change Asked
       → (f : Living → Option Living) (count : ℕ → ℕ)
-      → ((s : Store) (k : Kept) → Fits d.view s → Represents (with_writes s d.writes) k → Asked (entries_at k.state n))
+      → ((s : Store) (k : StoreMeaning) → Fits d.view s → Represents (with_writes s d.writes) k
+      → Asked (entries_at k.state n))
       → ((beside : Beside) → Asked beside.entries → f (living_of_inode beside i) ≡ Some (living_of_inode
       (record beside { entries = change beside.entries }) (relisted i h now links last after)))
       → links ≡ count i.links → Turns d new (λ k. changed_with k n (count (k.links n)) f)
@@ -171,7 +172,7 @@ module _ (d laid new : DraftValue) (n : ℕ) (i j : Inode) (h : Directory) (has 
   -- a name more, where it was not there
   pub added-turns : (e : Entry) → j ≡ relisted i h now links e.cookie after →
       Relists n d laid h.entries after (λ es. es ++ e ∷ []) (λ es. entry_of es e.name ≡ None) →
-      ((s : Store) (k : Kept) → Fits d.view s → Represents (with_writes s d.writes) k →
+      ((s : Store) (k : StoreMeaning) → Fits d.view s → Represents (with_writes s d.writes) k →
       entry_of (entries_at k.state n) e.name ≡ None) → Turns d new (name_added now n links e)
   added-turns e made relists absent =
       as-listed e.cookie (λ es. es ++ e ∷ []) (λ es. entry_of es e.name ≡ None) made relists (with_name now e)
@@ -187,7 +188,7 @@ module _ (d laid new : DraftValue) (n : ℕ) (i j : Inode) (h : Directory) (has 
 
 -- the names that leave, of which the second one goes last
 module _ (n : ℕ) (d mid new : DraftValue) (before others : EntryMap) (name left : List ℕ) where
-  pub staying-lists : (r : Result EntryMap Halt) → Relists n d mid before others (λ es. without es name) always
+  pub staying-lists : (r : Result EntryMap Missing) → Relists n d mid before others (λ es. without es name) always
       → MatchResult r (λ m. Relists n mid new others m (λ es. without es left) always) (StopsAt mid [])
       → MatchResult r (λ m. Relists n d new before m (λ es. staying es name (Some left)) always) (StopsAt d [])
   staying-lists (Ok m) first second =
@@ -195,12 +196,12 @@ module _ (n : ℕ) (d mid new : DraftValue) (before others : EntryMap) (name lef
       (λ es asked. tt) first second
   staying-lists (Err halt) first stops = stops-back n d mid first.enters [] halt stops
 
-  pub staying-knows : (r : Result EntryMap Halt) → KeepsKnown d mid → OnOk r (KeepsKnown mid new) →
+  pub staying-knows : (r : Result EntryMap Missing) → KeepsKnown d mid → OnOk r (KeepsKnown mid new) →
       OnOk r (KeepsKnown d new)
   staying-knows (Ok m) first second = knows-both d mid new first second
   staying-knows (Err halt) first second = tt
 
-  pub staying-less : (r : Result EntryMap Halt) → TellsLess others before → IfOk r (λ m. TellsLess m others) →
+  pub staying-less : (r : Result EntryMap Missing) → TellsLess others before → IfOk r (λ m. TellsLess m others) →
       IfOk r (λ m. TellsLess m before)
   staying-less (Ok m) first second = less-both m others before second first
   staying-less (Err halt) first second = tt
@@ -222,7 +223,7 @@ given-relists n d mid laid before others after left e =
 -- where a name is there, it is not added
 pub kept-turns : (d : DraftValue) (n : ℕ) (i : Inode) (h : Directory) (now : Time) (links : ℕ) (e : Entry) →
     HasDirectory d n i h →
-    ((s : Store) (k : Kept) → Fits d.view s → Represents (with_writes s d.writes) k →
+    ((s : Store) (k : StoreMeaning) → Fits d.view s → Represents (with_writes s d.writes) k →
     (there : Entry) × (entry_of (entries_at k.state n) e.name ≡ Some there)) → Turns d d (name_added now n links e)
 kept-turns d n i h now links e has there =
     turns-as d d (λ k. k) (name_added now n links e) (λ s k fits stands.
@@ -237,7 +238,7 @@ kept-turns d n i h now links e has there =
       | Some there ↦ None
     ])) (there s k fits stands).1)) (turns-none d)
   where
-    into : Kept → Option Living → Kept
+    into : StoreMeaning → Option Living → StoreMeaning
     into k p = elim p [ None ↦ k | Some p ↦ with_living k n p links (k.parents n) ]
 
 module _ (d : DraftValue) (n : ℕ) where
@@ -246,7 +247,7 @@ module _ (d : DraftValue) (n : ℕ) where
 
   -- ---- the object that moves
   module _ (now : Time) (directory : ℕ) where
-    abbrev homes : Kept → Option Living → Kept
+    abbrev homes : StoreMeaning → Option Living → StoreMeaning
     homes k o = elim o [
       | None ↦ k
       | Some o ↦ with_living k n (touched o now) (k.links n) (cond (is_directory o.content) directory (k.parents n))

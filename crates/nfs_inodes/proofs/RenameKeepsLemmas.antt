@@ -38,7 +38,7 @@ use Rattle.nfs_machine.specs.WellFormed.{IsParent, Leads, NamesOnce, WellFormed,
 use Rattle.nfs_objects.proofs.UsageSumLemmas.{AllFit, counted-sums}
 use Rattle.nfs_objects.specs.Edits.{freed, set_at, with_living}
 use Rattle.nfs_objects.specs.Sound.{Sound}
-use Rattle.nfs_objects.specs.Stands.{Kept}
+use Rattle.nfs_objects.specs.Stands.{StoreMeaning}
 use Rattle.nfs_objects.specs.Sums.{usage_in}
 use Rattle.nfs_inodes.proofs.KeptBesideLemmas.{changed-is, replaced-usage}
 use Rattle.nfs_inodes.specs.Makes.{link_lost, removed, without_name}
@@ -79,7 +79,7 @@ set-other : (f : ℕ → ℕ) (n value q : ℕ) → (q == n) ≡ false → set_a
 set-other f n value q other = ap (λ b. cond b value (f q)) (flipped q n other)
 
 -- what is kept of each object, where this is kept of one
-each-living : (k : Kept) (n : ℕ) (o : Living) (links parent : ℕ) (P : ℕ → Living → ℕ → ℕ → Type 0) →
+each-living : (k : StoreMeaning) (n : ℕ) (o : Living) (links parent : ℕ) (P : ℕ → Living → ℕ → ℕ → Type 0) →
     P n o links parent
     → ((q : ℕ) (x : Living) → (q == n) ≡ false → get k.state.objects q ≡ Some x →
     P q x (k.links q) (k.parents q))
@@ -99,7 +99,7 @@ record SoundAt (m : State) (q : ℕ) (o : Living) (links parent : ℕ) : Type 0 
   pub links_are : links ≡ links_of m q o.content
   pub is_parent : is_directory o.content ≡ true → IsParent m q parent
 
-sound-in : (k : Kept) (m : State) → k.state ≡ m →
+sound-in : (k : StoreMeaning) (m : State) → k.state ≡ m →
     ((q : ℕ) (o : Living) → get k.state.objects q ≡ Some o → SoundAt m q o (k.links q) (k.parents q)) →
     ((e g : ℕ) → k.usage e g ≡ usage_in m e g) → Sound k
 sound-in k m same all counts =
@@ -167,25 +167,25 @@ module _ (now : Time) (move : Move) where
   abbrev pub wider : Living
   wider = with_content move.directory now (with_entry (entries_kept move) move.last_cookie move.name move.from.number)
 
-  module _ (k : Kept) (left given : ℕ) where
-    abbrev pub kept_left : (one : Bool) → Kept
+  module _ (k : StoreMeaning) (left given : ℕ) where
+    abbrev pub kept_left : (one : Bool) → StoreMeaning
     kept_left one = cond one k (with_living k move.from.place narrower left (k.parents move.from.place))
 
-    abbrev pub kept_given : (one : Bool) → Kept
+    abbrev pub kept_given : (one : Bool) → StoreMeaning
     kept_given one = with_living (kept_left one) move.target wider given ((kept_left one).parents move.target)
 
-    abbrev pub kept_homed : (one : Bool) → Kept
+    abbrev pub kept_homed : (one : Bool) → StoreMeaning
     kept_homed one = with_living (kept_given one) move.from.number (touched move.from.object now)
         ((kept_given one).links move.from.number)
         (cond (is_directory move.from.object.content) move.target ((kept_given one).parents move.from.number))
 
-    abbrev pub kept_moved : (names : ℕ) → Option Named → Kept
+    abbrev pub kept_moved : (names : ℕ) → Option Named → StoreMeaning
     kept_moved names replaced = elim replaced [
       | None ↦ kept_homed (move.target == move.from.place)
       | Some o ↦ link_lost now o.number names (kept_homed (move.target == move.from.place))
     ]
 
-module _ (k : Kept) (now : Time) (move : Move) (is : IsMove k.state move) (w : WellFormed k.state)
+module _ (k : StoreMeaning) (now : Time) (move : Move) (is : IsMove k.state move) (w : WellFormed k.state)
     (out : GoesIntoItself k.state move → ⊥) (sound : Sound k) where
   abbrev m : State
   m = k.state
@@ -422,16 +422,16 @@ module _ (k : Kept) (now : Time) (move : Move) (is : IsMove k.state move) (w : W
       left + moves_directory ≡ links_of m place move.from.directory.content)
       (gives : given + directory_over move.replaced ≡ links_of m target move.directory.content + cond
       (target == place) 0 moves_directory) where
-    abbrev left_of : Bool → Kept
+    abbrev left_of : Bool → StoreMeaning
     left_of b = kept_left now move k left given b
 
-    abbrev given_of : Bool → Kept
+    abbrev given_of : Bool → StoreMeaning
     given_of b = kept_given now move k left given b
 
-    abbrev homed_of : Bool → Kept
+    abbrev homed_of : Bool → StoreMeaning
     homed_of b = kept_homed now move k left given b
 
-    abbrev homed : Kept
+    abbrev homed : StoreMeaning
     homed = homed_of (target == place)
 
     both-objects : (b : Bool) → (target == place) ≡ b → (given_of b).state.objects ≡ m2.objects
@@ -815,7 +815,7 @@ module _ (k : Kept) (now : Time) (move : Move) (is : IsMove k.state move) (w : W
       links-other false q n t p = set-other (given_of false).links number ((given_of false).links number) q n
           ∙ set-other (left_of false).links target given q t ∙ set-other k.links place left q p
 
-      abbrev lost_of : Bool → Kept
+      abbrev lost_of : Bool → StoreMeaning
       lost_of b = cond b (removed o.number homed) (with_living homed o.number (touched o.object now)
           (homed.links o.number - 1) (homed.parents o.number))
 
@@ -936,7 +936,7 @@ module _ (k : Kept) (now : Time) (move : Move) (is : IsMove k.state move) (w : W
         (record { name = move.name; number = number; cookie = cookie }) given
         (cond b k (name_left now place move.from.name left k))) ≡ kept_homed now move k left given b
     changes-are b e cookie next =
-        ap (λ (x : Kept). rehomed now number target (name_given now target (cond b (Some move.from.name) None)
+        ap (λ (x : StoreMeaning). rehomed now number target (name_given now target (cond b (Some move.from.name) None)
         (record { name = move.name; number = number; cookie = cookie }) given x)) (left-is b)
         ∙ ap (rehomed now number target) (changed-is (left_of b) target given _ move.directory fuller
         (target-left b e) (given-is b e cookie next))
@@ -960,12 +960,12 @@ module _ (k : Kept) (now : Time) (move : Move) (is : IsMove k.state move) (w : W
           refl) homed-right
       sound-of (Some o) e fit =
           let same = lost-is o e names (counts o e) in
-          subst Sound (sym same) (lost-sound o e (subst (λ (x : Kept). AllFit x.state) same fit))
+          subst Sound (sym same) (lost-sound o e (subst (λ (x : StoreMeaning). AllFit x.state) same fit))
 
       state-of : (r : Option Named) → move.replaced ≡ r →
           (kept_moved now move k left given names r).state ≡ without_replaced m step now r
       state-of None e = homed-state (target == place) refl
-      state-of (Some o) e = ap (λ (x : Kept). x.state) (lost-is o e names (counts o e))
+      state-of (Some o) e = ap (λ (x : StoreMeaning). x.state) (lost-is o e names (counts o e))
           ∙ lost-state o e (nat_le (names_of m o.number) 1)
 
       pub moved-sound : AllFit (kept_moved now move k left given names move.replaced).state →

@@ -13,7 +13,7 @@ use Rattle.nfs_machine.specs.Replacing.{RootChoice, new_root, with_roots}
 use Rattle.nfs_machine.specs.State.{Living}
 use Rattle.nfs_objects.proofs.UsageSumLemmas.{AllFit, counted-sums}
 use Rattle.nfs_objects.specs.Edits.{counted_anew, with_new}
-use Rattle.nfs_objects.specs.Stands.{Kept}
+use Rattle.nfs_objects.specs.Stands.{StoreMeaning}
 use Rattle.nfs_objects.specs.Sums.{usage_in}
 use Rattle.nfs_inodes.specs.Roots.{roots_made}
 
@@ -34,8 +34,8 @@ last-or last count e most = elim (e == last + suc count) as (λ b. (e == last + 
     le-or (suc a) zero = inr (omega arith)
     le-or (suc a) (suc b) = elim (le-or a b) [ inl x ↦ inl (omega (arith, x)) | inr x ↦ inr (omega (arith, x)) ]
 
-module _ (now : Time) (choose : ℕ → RootChoice) (last : ℕ) (k : Kept) where
-  abbrev pub made : (count : ℕ) → Kept
+module _ (now : Time) (choose : ℕ → RootChoice) (last : ℕ) (k : StoreMeaning) where
+  abbrev pub made : (count : ℕ) → StoreMeaning
   made count = roots_made now choose last count k
 
   abbrev pub roots : (count : ℕ) → FinMap nat_cmp Living
@@ -172,7 +172,7 @@ module _ (now : Time) (choose : ℕ → RootChoice) (last : ℕ) (k : Kept) wher
       ∙ are.free (last + suc count) (omega arith) (omega arith)
 
   -- once it came, and before it is counted
-  abbrev come : (count : ℕ) → Kept
+  abbrev come : (count : ℕ) → StoreMeaning
   come count = with_new (made count) (newest count).number
       (new_root (last + suc count) (newest count).generation now) 2 (newest count).number
 

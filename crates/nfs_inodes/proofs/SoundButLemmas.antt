@@ -28,19 +28,19 @@ use Rattle.nfs_machine.specs.WellFormed.{IsParent, Leads, NamesOnce, WellFormed,
 use Rattle.nfs_objects.proofs.UsageSumLemmas.{AllFit, counted-sums}
 use Rattle.nfs_objects.specs.Edits.{freed, set_at, with_living}
 use Rattle.nfs_objects.specs.Sound.{Sound}
-use Rattle.nfs_objects.specs.Stands.{Kept}
+use Rattle.nfs_objects.specs.Stands.{StoreMeaning}
 use Rattle.nfs_objects.specs.Sums.{usage_in}
 use Rattle.nfs_inodes.proofs.KeptBesideLemmas.{replaced-usage}
 use Rattle.nfs_inodes.specs.Makes.{removed}
 
-pub record SoundBut (n : ℕ) (k : Kept) : Type 0 where
+pub record SoundBut (n : ℕ) (k : StoreMeaning) : Type 0 where
   pub links : (q : ℕ) (o : Living) → get k.state.objects q ≡ Some o → (q == n) ≡ false →
       k.links q ≡ links_of k.state q o.content
   pub parents : (q : ℕ) (o : Living) → get k.state.objects q ≡ Some o → (q == n) ≡ false →
       is_directory o.content ≡ true → IsParent k.state q (k.parents q)
   pub usage : (e g : ℕ) → k.usage e g ≡ usage_in k.state e g
 
-pub sound-but : (n : ℕ) (k : Kept) → Sound k → SoundBut n k
+pub sound-but : (n : ℕ) (k : StoreMeaning) → Sound k → SoundBut n k
 sound-but n k sound = record {
   links = λ q o at other. sound.links q o at;
   parents = λ q o at other dir. sound.parents q o at dir;
@@ -73,7 +73,7 @@ insert-same objects n o at = same_map nat_cmp_total nat_cmp-IsAntisymmetric _ _ 
     ] refl)
 
 -- the same of what is kept, as far as it goes
-pub sound-as : (a b : Kept) → a.state ≡ b.state → ((q : ℕ) → a.links q ≡ b.links q) →
+pub sound-as : (a b : StoreMeaning) → a.state ≡ b.state → ((q : ℕ) → a.links q ≡ b.links q) →
     ((q : ℕ) → a.parents q ≡ b.parents q) → ((e g : ℕ) → a.usage e g ≡ b.usage e g) → Sound a → Sound b
 sound-as a b state links parents usage sound =
     let same : a ≡ b = λ i. record {
@@ -85,7 +85,7 @@ sound-as a b state links parents usage sound =
     subst Sound same sound
 
 -- ---- the object has its links and its parent
-module _ (k : Kept) (n : ℕ) (o new : Living) (lives : get k.state.objects n ≡ Some o) (keeps : KeepsNames o new)
+module _ (k : StoreMeaning) (n : ℕ) (o new : Living) (lives : get k.state.objects n ≡ Some o) (keeps : KeepsNames o new)
     (used : used_of new.content ≡ used_of o.content) (but : SoundBut n k) (links parent : ℕ)
     (linked : links ≡ links_of k.state n o.content) (under : is_directory o.content ≡ true →
     IsParent k.state n parent) where
@@ -129,7 +129,7 @@ module _ (k : Kept) (n : ℕ) (o new : Living) (lives : get k.state.objects n �
   }
 
 -- ---- the object goes, which contains no name and has none
-module _ (k : Kept) (n : ℕ) (o : Living) (lives : get k.state.objects n ≡ Some o)
+module _ (k : StoreMeaning) (n : ℕ) (o : Living) (lives : get k.state.objects n ≡ Some o)
     (empty : entries_of o.content ≡ []) (nameless : names_of k.state n ≡ 0)
     (no_root : is_root k.state n ≡ false) (l : Loose (also n none_loose) k.state) (but : SoundBut n k) where
   abbrev gone : State
@@ -215,7 +215,7 @@ module _ (k : Kept) (n : ℕ) (o : Living) (lives : get k.state.objects n ≡ So
   }
 
 -- ---- a name is taken away
-module _ (k : Kept) (place : ℕ) (directory narrower : Living) (name : List ℕ) (e : Entry)
+module _ (k : StoreMeaning) (place : ℕ) (directory narrower : Living) (name : List ℕ) (e : Entry)
     (t : TakesName k.state (with_object k.state place narrower) place directory narrower name e)
     (formed : WellFormed k.state) (sound : Sound k) where
   abbrev taken : State
@@ -302,7 +302,7 @@ module _ (k : Kept) (place : ℕ) (directory narrower : Living) (name : List ℕ
     }
 
 -- ---- an object gets a name
-module _ (k : Kept) (place number : ℕ) (directory wider object : Living) (name : List ℕ)
+module _ (k : StoreMeaning) (place number : ℕ) (directory wider object : Living) (name : List ℕ)
     (a : AddsName k.state (with_object k.state place wider) place number directory wider object name)
     (any : ℕ → Bool) (l : Loose any k.state) (but : SoundBut number k) where
   abbrev added : State

@@ -17,7 +17,7 @@ use Rattle.nfs_objects.proofs.TurnsLemmas.{listing-same}
 use Rattle.nfs_objects.specs.Asks.{IsThere}
 use Rattle.nfs_objects.specs.Fits.{Fits}
 use Rattle.nfs_objects.specs.Knows.{Knows, Possible, Shows, ShowsExport}
-use Rattle.nfs_objects.specs.Stands.{Kept, Represents, content_of, exports_of, inode_in, links_kept, lives_in}
+use Rattle.nfs_objects.specs.Stands.{StoreMeaning, Represents, content_of, exports_of, inode_in, links_kept, lives_in}
 use Rattle.nfs_objects.specs.Stands.{Beside, beside_at, filled, living_alone, living_of_inode, parent_kept}
 use Rattle.nfs_objects.specs.Stands.{HasEntries, HoldsEntries, entries_at, entry_map_in}
 use Rattle.nfs_objects.specs.Store.{Store, with_writes}
@@ -79,7 +79,7 @@ pub shows-known : (d : DraftValue) (n : ℕ) (i : Inode) (x : Known) → HasInod
 shows-known d n i x has of = subst (ShowsExport d) (sym (ap (λ (o : Living). o.export) of.shell_is))
     (shows-export d n i has)
 
-module _ (d : DraftValue) (n : ℕ) (i : Option Inode) (has : HasInode d n i) (s : Store) (k : Kept)
+module _ (d : DraftValue) (n : ℕ) (i : Option Inode) (has : HasInode d n i) (s : Store) (k : StoreMeaning)
     (fits : Fits d.view s)
     (stands : Represents (with_writes s d.writes) k) where
   pub stands-there : inode_in k.state.exports ((with_writes s d.writes).at (addresses.Inode n)) ≡ i
@@ -112,7 +112,7 @@ module _ (d : DraftValue) (n : ℕ) (i : Option Inode) (has : HasInode d n i) (s
   parent-there = stands.objects.parents n ∙ ap parent_kept stands-there
 
 -- the pages and parts at a number are those of the entries that live there
-pub listed-there : (d : DraftValue) (n : ℕ) (i : Inode) → HasInode d n (Some i) → (s : Store) (k : Kept) →
+pub listed-there : (d : DraftValue) (n : ℕ) (i : Inode) → HasInode d n (Some i) → (s : Store) (k : StoreMeaning) →
     Fits d.view s → Represents (with_writes s d.writes) k
     → HasListing (with_writes s d.writes) n (entries_at k.state n) i
 listed-there d n i has s k fits stands =
@@ -122,7 +122,8 @@ listed-there d n i has s k fits stands =
     (stands-there d n (Some i) has s k fits stands) refl
 
 pub entries-there : (d : DraftValue) (n : ℕ) (i : Inode) (m : EntryMap) → HasInode d n (Some i) →
-    entry_map_in i.content ≡ Some m → (s : Store) (k : Kept) → Fits d.view s → Represents (with_writes s d.writes) k →
+    entry_map_in i.content ≡ Some m → (s : Store) (k : StoreMeaning) → Fits d.view s
+    → Represents (with_writes s d.writes) k →
     HasEntries (with_writes s d.writes) n m (entries_at k.state n)
 entries-there d n i m has is s k fits stands =
     subst (λ x. HoldsEntries (with_writes s d.writes) n x (entries_at k.state n)) is
@@ -166,7 +167,7 @@ pub shown-none : (m : State) (n : ℕ) → IsObject m n None → attributes_at m
 shown-none m n is = ap (λ o. option_map (attributes_of m n) o) is
 
 -- a draft with no write stands on the store itself
-pub possible : (d : DraftValue) (s : Store) (k : Kept) → d.writes ≡ [] → Possible d s k → Represents s k
+pub possible : (d : DraftValue) (s : Store) (k : StoreMeaning) → d.writes ≡ [] → Possible d s k → Represents s k
 possible d s k none w = subst (λ ws. Represents (with_writes s ws) k) none w.stands
 
 pub known-lives : (d : DraftValue) (x : Known) → d.writes ≡ [] → Knows d (λ k. IsKnown k.state x)

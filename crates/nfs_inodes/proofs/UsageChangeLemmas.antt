@@ -21,7 +21,7 @@ use Rattle.nfs_objects.specs.Edits.{counted_anew, recounted}
 use Rattle.nfs_objects.specs.Fits.{Fits}
 use Rattle.nfs_objects.specs.Knows.{Possible, Turns}
 use Rattle.nfs_objects.specs.Sound.{Sound}
-use Rattle.nfs_objects.specs.Stands.{Kept, Represents, beside_at, living_of_inode}
+use Rattle.nfs_objects.specs.Stands.{StoreMeaning, Represents, beside_at, living_of_inode}
 use Rattle.nfs_objects.specs.Store.{Store, with_writes}
 use Rattle.nfs_objects.specs.Sums.{group_of, in_export, no_usage, shares_of, stored_usage, usage_of}
 use Rattle.nfs_objects.specs.Values.{DraftValue, ViewValue, known_at, with_written}
@@ -32,7 +32,7 @@ use Rattle.nfs_objects.specs.declared.usage.Usage.{Usage}
 use Rattle.nfs_inodes.proofs.StandsLemmas.{lives-there}
 use Rattle.nfs_inodes.specs.Counts.{IsCount, KeepsInodes}
 use Rattle.nfs_inodes.specs.Known.{is_handle_of}
-use Rattle.nfs_objects.specs.declared.change.Halt.{Halt}
+use Rattle.nfs_objects.specs.declared.change.Missing.{Missing}
 use Rattle.nfs_inodes.specs.Stops.{IsOfExport, StillStands, StopsAt, UsageLives, brought_by}
 use Rattle.nfs_inodes.specs.declared.found.Known.{Known}
 
@@ -100,7 +100,7 @@ pub record LivedIn (m : State) (n export : ℕ) : Type 0 where
 pub stands-first : (d : DraftValue) → d.writes ≡ [] → StillStands d
 stands-first d none s k fits stands = (k, subst (λ ws. Represents (with_writes s ws) k) (sym none) stands)
 
-module _ (old d : DraftValue) (op : Kept → Kept) (turns : Turns old d op) where
+module _ (old d : DraftValue) (op : StoreMeaning → StoreMeaning) (turns : Turns old d op) where
   -- a store that stands for something does so still
   pub stands-on : StillStands old → StillStands d
   stands-on still s k fits stands =
@@ -109,7 +109,7 @@ module _ (old d : DraftValue) (op : Kept → Kept) (turns : Turns old d op) wher
       (op was.0, turns.turns s was.0 before was.1)
 
   module _ (none : old.writes ≡ []) (n : ℕ) where
-    pub counted-lives : ((s : Store) (k : Kept) → Possible old s k → WellFormed k.state → (o : Living) →
+    pub counted-lives : ((s : Store) (k : StoreMeaning) → Possible old s k → WellFormed k.state → (o : Living) →
         get (op k).state.objects n ≡ Some o → LivedIn k.state n o.export) → UsageLives d n
     counted-lives lives = record {
       usage = λ i has s k fits stands sound formed.
@@ -162,7 +162,7 @@ among-brought view handle export of a among = inr (by (handle_of handle) refl of
         among-counted view handle [] h is a (subst (λ x. IsAmong (usages_of x 64) a) (sym same) among)
 
 -- so what all groups use may be asked for by who brings the handle
-pub usage-brings : (d : DraftValue) (handle : List ℕ) (export : ℕ) (halt : Halt) → IsOfExport handle export
+pub usage-brings : (d : DraftValue) (handle : List ℕ) (export : ℕ) (halt : Missing) → IsOfExport handle export
     → StopsAt d (usages_of export 64) halt → StopsAt d (brought_by d.view handle) halt
 usage-brings d handle export halt of stops =
     stops-wider d.modes (usages_of export 64) (brought_by d.view handle) 0 d.view halt
@@ -171,16 +171,16 @@ usage-brings d handle export halt of stops =
 
 -- ---- what every store stands for, by its parts
 -- links and parents are right
-pub record NamesSound (k : Kept) : Type 0 where
+pub record NamesSound (k : StoreMeaning) : Type 0 where
   pub links : (n : ℕ) (o : Living) → get k.state.objects n ≡ Some o → k.links n ≡ links_of k.state n o.content
   pub parents : (n : ℕ) (o : Living) → get k.state.objects n ≡ Some o → is_directory o.content ≡ true
       → IsParent k.state n (k.parents n)
 
-pub names-sound : (k : Kept) → Sound k → NamesSound k
+pub names-sound : (k : StoreMeaning) → Sound k → NamesSound k
 names-sound k sound = record { links = sound.links; parents = sound.parents }
 
 -- one number has changed
-module _ (k new : Kept) (n : ℕ)
+module _ (k new : StoreMeaning) (n : ℕ)
     (others : (q : ℕ) → (n == q) ≡ false → get new.state.objects q ≡ get k.state.objects q)
     (same : new.usage ≡ k.usage) (sound : Sound k) (names : NamesSound new) where
   -- and is counted anew

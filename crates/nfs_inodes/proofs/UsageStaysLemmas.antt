@@ -17,7 +17,7 @@ use Rattle.nfs_objects.proofs.TallyLemmas.{get-removed, part, split-total, total
 use Rattle.nfs_objects.specs.ExportTables.{ExportTableValue}
 use Rattle.nfs_objects.specs.Replaced.{state_with, with_table}
 use Rattle.nfs_objects.specs.Sound.{Sound}
-use Rattle.nfs_objects.specs.Stands.{Kept, lives_in}
+use Rattle.nfs_objects.specs.Stands.{StoreMeaning, lives_in}
 use Rattle.nfs_objects.specs.Sums.{group_of, is_counted, no_usage, usage_in}
 use Rattle.nfs_objects.specs.declared.usage.Usage.{Usage}
 use Rattle.nfs_inodes.specs.Roots.{Follows}
@@ -155,7 +155,7 @@ abbrev one : Living → ℕ
 one o = 1
 
 -- what is kept of usages is right still
-pub table-usage : (k : Kept) (table : ExportTableValue) → Follows k.state table → WellFormed k.state → Sound k
+pub table-usage : (k : StoreMeaning) (table : ExportTableValue) → Follows k.state table → WellFormed k.state → Sound k
     → (e g : ℕ) → (with_table k table).usage e g ≡ usage_in (state_with k.state table) e g
 table-usage k table follows w sound e g = by (lives_in table.exports e) refl
   where

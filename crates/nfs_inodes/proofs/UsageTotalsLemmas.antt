@@ -17,7 +17,7 @@ use Rattle.nfs_objects.specs.Sums.{export_usage, no_usage, together, usage_of}
 use Rattle.nfs_objects.specs.Values.{DraftValue, is_addr, known_at}
 use Rattle.nfs_objects.specs.declared.address.Addr.{Addr}
 use Rattle.nfs_objects.specs.declared.address.Addr.TheVariants as addresses
-use Rattle.nfs_objects.specs.declared.change.Halt.{Halt}
+use Rattle.nfs_objects.specs.declared.change.Missing.{Missing}
 use Rattle.nfs_objects.specs.declared.modes.Mode.{Mode}
 use Rattle.nfs_objects.specs.declared.usage.Usage.{Usage}
 use Rattle.nfs_inodes.specs.Counts.{AreUnread, IsUnread}
@@ -97,7 +97,7 @@ module _ (d : DraftValue) (export : ℕ) where
     each = all-map (IsUnread d export 64) (MayAsk d.modes (usages_of export 64) d.view) may-ask asked are.each;
   }
 
-  pub group-stops : (group : ℕ) (halt : Halt) → group < 64 → Lacks d (addresses.Usage export group) halt
+  pub group-stops : (group : ℕ) (halt : Missing) → group < 64 → Lacks d (addresses.Usage export group) halt
       → StopsAt d (usages_of export 64) halt
   group-stops group halt below lacks =
       lacks-stops d (usages_of export 64) 0 (addresses.Usage export group) halt lacks

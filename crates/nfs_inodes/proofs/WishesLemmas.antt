@@ -16,7 +16,7 @@ use Rattle.nfs_objects.specs.Values.{DraftValue, is_addr, known_at}
 use Rattle.nfs_objects.specs.declared.address.Addr.{Addr}
 use Rattle.nfs_objects.specs.declared.address.Addr.TheVariants as addresses
 use Rattle.nfs_objects.specs.declared.bits.Bits.{Bits}
-use Rattle.nfs_objects.specs.declared.change.Halt.{Halt}
+use Rattle.nfs_objects.specs.declared.change.Missing.{Missing}
 use Rattle.nfs_objects.specs.declared.modes.Mode.{Mode}
 use Rattle.nfs_objects.specs.Modes.{held_mode}
 use Rattle.nfs_objects.specs.declared.object.Object.{Object}
@@ -404,7 +404,7 @@ module _ (file offset count : ℕ) (some : 0 < count) (few : count ≤ 65536) wh
 
 -- ---- how what is asked for ends
 pub asked-result : (d : DraftValue) (named : List Addr) (asked : List (Addr × Mode)) (Known : Type 0)
-    (r : Result (Unit {0}) Halt) → OnOk r (asked ≡ []) →
+    (r : Result (Unit {0}) Missing) → OnOk r (asked ≡ []) →
     ((e : DraftValue) (some : List Addr) → IsAsking e some asked → IfErr r (StopsAt e some)) → IsAsking d named asked →
     (asked ≡ [] → Known) → MatchResult r (λ _. Known) (StopsAt d named)
 asked-result d named asked Known (Ok x) nothing stops asking known = known nothing

@@ -10,7 +10,7 @@ use Rattle.nfs_objects.specs.Values.{DraftValue, is_addr}
 use Rattle.nfs_objects.specs.declared.address.Addr.{Addr}
 use Rattle.nfs_objects.specs.declared.address.Addr.TheVariants as addresses
 use Rattle.nfs_objects.specs.declared.bits.Bits.{Bits}
-use Rattle.nfs_objects.specs.declared.change.Halt.{Halt}
+use Rattle.nfs_objects.specs.declared.change.Missing.{Missing}
 use Rattle.nfs_objects.specs.declared.modes.Mode.{Mode}
 use Rattle.nfs_objects.specs.declared.object.Inode.{Inode}
 use Rattle.std.proofs.Common.{Result, Ok, Err}
@@ -32,46 +32,47 @@ use Rattle.nfs_inodes.specs.Known.{HasInode}
 use Rattle.nfs_inodes.specs.Stops.{StopsAt, counted_at, group_at, inode_at}
 
 -- ---- one list of more
-pub front-stops : (d : DraftValue) (few more : List Addr) (halt : Halt) → StopsAt d few halt → StopsAt d (few ++ more)
+pub front-stops : (d : DraftValue) (few more : List Addr) (halt : Missing) → StopsAt d few halt
+    → StopsAt d (few ++ more)
     halt
 front-stops d few more halt stops =
     stops-wider d.modes few (few ++ more) 0 d.view halt
     (covers-among few (few ++ more) d.view (among-front few more)) stops
 
-pub back-stops : (d : DraftValue) (more few : List Addr) (halt : Halt) → StopsAt d few halt → StopsAt d (more ++ few)
+pub back-stops : (d : DraftValue) (more few : List Addr) (halt : Missing) → StopsAt d few halt → StopsAt d (more ++ few)
     halt
 back-stops d more few halt stops =
     stops-wider d.modes few (more ++ few) 0 d.view halt
     (covers-among few (more ++ few) d.view (among-behind more few)) stops
 
 -- what halts for whatever is named
-pub stops-any : {A : Type 0} (d : DraftValue) (named : List Addr) (P : A → Type 0) (r : Result A Halt) →
+pub stops-any : {A : Type 0} (d : DraftValue) (named : List Addr) (P : A → Type 0) (r : Result A Missing) →
     MatchResult r P (StopsAt d []) → MatchResult r P (StopsAt d named)
 stops-any d named P (Ok x) is = is
 stops-any d named P (Err halt) stops = any-stops d named halt stops
 
 -- of a write: what the file is counted in, and the map pages
-pub written-counts : (d : DraftValue) (n offset : ℕ) (halt : Halt) → StopsAt d (counted_at d n) halt →
+pub written-counts : (d : DraftValue) (n offset : ℕ) (halt : Missing) → StopsAt d (counted_at d n) halt →
     StopsAt d (written_from d n offset) halt
 written-counts d n offset halt stops =
     front-stops d (counted_at d n ++ blocks_at n offset) (maps_at n offset) halt
     (front-stops d (counted_at d n) (blocks_at n offset) halt stops)
 
-pub written-maps : (d : DraftValue) (n offset : ℕ) (halt : Halt) → StopsAt d (maps_at n offset) halt →
+pub written-maps : (d : DraftValue) (n offset : ℕ) (halt : Missing) → StopsAt d (maps_at n offset) halt →
     StopsAt d (written_from d n offset) halt
 written-maps d n offset halt stops =
     back-stops d (counted_at d n ++ blocks_at n offset) (maps_at n offset) halt stops
 
 -- of a read: the object, and the blocks
-pub read-object : (d : DraftValue) (n offset : ℕ) (halt : Halt) → StopsAt d (addresses_of d.view n) halt →
+pub read-object : (d : DraftValue) (n offset : ℕ) (halt : Missing) → StopsAt d (addresses_of d.view n) halt →
     StopsAt d (read_from d.view n offset) halt
 read-object d n offset halt stops = front-stops d (addresses_of d.view n) (blocks_at n offset) halt stops
 
-pub read-blocks : (d : DraftValue) (n offset : ℕ) (halt : Halt) → StopsAt d (blocks_at n offset) halt →
+pub read-blocks : (d : DraftValue) (n offset : ℕ) (halt : Missing) → StopsAt d (blocks_at n offset) halt →
     StopsAt d (read_from d.view n offset) halt
 read-blocks d n offset halt stops = back-stops d (addresses_of d.view n) (blocks_at n offset) halt stops
 
-pub read-result : (d : DraftValue) (n offset count : ℕ) (r : Result ReadData Halt) →
+pub read-result : (d : DraftValue) (n offset count : ℕ) (r : Result ReadData Missing) →
     MatchResult r (λ found. Knows d (λ k. found ≡ read_at (bytes_at k.state n) offset count))
     (StopsAt d (blocks_at n offset))
     → MatchResult r (λ found. Knows d (λ k. found ≡ read_at (bytes_of (content_at k.state n)) offset count))
@@ -100,7 +101,7 @@ module _ (d : DraftValue) (n offset count : ℕ) (pages : Bits) (some : 0 < coun
 -- ---- a write
 -- a map page of a range
 pub one-map : (d : DraftValue) (n offset count page : ℕ) → 0 < count → count ≤ 65536 → first_of offset / 512 ≤ page →
-    page < (end_of offset count - 1) / 512 + 1 → (halt : Halt) → StopsAt d (addresses.Map n page ∷ []) halt →
+    page < (end_of offset count - 1) / 512 + 1 → (halt : Missing) → StopsAt d (addresses.Map n page ∷ []) halt →
     StopsAt d (maps_at n offset) halt
 one-map d n offset count page some few behind before halt stops =
     stops-wider d.modes (addresses.Map n page ∷ []) (maps_at n offset) 0 d.view halt (

@@ -5,9 +5,9 @@ use Rattle.nfs_machine.specs.Making as machine
 use Rattle.nfs_machine.specs.State.{Content, Regular, Directory, Link, BlockDevice, CharacterDevice, Socket, Fifo}
 use Rattle.nfs_machine.specs.State.{octal}
 use Rattle.nfs_objects.specs.Stands.{verifier_bytes}
-use Rattle.nfs_inodes.specs.declared.making.NewContent.{NewContent}
-use Rattle.nfs_inodes.specs.declared.making.NewContent.TheVariants as new
-use Rattle.nfs_inodes.specs.declared.making.Wanted.{Wanted}
+use Rattle.nfs_inodes.specs.declared.new_objects.NewContent.{NewContent}
+use Rattle.nfs_inodes.specs.declared.new_objects.NewContent.TheVariants as new
+use Rattle.nfs_inodes.specs.declared.new_objects.Wanted.{Wanted}
 
 -- what a new object contains: a file zeros, and a directory no entry, where "." and ".." have the cookies 1 and 2
 abbrev pub content_asked : NewContent → Content

@@ -9,7 +9,8 @@ use Rattle.nfs_objects.specs.Bits.{has}
 use Rattle.nfs_objects.specs.Calls.{addresses_of, blocks_at, maps_at}
 use Rattle.nfs_objects.specs.FileMaps.{FileMapValue, block_size}
 use Rattle.nfs_objects.specs.Fits.{Fits}
-use Rattle.nfs_objects.specs.Stands.{HasBlocks, Kept, Represents, map_in, map_of, pages_of, stored_in, stored_map}
+use Rattle.nfs_objects.specs.Stands.{HasBlocks, StoreMeaning, Represents, map_in, map_of, pages_of, stored_in}
+use Rattle.nfs_objects.specs.Stands.{stored_map}
 use Rattle.nfs_objects.specs.Store.{Store, with_writes}
 use Rattle.nfs_objects.specs.Unfiled.{Lays}
 use Rattle.nfs_objects.specs.Values.{DraftValue, ViewValue, is_addr, known_at, with_written}
@@ -24,7 +25,7 @@ use Rattle.nfs_inodes.specs.Stops.{counted_at}
 -- ---- what is shown
 -- a block of a file has these bytes, in every store that the draft's view fits
 abbrev pub ShowsBlock : DraftValue → (file index : ℕ) → List ℕ → Type 0
-ShowsBlock d file index bytes = (s : Store) (k : Kept) → Fits d.view s → Represents (with_writes s d.writes) k →
+ShowsBlock d file index bytes = (s : Store) (k : StoreMeaning) → Fits d.view s → Represents (with_writes s d.writes) k →
     stored_in ((with_writes s d.writes).at (addresses.Block file index)) ≡ bytes
 
 -- the file with this map stands at a number
@@ -153,5 +154,5 @@ pub record WritesRange (old new : DraftValue) (file offset : ℕ) (bytes : List 
       (with_writes s new.writes).at (addresses.Block file i) ≡ Some (objects.Block (written
       (stored_in ((with_writes s old.writes).at (addresses.Block file i)))
       (place_in offset i) (part_in offset bytes i)))
-  pub maps : (s : Store) (k : Kept) → Fits old.view s → Represents (with_writes s old.writes) k →
+  pub maps : (s : Store) (k : StoreMeaning) → Fits old.view s → Represents (with_writes s old.writes) k →
       HasBlocks (with_writes s new.writes) file after

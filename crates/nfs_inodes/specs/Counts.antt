@@ -6,7 +6,7 @@ use Rattle.nfs_machine.specs.Attributes.{used_of}
 use Rattle.nfs_objects.specs.Asks.{EachOnce}
 use Rattle.nfs_objects.specs.Edits.{recounted}
 use Rattle.nfs_objects.specs.Modes.{held_mode}
-use Rattle.nfs_objects.specs.Stands.{Kept, content_of}
+use Rattle.nfs_objects.specs.Stands.{StoreMeaning, content_of}
 use Rattle.nfs_objects.specs.Sums.{group_of, is_same_usage, moved, no_usage, one_using, shares_of, usage_of}
 use Rattle.nfs_objects.specs.Values.{DraftValue, known_at}
 use Rattle.nfs_objects.specs.declared.address.Addr.{Addr}
@@ -21,7 +21,7 @@ abbrev pub IsShareOf : Inode → Share → Type 0
 IsShareOf i share = share ≡ record { export = i.export; usage = one_using (used_of (content_of i.content)) }
 
 -- what lives at a number is counted no more
-abbrev pub uncounted : (number : ℕ) → Kept → Kept
+abbrev pub uncounted : (number : ℕ) → StoreMeaning → StoreMeaning
 uncounted number k = recounted number (shares_of (get k.state.objects number)) (λ e. no_usage) k
 
 -- the group uses this, once the object at a number has the one share in the place of the other

@@ -7,7 +7,8 @@ use Rattle.nfs_machine.specs.Data.{resized}
 use Rattle.nfs_objects.specs.Bits.{has, no_bits, same_bits}
 use Rattle.nfs_objects.specs.FileMaps.{IsContent, block_size}
 use Rattle.nfs_objects.specs.Fits.{Fits}
-use Rattle.nfs_objects.specs.Stands.{HasBlocks, IsMapped, IsStored, Kept, Represents, map_of, stored_in, stored_map}
+use Rattle.nfs_objects.specs.Stands.{HasBlocks, IsMapped, IsStored, StoreMeaning, Represents, map_of, stored_in}
+use Rattle.nfs_objects.specs.Stands.{stored_map}
 use Rattle.nfs_objects.specs.Store.{Store, with_writes}
 use Rattle.nfs_objects.specs.Unfiled.{Lays}
 use Rattle.nfs_objects.specs.Values.{DraftValue, is_addr, known_at}
@@ -21,7 +22,7 @@ use Rattle.nfs_inodes.specs.Blocks.{Leaves}
 -- ---- what is shown
 -- a map page tells of these blocks in every store that the draft's view fits; one that is not there of none
 abbrev pub ShowsMap : DraftValue → (file page : ℕ) → Bits → Type 0
-ShowsMap d file page bits = (s : Store) (k : Kept) → Fits d.view s → Represents (with_writes s d.writes) k →
+ShowsMap d file page bits = (s : Store) (k : StoreMeaning) → Fits d.view s → Represents (with_writes s d.writes) k →
     map_of ((with_writes s d.writes).at (addresses.Map file page)) ≡ bits
 
 -- what these tell, of pages from one on
@@ -123,14 +124,14 @@ pub record IsCutTo (old new : DraftValue) (file size page : ℕ) (left : Bits) :
   pub leaves : Leaves old new (IsBehind file page)
   pub front : (s : Store) (i : ℕ) → i < size / block_size →
       (with_writes s new.writes).at (addresses.Block file i) ≡ (with_writes s old.writes).at (addresses.Block file i)
-  pub blocks : (s : Store) (k : Kept) (i : ℕ) → Fits old.view s → Represents (with_writes s old.writes) k →
+  pub blocks : (s : Store) (k : StoreMeaning) (i : ℕ) → Fits old.view s → Represents (with_writes s old.writes) k →
       size / block_size ≤ i → i < page * 512 →
       stored_in ((with_writes s new.writes).at (addresses.Block file i)) ≡
       take (size - i * block_size) (stored_in ((with_writes s old.writes).at (addresses.Block file i)))
-  pub stored : (s : Store) (k : Kept) (i : ℕ) → Fits old.view s → Represents (with_writes s old.writes) k →
+  pub stored : (s : Store) (k : StoreMeaning) (i : ℕ) → Fits old.view s → Represents (with_writes s old.writes) k →
       i < page * 512 → IsStored (has (map_of ((with_writes s new.writes).at (addresses.Map file (i / 512)))) (i % 512))
       ((with_writes s new.writes).at (addresses.Block file i))
-  pub maps : (s : Store) (k : Kept) (p : ℕ) → Fits old.view s → Represents (with_writes s old.writes) k →
+  pub maps : (s : Store) (k : StoreMeaning) (p : ℕ) → Fits old.view s → Represents (with_writes s old.writes) k →
       p < page → IsMapped (has left p) ((with_writes s new.writes).at (addresses.Map file p))
   pub later : (p : ℕ) → page ≤ p → has left p ≡ false
   pub gone : size ≡ 0 → (p : ℕ) → has left p ≡ false
@@ -141,10 +142,10 @@ pub record IsCutAt (old new : DraftValue) (file size : ℕ) (left : Bits) : Type
   pub inodes : (n : ℕ) → known_at new (addresses.Inode n) ≡ known_at old (addresses.Inode n)
   pub front : (s : Store) (i : ℕ) → i < size / block_size →
       (with_writes s new.writes).at (addresses.Block file i) ≡ (with_writes s old.writes).at (addresses.Block file i)
-  pub blocks : (s : Store) (k : Kept) (i : ℕ) → Fits old.view s → Represents (with_writes s old.writes) k →
+  pub blocks : (s : Store) (k : StoreMeaning) (i : ℕ) → Fits old.view s → Represents (with_writes s old.writes) k →
       size / block_size ≤ i → stored_in ((with_writes s new.writes).at (addresses.Block file i)) ≡
       take (size - i * block_size) (stored_in ((with_writes s old.writes).at (addresses.Block file i)))
-  pub maps : (s : Store) (k : Kept) → Fits old.view s → Represents (with_writes s old.writes) k →
+  pub maps : (s : Store) (k : StoreMeaning) → Fits old.view s → Represents (with_writes s old.writes) k →
       HasBlocks (with_writes s new.writes) file left
   pub gone : size ≡ 0 → (p : ℕ) → has left p ≡ false
 
@@ -152,16 +153,16 @@ pub record IsCutAt (old new : DraftValue) (file size : ℕ) (left : Bits) : Type
 pub record IsResized (old new : DraftValue) (file before size : ℕ) (left : Bits) : Type 0 where
   pub lays : Lays file old new
   pub inodes : (n : ℕ) → known_at new (addresses.Inode n) ≡ known_at old (addresses.Inode n)
-  pub content : (s : Store) (k : Kept) (bytes : List ℕ) → Fits old.view s →
+  pub content : (s : Store) (k : StoreMeaning) (bytes : List ℕ) → Fits old.view s →
       Represents (with_writes s old.writes) k →
       IsContent before (λ b. stored_in ((with_writes s old.writes).at (addresses.Block file b))) bytes →
       IsContent size (λ b. stored_in ((with_writes s new.writes).at (addresses.Block file b))) (resized bytes size)
-  pub maps : (s : Store) (k : Kept) → Fits old.view s → Represents (with_writes s old.writes) k →
+  pub maps : (s : Store) (k : StoreMeaning) → Fits old.view s → Represents (with_writes s old.writes) k →
       HasBlocks (with_writes s new.writes) file left
 
 -- no block and no map of what lives at a number is there any more
 pub record IsCleared (old new : DraftValue) (number : ℕ) : Type 0 where
   pub lays : Lays number old new
   pub inodes : (n : ℕ) → known_at new (addresses.Inode n) ≡ known_at old (addresses.Inode n)
-  pub maps : (s : Store) (k : Kept) → Fits old.view s → Represents (with_writes s old.writes) k →
+  pub maps : (s : Store) (k : StoreMeaning) → Fits old.view s → Represents (with_writes s old.writes) k →
       HasBlocks (with_writes s new.writes) number no_bits

@@ -15,7 +15,8 @@ use Rattle.nfs_objects.specs.PageRuns.{TellsEmpty, lists}
 use Rattle.nfs_objects.specs.Directories.{with_count}
 use Rattle.nfs_objects.specs.Entries.{leaf_of}
 use Rattle.nfs_objects.specs.Fits.{Fits}
-use Rattle.nfs_objects.specs.Stands.{HoldsEntries, IsPart, Kept, Represents, StandEntries, header_in, page_of, part_of}
+use Rattle.nfs_objects.specs.Stands.{HoldsEntries, IsPart, StoreMeaning, Represents, StandEntries, header_in, page_of}
+use Rattle.nfs_objects.specs.Stands.{part_of}
 use Rattle.nfs_objects.specs.Stands.{stored_page}
 use Rattle.nfs_objects.specs.Store.{Store, with_writes}
 use Rattle.nfs_objects.specs.Unfiled.{Enters}
@@ -209,8 +210,8 @@ always entries = Unit {0}
 -- in each store that the draft's view fits, and that stands for something, the pages and parts at a number stand for
 -- entries, once the draft is written
 abbrev pub EntriesStand : DraftValue → (number : ℕ) → Type 0
-EntriesStand d number = (s : Store) (k : Kept) → Fits d.view s → Represents s k →
-    (new : Kept) × StandEntries (with_writes s d.writes) new number
+EntriesStand d number = (s : Store) (k : StoreMeaning) → Fits d.view s → Represents s k →
+    (new : StoreMeaning) × StandEntries (with_writes s d.writes) new number
 
 -- whether an address is that of a page or a part of what is at a number
 abbrev pub is_entries_of : (number : ℕ) → Addr → Bool
@@ -233,5 +234,5 @@ pub record Frees (old new : DraftValue) (number : ℕ) (listed : List Addr) : Ty
 pub record IsEmptied (old new : DraftValue) (number : ℕ) : Type 0 where
   pub enters : Enters number old new
   pub knows : KeepsKnown old new
-  pub emptied : (s : Store) (k : Kept) → Fits old.view s → StandEntries (with_writes s old.writes) k number →
+  pub emptied : (s : Store) (k : StoreMeaning) → Fits old.view s → StandEntries (with_writes s old.writes) k number →
       HoldsEntries (with_writes s new.writes) number None []

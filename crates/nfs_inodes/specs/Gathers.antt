@@ -8,11 +8,11 @@ use Rattle.nfs_objects.specs.Modes.{held_mode}
 use Rattle.nfs_objects.specs.Values.{DraftValue, ViewValue, known_at, seen_at}
 use Rattle.nfs_objects.specs.declared.address.Addr.{Addr}
 use Rattle.nfs_objects.specs.declared.address.Addr.TheVariants as addresses
-use Rattle.nfs_objects.specs.declared.change.Halt.{Halt}
-use Rattle.nfs_objects.specs.declared.change.Halt.TheVariants.{Need, Memory}
+use Rattle.nfs_objects.specs.declared.change.Missing.{Missing}
+use Rattle.nfs_objects.specs.declared.change.Missing.TheVariants.{Need, Memory}
 use Rattle.nfs_objects.specs.declared.modes.Mode.{Mode}
 use Rattle.nfs_inodes.specs.Entered.{header_at}
-use Rattle.nfs_inodes.specs.declared.gather.Wishes.{Wishes}
+use Rattle.nfs_inodes.specs.declared.gather.WantedObjects.{WantedObjects}
 
 -- something stands at the number of each entry in every sound store that the view fits
 abbrev pub EachLives : ViewValue → List Entry → Type 0
@@ -27,7 +27,7 @@ abbrev pub IsKnownOrAsked : DraftValue → List (Addr × Mode) → Addr → Type
 IsKnownOrAsked d asked a = IsSome (known_at d a) ⊎ WasAsked asked (a, held_mode d.modes d.view a)
 
 -- at once all is asked for that the draft lacks of what stands at the entries' numbers; or there is no memory
-abbrev pub AsksAll : DraftValue → List Entry → Halt → Type 0
+abbrev pub AsksAll : DraftValue → List Entry → Missing → Type 0
 AsksAll d entries (Need asked) =
     AllByRecursion (λ (e : Entry). IsKnownOrAsked d asked.items (addresses.Inode e.number)) entries
 AsksAll d entries Memory = Unit {0}
@@ -55,7 +55,7 @@ pub record MayWish (d : DraftValue) (a : Addr × Mode) : Type 0 where
   pub lives : IsThere d.view a.0
 
 -- each number of these is asked for once, and so is all that the draft lacks of what stands at the entries' numbers
-pub record Gathers (d : DraftValue) (entries : List Entry) (wishes : Wishes) : Type 0 where
+pub record Gathers (d : DraftValue) (entries : List Entry) (wishes : WantedObjects) : Type 0 where
   pub wished : wishes.asked.items ≡ map (wish d) wishes.numbers.keys
   pub once : EachOnce wishes.asked.items
   pub each : AllByRecursion (MayWish d) wishes.asked.items

@@ -15,7 +15,7 @@ use Rattle.nfs_machine.specs.Shown.{attributes_at, shown, wcc}
 use Rattle.nfs_machine.specs.State.{Content, Regular, Directory, Socket, Living, State}
 use Rattle.nfs_machine.specs.declared.context.Ctx.{Ctx}
 use Rattle.nfs_machine.specs.declared.handle.Handle.{Handle}
-use Rattle.nfs_objects.specs.Stands.{Kept, content_of, exports_of, inode_in, living_alone, verifier_bytes}
+use Rattle.nfs_objects.specs.Stands.{StoreMeaning, content_of, exports_of, inode_in, living_alone, verifier_bytes}
 use Rattle.nfs_objects.specs.Values.{DraftValue, known_at}
 use Rattle.nfs_objects.specs.declared.address.Addr.TheVariants as addresses
 use Rattle.nfs_objects.specs.declared.object.Inode.{Inode}
@@ -91,7 +91,7 @@ abbrev pub weak_of : Known → WeakAttributes
 weak_of x = record { size = x.attributes.size; modified = x.attributes.modified; changed = x.attributes.changed }
 
 -- the handle names this; and so it is shown, in whatever state the call leaves
-pub record Names (ctx : Ctx) (handle : List ℕ) (k : Kept) (x : Known) : Type 0 where
+pub record Names (ctx : Ctx) (handle : List ℕ) (k : StoreMeaning) (x : Known) : Type 0 where
   pub known : IsKnown k.state x
   pub names : object_of (resolve k.state ctx handle) ≡ Ok (target k.state x)
   pub shows : shown k.state (resolve k.state ctx handle) ≡ Some x.attributes
@@ -102,13 +102,13 @@ pub record Names (ctx : Ctx) (handle : List ℕ) (k : Kept) (x : Known) : Type 0
   pub parent : IsParentOf k.state ctx handle (k.parents x.number)
 
 -- the handle names nothing, and is refused so; nothing is shown
-pub record NamesNothing (ctx : Ctx) (handle : List ℕ) (k : Kept) (e : NfsStatus) : Type 0 where
+pub record NamesNothing (ctx : Ctx) (handle : List ℕ) (k : StoreMeaning) (e : NfsStatus) : Type 0 where
   pub refused : object_of (resolve k.state ctx handle) ≡ Err e
   pub shows_after : (new : State) → shown new (resolve k.state ctx handle) ≡ None
   pub wcc_after : (new : State) → wcc new (resolve k.state ctx handle) ≡ record { before = None; after = None }
   pub parent : (parent : ℕ) → IsParentOf k.state ctx handle parent
 
-abbrev pub Means : Ctx → List ℕ → Result Known NfsStatus → Kept → Type 0
+abbrev pub Means : Ctx → List ℕ → Result Known NfsStatus → StoreMeaning → Type 0
 Means ctx handle (Ok x) k = Names ctx handle k x
 Means ctx handle (Err e) k = NamesNothing ctx handle k e
 

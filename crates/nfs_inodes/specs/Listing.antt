@@ -4,7 +4,7 @@ use Rattle.nfs_machine.specs.Pages.{all_entries, behind}
 use Rattle.nfs_machine.specs.State.{Entry}
 use Rattle.nfs_inodes.specs.declared.content.listing.EntryName.{EntryName}
 use Rattle.nfs_inodes.specs.declared.content.listing.EntryName.TheVariants as names
-use Rattle.nfs_inodes.specs.declared.content.listing.Listed.{Listed}
+use Rattle.nfs_inodes.specs.declared.content.listing.ListedEntry.{ListedEntry}
 
 -- the bytes of a name
 abbrev pub name_of : EntryName → List ℕ
@@ -12,7 +12,7 @@ name_of names.Own = codes "."
 name_of names.Above = codes ".."
 name_of (names.Added name) = name.now
 
-abbrev pub listed_entry : Listed → Entry
+abbrev pub listed_entry : ListedEntry → Entry
 listed_entry l = record { name = name_of l.name; number = l.number; cookie = l.cookie }
 
 -- of the two names that every directory has (3.3.16), those behind a cookie

@@ -14,7 +14,7 @@ use Rattle.nlm_ranges.specs.Files.{FileValue, no_file}
 use Rattle.nlm_ranges.specs.Buckets.{BucketValue, IsBucket, IsInserted, LockedValue, bucket_count, file_in, given_most}
 use Rattle.nlm_ranges.specs.Buckets.{number_given}
 use Rattle.nfs_objects.specs.Fits.{Fits}
-use Rattle.nfs_objects.specs.Stands.{IsPendingIn, Kept, Represents, bucket_at, bucket_there}
+use Rattle.nfs_objects.specs.Stands.{IsPendingIn, StoreMeaning, Represents, bucket_at, bucket_there}
 use Rattle.nfs_objects.specs.Store.{Store, with_writes}
 use Rattle.nfs_objects.specs.Values.{DraftValue, known_at}
 use Rattle.nfs_objects.specs.declared.address.Addr.TheVariants as addresses
@@ -43,7 +43,7 @@ pub record IsNextNumber (m : State) (file number : ℕ) : Type 0 where
 
 -- the file at a number has nothing in any store that the draft may be written to
 abbrev pub HasNone : DraftValue → (number : ℕ) → Type 0
-HasNone d number = (s : Store) (k : Kept) → Fits d.view s → Represents (with_writes s d.writes) k →
+HasNone d number = (s : Store) (k : StoreMeaning) → Fits d.view s → Represents (with_writes s d.writes) k →
     file_in (bucket_there (with_writes s d.writes) (number % bucket_count)) number ≡ None
 
 -- the draft shows that this is the next number of a file's bucket
@@ -101,7 +101,7 @@ with_file m number file = record m {
   granted = with_grants (grants_but (λ (g : PendingGrant). g.file == number) m.granted) number file.pending;
 }
 
-abbrev pub locks_set : (number : ℕ) → FileValue → Kept → Kept
+abbrev pub locks_set : (number : ℕ) → FileValue → StoreMeaning → StoreMeaning
 locks_set number file k = record k { state = with_file k.state number file }
 
 -- each of these files has this
@@ -109,7 +109,7 @@ abbrev pub with_files : State → List LockedValue → State
 with_files m [] = m
 with_files m (file ∷ files) = with_files (with_file m file.number file.file) files
 
-abbrev pub all_set : List LockedValue → Kept → Kept
+abbrev pub all_set : List LockedValue → StoreMeaning → StoreMeaning
 all_set files k = record k { state = with_files k.state files }
 
 -- each of them may have it, once those before it have it
@@ -126,10 +126,10 @@ without_locks m number = record m {
   granted = grants_but (λ (g : PendingGrant). g.file == number) m.granted;
 }
 
-abbrev pub locks_freed : (number : ℕ) → Kept → Kept
+abbrev pub locks_freed : (number : ℕ) → StoreMeaning → StoreMeaning
 locks_freed number k = record k { state = without_locks k.state number }
 
 -- the number of a grant is never given again
-abbrev pub number_spent : (number : ℕ) → Kept → Kept
+abbrev pub number_spent : (number : ℕ) → StoreMeaning → StoreMeaning
 number_spent number k = record k
     { state = record k.state { spent_grants = λ n. (n == number) || k.state.spent_grants n } }

@@ -11,11 +11,11 @@ use Rattle.nfs_machine.specs.RemoveSteps.{without}
 use Rattle.nfs_machine.specs.Shown.{touched, with_content}
 use Rattle.nfs_machine.specs.State.{Content, Regular, Directory, Entry, Living, State}
 use Rattle.nfs_objects.specs.Edits.{counted_anew, edited, freed, with_living, with_new}
-use Rattle.nfs_objects.specs.Stands.{Kept}
+use Rattle.nfs_objects.specs.Stands.{StoreMeaning}
 use Rattle.nfs_objects.specs.declared.view.Reserved.{Reserved}
 
 -- what lives at a number changes so and has so many links then, if anything does and if it is changed
-abbrev pub changed_with : Kept → ℕ → (links : ℕ) → (Living → Option Living) → Kept
+abbrev pub changed_with : StoreMeaning → ℕ → (links : ℕ) → (Living → Option Living) → StoreMeaning
 changed_with k number links change = elim (get k.state.objects number) [
   | None ↦ k
   | Some o ↦ elim (change o) [
@@ -25,7 +25,7 @@ changed_with k number links change = elim (get k.state.objects number) [
 ]
 
 -- the same, where its links stay
-abbrev pub changed_at : Kept → ℕ → (Living → Option Living) → Kept
+abbrev pub changed_at : StoreMeaning → ℕ → (Living → Option Living) → StoreMeaning
 changed_at k number change = changed_with k number (k.links number) change
 
 -- the file with other bytes from now on (RFC 1813, 2.5: mtime, ctime)
@@ -36,12 +36,12 @@ with_bytes now change o = elim (bytes_in o.content) [
 ]
 
 -- and is counted anew with its size
-abbrev pub bytes_changed : Time → (number : ℕ) → (List ℕ → List ℕ) → Kept → Kept
+abbrev pub bytes_changed : Time → (number : ℕ) → (List ℕ → List ℕ) → StoreMeaning → StoreMeaning
 bytes_changed now number change k = counted_anew number (get k.state.objects number)
     (changed_at k number (with_bytes now change))
 
 -- the file has another size from now on, if one is set
-abbrev pub size_set : Time → (number : ℕ) → Option ℕ → Kept → Kept
+abbrev pub size_set : Time → (number : ℕ) → Option ℕ → StoreMeaning → StoreMeaning
 size_set now number size k = elim size [
   | None ↦ k
   | Some size ↦ bytes_changed now number (λ old. resized old size) k
@@ -59,7 +59,7 @@ with_name now e o = elim (entries_in o.content) [
 ]
 
 -- the same with so many links of the directory
-abbrev pub name_added : Time → (directory links : ℕ) → Entry → Kept → Kept
+abbrev pub name_added : Time → (directory links : ℕ) → Entry → StoreMeaning → StoreMeaning
 name_added now directory links e k = changed_with k directory links (with_name now e)
 
 -- the directory without a name
@@ -69,15 +69,15 @@ without_name now name o = elim (entries_in o.content) [
   | Err status ↦ None
 ]
 
-abbrev pub name_taken : Time → (directory : ℕ) → List ℕ → Kept → Kept
+abbrev pub name_taken : Time → (directory : ℕ) → List ℕ → StoreMeaning → StoreMeaning
 name_taken now directory name k = changed_at k directory (without_name now name)
 
 -- the object at a number goes, and is counted no more
-abbrev pub removed : (number : ℕ) → Kept → Kept
+abbrev pub removed : (number : ℕ) → StoreMeaning → StoreMeaning
 removed number k = counted_anew number (get k.state.objects number) (freed k number)
 
 -- the object at a number loses one of so many links: it goes with its last, and else its ctime changes
-abbrev pub link_lost : Time → (number links : ℕ) → Kept → Kept
+abbrev pub link_lost : Time → (number links : ℕ) → StoreMeaning → StoreMeaning
 link_lost now number links k =
     if nat_le links 1 then removed number k else edited k number (λ o. touched o now) (λ l. l - 1)
 
@@ -96,7 +96,7 @@ links_with links content = if is_directory content then min (links + 1) (2 ^ 32 
 
 -- it comes under a new name of a directory, with the number and generation that were reserved for it, and is counted
 -- from then on
-abbrev pub made_under : Time → (directory links cookie : ℕ) → List ℕ → Reserved → Living → Kept → Kept
+abbrev pub made_under : Time → (directory links cookie : ℕ) → List ℕ → Reserved → Living → StoreMeaning → StoreMeaning
 made_under now directory links cookie name r o k =
     let e : Entry = record { name = name; number = r.number; cookie = cookie } in
     counted_anew r.number None

@@ -9,11 +9,11 @@ use Rattle.nfs_machine.specs.RemoveSteps.{without}
 use Rattle.nfs_machine.specs.Shown.{touched, with_content}
 use Rattle.nfs_machine.specs.State.{Directory, Entry, Living}
 use Rattle.nfs_objects.specs.Edits.{with_living}
-use Rattle.nfs_objects.specs.Stands.{Kept}
+use Rattle.nfs_objects.specs.Stands.{StoreMeaning}
 use Rattle.nfs_inodes.specs.Makes.{changed_with, without_name}
 
 -- the directory without a name, and with so many links
-abbrev pub name_left : Time → (directory : ℕ) → List ℕ → (links : ℕ) → Kept → Kept
+abbrev pub name_left : Time → (directory : ℕ) → List ℕ → (links : ℕ) → StoreMeaning → StoreMeaning
 name_left now directory name links k = changed_with k directory links (without_name now name)
 
 -- the entries that stay where a name is given: another object may have it, and an old name may leave with it
@@ -33,12 +33,12 @@ with_name_given now left e o = elim (entries_in o.content) [
 
 -- and with so many links
 abbrev pub name_given : Time → (directory : ℕ) → (left : Option (List ℕ)) → Entry → (links : ℕ) →
-    Kept → Kept
+    StoreMeaning → StoreMeaning
 name_given now directory left e links k = changed_with k directory links (with_name_given now left e)
 
 -- what lives at a number has its name in this directory from now on: its ctime changes, and this is the parent of a
 -- directory
-abbrev pub rehomed : Time → (number directory : ℕ) → Kept → Kept
+abbrev pub rehomed : Time → (number directory : ℕ) → StoreMeaning → StoreMeaning
 rehomed now number directory k = elim (get k.state.objects number) [
   | None ↦ k
   | Some o ↦ with_living k number (touched o now) (k.links number)

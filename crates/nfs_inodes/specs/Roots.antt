@@ -6,7 +6,7 @@ use Rattle.nfs_machine.specs.State.{State, octal}
 use Rattle.nfs_objects.specs.Directories.{bare_directory}
 use Rattle.nfs_objects.specs.Edits.{counted_anew, with_new}
 use Rattle.nfs_objects.specs.ExportTables.{ExportTableValue}
-use Rattle.nfs_objects.specs.Stands.{Kept, lives_in}
+use Rattle.nfs_objects.specs.Stands.{StoreMeaning, lives_in}
 use Rattle.nfs_objects.specs.declared.object.Content.TheVariants as contents
 use Rattle.nfs_objects.specs.declared.object.Inode.{Inode}
 use Rattle.nfs_objects.specs.declared.view.Reserved.{Reserved}
@@ -18,12 +18,12 @@ pub record Follows (m : State) (table : ExportTableValue) : Type 0 where
   pub used : (e : ℕ) → lives_in m.exports e ≡ true → e ≤ m.last_export
 
 -- the root of an export comes, as the machine chose and as its own parent, and is counted from then on
-abbrev pub root_made : Time → (export : ℕ) → RootChoice → Kept → Kept
+abbrev pub root_made : Time → (export : ℕ) → RootChoice → StoreMeaning → StoreMeaning
 root_made now export choice k = counted_anew choice.number None
     (with_new k choice.number (new_root export choice.generation now) 2 choice.number)
 
 -- those of so many exports come, one after the other, which are numbered behind the last
-abbrev pub roots_made : Time → (choose : ℕ → RootChoice) → (last count : ℕ) → Kept → Kept
+abbrev pub roots_made : Time → (choose : ℕ → RootChoice) → (last count : ℕ) → StoreMeaning → StoreMeaning
 roots_made now choose last zero k = k
 roots_made now choose last (suc count) k =
     root_made now (last + suc count) (choose (last + suc count)) (roots_made now choose last count k)

@@ -1,7 +1,7 @@
 -- What setting attributes of an object does to what is kept (RFC 1813, 3.3.2).
 use Rattle.std.specs.Prelude.{ℕ, Some, None}
 use Rattle.nfs_machine.specs.State.{Living}
-use Rattle.nfs_objects.specs.Stands.{Kept}
+use Rattle.nfs_objects.specs.Stands.{StoreMeaning}
 use Rattle.nfs_inodes.specs.Makes.{changed_at}
 use Rattle.nfs_inodes.specs.declared.setting.Settings.{Settings}
 
@@ -17,5 +17,5 @@ with_settings set o = record o {
   verifier = None;
 }
 
-abbrev pub attributes_changed : (number : ℕ) → Settings → Kept → Kept
+abbrev pub attributes_changed : (number : ℕ) → Settings → StoreMeaning → StoreMeaning
 attributes_changed number set k = changed_at k number (λ o. Some (with_settings set o))

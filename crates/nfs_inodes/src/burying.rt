@@ -13,7 +13,7 @@ ghost use Rattle.nfs_inodes.specs.Burying.{HasTwo, IsBuried, IsLarge};
 ghost use Rattle.nfs_inodes.specs.Stops.{StopsAt};
 
 use crate::found::inode;
-use nfs_objects::{Bits, Content, Draft, Halt, Inode};
+use nfs_objects::{Bits, Content, Draft, Inode, Missing};
 
 /// The number of no export, which stands in the inode of a file that is buried.
 const NO_EXPORT: u32 = 0;
@@ -24,7 +24,7 @@ const NO_EXPORT: u32 = 0;
 /// # Errors
 ///
 /// `Need` of the exports or the number's address, and `Memory`.
-pub(crate) fn buried(draft: &Draft<'_>, number: u64) -> Result<Option<Inode>, Halt>
+pub(crate) fn buried(draft: &Draft<'_>, number: u64) -> Result<Option<Inode>, Missing>
     ensures { MatchResult result
         (λ buried. IfSome buried (IsBuried draft.now number))
         (StopsAt draft.now (addresses_of draft.now.view number)) }
@@ -46,7 +46,7 @@ pub(crate) fn buried(draft: &Draft<'_>, number: u64) -> Result<Option<Inode>, Ha
 /// # Errors
 ///
 /// `Need` of the exports, and `Memory`.
-fn no_export(draft: &Draft<'_>) -> Result<u32, Halt>
+fn no_export(draft: &Draft<'_>) -> Result<u32, Missing>
     ensures { MatchResult result
         (λ export. (export ≡ 0) × Shows draft.now (λ k. lives_in k.state.exports export ≡ false))
         (StopsAt draft.now (Addr.Exports ∷ [])) }

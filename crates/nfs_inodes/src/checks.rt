@@ -8,7 +8,7 @@ ghost use Rattle.nfs_inodes.specs.Known.{ChecksDirectory, ChecksRegular, shell};
 ghost use Rattle.nfs_inodes.specs.Rights.{right_of};
 
 use crate::found::{Known, export_at};
-use crate::kinds::{Directory, File};
+use crate::kinds::{KnownDirectory, KnownFile};
 use crate::permission::{Right, may};
 use nfs_machine::Ctx;
 use nfs_objects::LivingExport;
@@ -19,12 +19,12 @@ use nfs_wire::{FileType, NfsStatus};
 /// # Errors
 ///
 /// `NotDirectory` where it is none.
-pub fn directory(known: &Known) -> Result<Directory, NfsStatus>
+pub fn directory(known: &Known) -> Result<KnownDirectory, NfsStatus>
     ensures known { IfOk result (λ directory. directory.known ≡ known.now) }
     ensures checks { ChecksDirectory known.now result }
 {
     match known.attributes.kind {
-        FileType::Directory => Ok(Directory { known: *known }),
+        FileType::Directory => Ok(KnownDirectory { known: *known }),
         _ => Err(NfsStatus::NotDirectory),
     }
 }
@@ -34,12 +34,12 @@ pub fn directory(known: &Known) -> Result<Directory, NfsStatus>
 /// # Errors
 ///
 /// `Invalid` where it is none.
-pub fn regular(known: &Known) -> Result<File, NfsStatus>
+pub fn regular(known: &Known) -> Result<KnownFile, NfsStatus>
     ensures known { IfOk result (λ file. file.known ≡ known.now) }
     ensures checks { ChecksRegular known.now result }
 {
     match known.attributes.kind {
-        FileType::Regular => Ok(File { known: *known }),
+        FileType::Regular => Ok(KnownFile { known: *known }),
         _ => Err(NfsStatus::Invalid),
     }
 }

@@ -24,7 +24,7 @@ use crate::content::shape::{device, file_type, size, used};
 use bytes::Bytes;
 use nfs_machine::{Ctx, Handle};
 use nfs_objects::object::{export_list, living};
-use nfs_objects::{Addr, Draft, Halt, Inode, LivingExport, Object};
+use nfs_objects::{Addr, Draft, Inode, LivingExport, Missing, Object};
 use nfs_wire::{Attributes, NfsStatus, Verifier, Wcc, WeakAttributes};
 use std::alloc::{AllocError, Global};
 use std::sync::Arc;
@@ -45,7 +45,7 @@ pub struct Known {
 /// # Errors
 ///
 /// `Need` of their table, and `Memory`.
-pub fn exports<'d>(draft: &'d Draft<'_>) -> Result<&'d [LivingExport], Halt>
+pub fn exports<'d>(draft: &'d Draft<'_>) -> Result<&'d [LivingExport], Missing>
     ensures exports { MatchResult result
         (λ list. Knows draft.now (λ k. k.state.exports ≡ list.now))
         (StopsAt draft.now (Addr.Exports ∷ [])) }
@@ -69,7 +69,7 @@ pub(crate) fn export_at(exports: &[LivingExport], number: u32) -> Option<&Living
 /// # Errors
 ///
 /// `Need` of the exports or the number's address, and `Memory`.
-pub fn object(draft: &Draft<'_>, number: u64) -> Result<Option<Known>, Halt>
+pub fn object(draft: &Draft<'_>, number: u64) -> Result<Option<Known>, Missing>
     ensures object { MatchResult result
         (λ x. Knows draft.now (λ k. IsObject k.state number x))
         (StopsAt draft.now (addresses_of draft.now.view number)) }
@@ -85,7 +85,7 @@ pub fn object(draft: &Draft<'_>, number: u64) -> Result<Option<Known>, Halt>
 }
 
 /// The inode at a number, if its export lives.
-pub(crate) fn inode<'d>(draft: &'d Draft<'_>, number: u64) -> Result<Option<&'d Inode>, Halt>
+pub(crate) fn inode<'d>(draft: &'d Draft<'_>, number: u64) -> Result<Option<&'d Inode>, Missing>
     ensures inode { MatchResult result
         (λ inode. HasInode draft.now number (option_copied inode))
         (StopsAt draft.now (addresses_of draft.now.view number)) }
@@ -110,7 +110,7 @@ fn exported<'d>(exports: &[LivingExport], known: &'d Option<Arc<Object>>) -> Opt
 /// # Errors
 ///
 /// `Need` of the exports or the number's address, and `Memory`.
-pub fn shown(draft: &Draft<'_>, number: u64) -> Result<Option<Attributes>, Halt>
+pub fn shown(draft: &Draft<'_>, number: u64) -> Result<Option<Attributes>, Missing>
     ensures { MatchResult result
         (λ shown. Knows draft.now (λ k. attributes_at k.state number ≡ shown))
         (StopsAt draft.now (addresses_of draft.now.view number)) }
@@ -126,7 +126,7 @@ pub fn shown(draft: &Draft<'_>, number: u64) -> Result<Option<Attributes>, Halt>
 /// # Errors
 ///
 /// `Need` of the exports or the number's address, and `Memory`.
-pub fn wcc(draft: &Draft<'_>, before: &Known) -> Result<Wcc, Halt>
+pub fn wcc(draft: &Draft<'_>, before: &Known) -> Result<Wcc, Missing>
     ensures { MatchResult result
         (λ wcc. Knows draft.now (λ k. wcc ≡ record
         { before = Some (weak_of before.now); after = attributes_at k.state before.now.number }))
@@ -162,7 +162,7 @@ pub fn nothing_shown() -> Wcc
 /// # Errors
 ///
 /// `Need` of the exports, or of the address that the handle names; and `Memory`.
-pub fn named(draft: &Draft<'_>, handle: &[u8]) -> Result<Result<Known, NfsStatus>, Halt>
+pub fn named(draft: &Draft<'_>, handle: &[u8]) -> Result<Result<Known, NfsStatus>, Missing>
     requires { draft.now.writes ≡ [] }
     ensures means { IfOk result (λ found. Knows draft.now (Means draft.now.ctx handle.now found)) }
     ensures lives { IfOk result (λ found. IfOk found (λ x. IsThere draft.now.view (Addr.Inode x.number))) }

@@ -8,9 +8,9 @@ ghost use Rattle.nfs_inodes.specs.Gathers.{AsksAll, EachKnown, EachLives, Gather
 ghost use Rattle.nfs_inodes.specs.Listing.{listed_entry};
 ghost use Rattle.nfs_inodes.specs.Stops.{StopsAt};
 
-use crate::content::listing::Listed;
+use crate::content::listing::ListedEntry;
 use indexmap::IndexSet;
-use nfs_objects::{Addr, Draft, Halt, Mode};
+use nfs_objects::{Addr, Draft, Missing, Mode};
 use std::alloc::{AllocError, Global};
 
 /// Reads the objects of these entries, so that each of them is known.
@@ -18,13 +18,13 @@ use std::alloc::{AllocError, Global};
 /// # Errors
 ///
 /// `Need` of all those objects that are not known yet, each once; and `Memory`.
-pub fn read_objects(draft: &Draft<'_>, entries: &[Listed<'_>]) -> Result<(), Halt>
+pub fn read_objects(draft: &Draft<'_>, entries: &[ListedEntry<'_>]) -> Result<(), Missing>
     requires { EachLives draft.now.view (map listed_entry entries.now) }
     ensures known { OnOk result (EachKnown draft.now (map listed_entry entries.now)) }
     ensures asks { IfErr result (AsksAll draft.now (map listed_entry entries.now)) }
     ensures stops { IfErr result (StopsAt draft.now []) }
 {
-    let mut wishes = Wishes::new(draft.alloc());
+    let mut wishes = WantedObjects::new(draft.alloc());
     for entry in entries {
         wishes.add(draft, entry.number)?;
     }
@@ -33,16 +33,16 @@ pub fn read_objects(draft: &Draft<'_>, entries: &[Listed<'_>]) -> Result<(), Hal
 
 /// What is asked for so far, each address once.
 #[derive(Drop)]
-struct Wishes {
+struct WantedObjects {
     numbers: IndexSet<u64>,
     asked: Vec<(Addr, Mode)>,
 }
 
-impl Wishes {
-    fn new(alloc: Global) -> Wishes
+impl WantedObjects {
+    fn new(alloc: Global) -> WantedObjects
         ensures { (d : DraftValue) → Gathers d [] result }
     {
-        Wishes {
+        WantedObjects {
             numbers: IndexSet::new(alloc),
             asked: Vec::new(alloc),
         }
@@ -54,7 +54,7 @@ impl Wishes {
         ensures { (entries : List Entry) (e : Entry) → e.number ≡ number → Gathers draft.now entries self.old →
             OnOk result (Gathers draft.now (entries ++ e ∷ []) self.new) }
     {
-        if let Some(wish) = draft.lacked(Addr::Inode(number)) {
+        if let Some(wish) = draft.missing(Addr::Inode(number)) {
             if self.numbers.insert(number)? {
                 self.asked.push(wish)?;
             }
@@ -63,7 +63,7 @@ impl Wishes {
     }
 
     /// Asks, if there is anything to ask for.
-    fn ask(self) -> Result<(), Halt>
+    fn ask(self) -> Result<(), Missing>
         ensures known { (d : DraftValue) (entries : List Entry) → Gathers d entries self →
             OnOk result (EachKnown d entries) }
         ensures asks { (d : DraftValue) (entries : List Entry) → Gathers d entries self →
@@ -74,7 +74,7 @@ impl Wishes {
         if self.asked.is_empty() {
             Ok(())
         } else {
-            Err(Halt::Need(self.asked))
+            Err(Missing::Need(self.asked))
         }
     }
 }

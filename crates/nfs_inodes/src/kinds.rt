@@ -7,14 +7,14 @@ use crate::found::Known;
 
 /// A living directory.
 #[derive(Clone, Copy)]
-pub struct Directory {
+pub struct KnownDirectory {
     pub known: Known,
     pub ghost kind: { known.attributes.kind ≡ types.Directory },
 }
 
 /// A living regular file.
 #[derive(Clone, Copy)]
-pub struct File {
+pub struct KnownFile {
     pub known: Known,
     pub ghost kind: { known.attributes.kind ≡ types.Regular },
 }

@@ -6,34 +6,33 @@
 //! read and changed by `content` alone. No inode is shown above this crate.
 #![tactic(auto)]
 
-pub mod asked;
 mod burying;
-pub mod checks;
-pub mod content;
-pub mod data;
-pub mod found;
-pub mod gather;
-pub mod kinds;
-pub mod linking;
-pub mod locks;
-pub mod makers;
-pub mod making;
+mod checks;
+mod content;
+mod data;
+mod found;
+mod gather;
+mod kinds;
+mod linking;
+mod locks;
+mod makers;
 pub mod names;
-pub mod permission;
-pub mod removing;
-pub mod roots;
-pub mod setting;
-pub mod times;
-pub mod tree;
+mod new_objects;
+mod permission;
+mod removing;
+mod roots;
+mod setting;
+mod times;
+mod tree;
 mod usage;
+mod wanted;
 pub mod wishes;
 
-pub use asked::{directory_wanted, file_wanted, link_wanted, special_wanted};
 pub use checks::{changeable, directory, is_writable, no_directory, permitted, regular};
 pub use content::asking::Asking;
 pub use content::entries::{entry, is_empty, leads_to, new_cookie};
 pub use content::file::{ask_resize, read, resize, text, write};
-pub use content::listing::{EntriesLeft, EntryName, Left, Listed, entries_left};
+pub use content::listing::{EntriesLeft, EntryName, Left, ListedEntry, entries_left};
 pub use content::naming::{add_entry, ask_given, ask_left, give_name, leave, rehome, take_entry};
 pub use content::shape::BLOCK;
 pub use data::{SIZE_LIMIT, TRANSFER_LIMIT, verifier};
@@ -41,14 +40,14 @@ pub use found::{
     Known, exports, handle, is_verifier, named, nothing_shown, object, shown, wcc, wcc_of,
 };
 pub use gather::read_objects;
-pub use kinds::{Directory, File};
+pub use kinds::{KnownDirectory, KnownFile};
 pub use linking::add_link;
 pub use locks::{lives, locks_of, next_number, set_bucket, set_locks, set_locks_spending};
 pub use makers::{ask_made, lose_link, make_object};
-pub use making::{
+pub use names::{name_checked, plain_name_checked};
+pub use new_objects::{
     LINK_LIMIT, MAX_TEXT, MODE_LIMIT, NewContent, Wanted, given_attributes, kind_checked,
 };
-pub use names::{name_checked, plain_name_checked};
 pub use permission::{Right, class_bits, is_member, may, reads, runs};
 pub use removing::{ask_lost, take_name};
 pub use roots::{ask_roots, make_root, put_table};
@@ -56,3 +55,4 @@ pub use setting::{Settings, set_attributes};
 pub use times::{is_client_time, is_server_time, is_time, now, time_set, touch};
 pub use tree::{above, is_within};
 pub use usage::export_usage;
+pub use wanted::{directory_wanted, file_wanted, link_wanted, special_wanted};

@@ -12,9 +12,9 @@ ghost use Rattle.nfs_inodes.specs.Stops.{StopsAt};
 
 use crate::content::naming::add_entry;
 use crate::found::inode;
-use crate::kinds::Directory;
+use crate::kinds::KnownDirectory;
 use crate::times::{now, touch};
-use nfs_objects::{Draft, Halt};
+use nfs_objects::{Draft, Missing};
 
 /// Gives an object a name in a directory that has it not, last and with this cookie; so many links it has then. The
 /// name is copied.
@@ -24,12 +24,12 @@ use nfs_objects::{Draft, Halt};
 /// `Need` of what has to be held for it, and `Memory`. The draft is of no use then.
 pub fn add_link(
     draft: &mut Draft<'_>,
-    directory: &Directory,
+    directory: &KnownDirectory,
     name: &[u8],
     cookie: u64,
     number: u64,
     links: u32,
-) -> Result<(), Halt>
+) -> Result<(), Missing>
     requires none { draft.old.writes ≡ [] }
     requires alone { draft.old.modes ≡ changing }
     requires shown { IsShown draft.old directory.now.known }
@@ -45,7 +45,7 @@ pub fn add_link(
 }
 
 /// The count of an object's links changes, and its ctime with it.
-fn set_links(draft: &mut Draft<'_>, number: u64, links: u32) -> Result<(), Halt>
+fn set_links(draft: &mut Draft<'_>, number: u64, links: u32) -> Result<(), Missing>
     requires { draft.old.modes ≡ changing }
     ensures { MatchResult result
         (λ _. Turns draft.old draft.new (linked_so (time_of draft.old.ctx.moment) number links))

@@ -19,7 +19,7 @@ ghost use Rattle.nfs_inodes.specs.Stops.{StopsAt};
 use crate::content::asking::Asking;
 use crate::found::{export_at, exports};
 use nfs_objects::object::living;
-use nfs_objects::{Addr, Content, Draft, Halt, Inode, LivingExport, Mode};
+use nfs_objects::{Addr, Content, Draft, Inode, LivingExport, Missing, Mode};
 use nlm_ranges::{LockBucket, LockedFile, OneFile, bucket_index};
 use std::alloc::{AllocError, Global};
 
@@ -35,7 +35,7 @@ pub fn lives(exports: &[LivingExport], number: u32) -> bool
 /// # Errors
 ///
 /// `Need` of the exports or of what holds it, and `Memory`.
-pub fn locks_of<'d>(draft: &'d Draft<'_>, number: u64) -> Result<Option<&'d OneFile>, Halt>
+pub fn locks_of<'d>(draft: &'d Draft<'_>, number: u64) -> Result<Option<&'d OneFile>, Missing>
     ensures { MatchResult result
         (λ file. Knows draft.now (λ k. HasLocks k.state number (file_known file)))
         (StopsAt draft.now (addresses.Exports ∷ locks_at number)) }
@@ -59,7 +59,7 @@ pub fn locks_of<'d>(draft: &'d Draft<'_>, number: u64) -> Result<Option<&'d OneF
 /// # Errors
 ///
 /// `Need` of what has to be held for it, and `Memory`. The draft is of no use then.
-pub fn set_locks(draft: &mut Draft<'_>, file: LockedFile) -> Result<(), Halt>
+pub fn set_locks(draft: &mut Draft<'_>, file: LockedFile) -> Result<(), Missing>
     requires { draft.old.modes.locks ≡ Mode.Exclusive }
     ensures { MatchResult result
         (λ _. TurnsWhere (λ k. MayHave k.state file) draft.old draft.new (locks_set file.number file.file))
@@ -76,7 +76,11 @@ pub fn set_locks(draft: &mut Draft<'_>, file: LockedFile) -> Result<(), Halt>
 /// # Errors
 ///
 /// `Need` of what has to be held for it, and `Memory`. The draft is of no use then.
-pub fn set_locks_spending(draft: &mut Draft<'_>, file: LockedFile, number: u64) -> Result<(), Halt>
+pub fn set_locks_spending(
+    draft: &mut Draft<'_>,
+    file: LockedFile,
+    number: u64,
+) -> Result<(), Missing>
     requires alone { draft.old.modes.locks ≡ Mode.Exclusive }
     requires next { ShowsNext draft.old file.number number }
     ensures { MatchResult result
@@ -96,7 +100,7 @@ pub fn set_locks_spending(draft: &mut Draft<'_>, file: LockedFile, number: u64) 
 /// # Errors
 ///
 /// `Need` of what has to be held for it, and `Memory`. The draft is of no use then.
-pub fn set_bucket(draft: &mut Draft<'_>, index: u8, files: &[LockedFile]) -> Result<(), Halt>
+pub fn set_bucket(draft: &mut Draft<'_>, index: u8, files: &[LockedFile]) -> Result<(), Missing>
     requires alone { draft.old.modes.locks ≡ Mode.Exclusive }
     requires own { AreOf index files.now }
     ensures { MatchResult result
@@ -116,7 +120,7 @@ pub fn set_bucket(draft: &mut Draft<'_>, index: u8, files: &[LockedFile]) -> Res
 /// # Errors
 ///
 /// `Need` of the bucket, and `Memory`.
-fn bucket_with(draft: &Draft<'_>, index: u8, file: LockedFile) -> Result<LockBucket, Halt>
+fn bucket_with(draft: &Draft<'_>, index: u8, file: LockedFile) -> Result<LockBucket, Missing>
     ensures { MatchResult result
         (IsBucketWith draft.now index file)
         (StopsAt draft.now (addresses.Locks index ∷ [])) }
@@ -156,7 +160,7 @@ fn with_files(
 /// # Errors
 ///
 /// `Need` of what holds it, and `Memory`.
-pub fn next_number(draft: &Draft<'_>, file: u64) -> Result<Option<u64>, Halt>
+pub fn next_number(draft: &Draft<'_>, file: u64) -> Result<Option<u64>, Missing>
     ensures { MatchResult result
         (λ number. MatchOption number (Knows draft.now (λ k. NoNumberIsLeft k.state file))
         (λ number. ShowsNext draft.now file number × Knows draft.now (λ k. IsNextNumber k.state file number)))
@@ -191,7 +195,7 @@ pub(crate) fn ask_locks(
 /// # Errors
 ///
 /// `Need` of what has to be held for it, and `Memory`. The draft is of no use then.
-pub(crate) fn forget_locks(draft: &mut Draft<'_>, number: u64) -> Result<(), Halt>
+pub(crate) fn forget_locks(draft: &mut Draft<'_>, number: u64) -> Result<(), Missing>
     requires { draft.old.modes.locks ≡ Mode.Exclusive }
     ensures turns { MatchResult result
         (λ _. Turns draft.old draft.new (locks_freed number))
@@ -220,7 +224,7 @@ fn is_file(inode: Option<&Inode>) -> bool
 }
 
 /// The same of a file.
-fn forget(draft: &mut Draft<'_>, number: u64) -> Result<(), Halt>
+fn forget(draft: &mut Draft<'_>, number: u64) -> Result<(), Missing>
     requires { draft.old.modes.locks ≡ Mode.Exclusive }
     ensures turns { MatchResult result
         (λ _. Turns draft.old draft.new (locks_freed number))

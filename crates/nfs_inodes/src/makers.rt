@@ -23,19 +23,19 @@ use crate::content::clearing::clear_entries;
 use crate::content::file::clear;
 use crate::content::naming::{add_entry, ask_entry};
 use crate::found::inode;
-use crate::kinds::Directory;
+use crate::kinds::KnownDirectory;
 use crate::locks::forget_locks;
-use crate::making::{Wanted, links_with, new_inode};
+use crate::new_objects::{Wanted, links_with, new_inode};
 use crate::times::{now, touch};
 use crate::usage::{Share, ask_counted, recount, uncount};
-use nfs_objects::{Addr, Draft, Halt, Mode, Reserved, Usage};
+use nfs_objects::{Addr, Draft, Missing, Mode, Reserved, Usage};
 
 /// Takes one of an object's links away, which are so many: it goes with its last, and else its ctime changes.
 ///
 /// # Errors
 ///
 /// `Need` of what has to be held for it, and `Memory`. The draft is of no use then.
-pub fn lose_link(draft: &mut Draft<'_>, number: u64, links: u32) -> Result<(), Halt>
+pub fn lose_link(draft: &mut Draft<'_>, number: u64, links: u32) -> Result<(), Missing>
     requires alone { MayChange draft.old (Addr.Inode number) }
     requires locks { draft.old.modes.locks ≡ Mode.Exclusive }
     requires stands { StillStands draft.old }
@@ -52,7 +52,7 @@ pub fn lose_link(draft: &mut Draft<'_>, number: u64, links: u32) -> Result<(), H
 
 /// What stands at a number goes, with what it has of locks. A large file is buried, and of all else goes what stands
 /// beside it.
-fn free(draft: &mut Draft<'_>, number: u64) -> Result<(), Halt>
+fn free(draft: &mut Draft<'_>, number: u64) -> Result<(), Missing>
     requires alone { MayChange draft.old (Addr.Inode number) }
     requires locks { draft.old.modes.locks ≡ Mode.Exclusive }
     requires stands { StillStands draft.old }
@@ -69,7 +69,7 @@ fn free(draft: &mut Draft<'_>, number: u64) -> Result<(), Halt>
     Ok(draft.free(number)?)
 }
 
-fn unlink(draft: &mut Draft<'_>, number: u64) -> Result<(), Halt>
+fn unlink(draft: &mut Draft<'_>, number: u64) -> Result<(), Missing>
     requires { MayChange draft.old (Addr.Inode number) }
     ensures { MatchResult result
         (λ _. Turns draft.old draft.new
@@ -92,10 +92,10 @@ fn unlink(draft: &mut Draft<'_>, number: u64) -> Result<(), Halt>
 /// `Fresh` where no number is reserved; `Need` of all else at once, and `Memory`.
 pub fn ask_made(
     draft: &Draft<'_>,
-    directory: &Directory,
+    directory: &KnownDirectory,
     name: &[u8],
     cookie: u64,
-) -> Result<(), Halt>
+) -> Result<(), Missing>
     requires none { draft.now.writes ≡ [] }
     requires shown { IsShown draft.now directory.now.known }
     ensures { IfErr result (StopsMaking draft.now (grown_at draft.now directory.now.known.number name.now cookie
@@ -126,11 +126,11 @@ pub fn ask_made(
 /// `Fresh` where none is reserved; `Need` of what has to be held for it, and `Memory`. The draft is of no use then.
 pub fn make_object(
     draft: &mut Draft<'_>,
-    directory: &Directory,
+    directory: &KnownDirectory,
     name: &[u8],
     cookie: u64,
     wanted: &Wanted<'_>,
-) -> Result<Reserved, Halt>
+) -> Result<Reserved, Missing>
     requires none { draft.old.writes ≡ [] }
     requires alone { draft.old.modes ≡ changing }
     requires exported { ShowsExport draft.old directory.now.known.export }
@@ -153,13 +153,13 @@ pub fn make_object(
 /// The same with this number and generation.
 fn make_reserved(
     draft: &mut Draft<'_>,
-    directory: &Directory,
+    directory: &KnownDirectory,
     name: &[u8],
     cookie: u64,
     wanted: &Wanted<'_>,
     number: u64,
     generation: u64,
-) -> Result<(), Halt>
+) -> Result<(), Missing>
     requires none { draft.old.writes ≡ [] }
     requires alone { draft.old.modes ≡ changing }
     requires exported { ShowsExport draft.old directory.now.known.export }

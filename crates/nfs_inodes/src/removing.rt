@@ -13,11 +13,11 @@ ghost use Rattle.nfs_inodes.specs.Stops.{StillStands, StopsAt, counted_at, group
 use crate::content::asking::Asking;
 use crate::content::naming::{ask_loss, take_entry};
 use crate::found::{Known, inode};
-use crate::kinds::Directory;
+use crate::kinds::KnownDirectory;
 use crate::locks::ask_locks;
 use crate::makers::lose_link;
 use crate::usage::ask_uncounted;
-use nfs_objects::{Draft, Halt};
+use nfs_objects::{Draft, Missing};
 use nfs_wire::FileType;
 
 /// Takes a name out of a directory, and with it a link of the object that it leads to: a directory goes with it, and
@@ -28,10 +28,10 @@ use nfs_wire::FileType;
 /// `Need` of what has to be held for it, and `Memory`. The draft is of no use then.
 pub fn take_name(
     draft: &mut Draft<'_>,
-    directory: &Directory,
+    directory: &KnownDirectory,
     name: &[u8],
     object: &Known,
-) -> Result<(), Halt>
+) -> Result<(), Missing>
     requires none { draft.old.writes ≡ [] }
     requires alone { draft.old.modes ≡ changing }
     requires shown { IsShown draft.old directory.now.known }
@@ -57,10 +57,10 @@ pub fn take_name(
 /// `Need` of that, and `Memory`.
 pub fn ask_lost(
     draft: &Draft<'_>,
-    directory: &Directory,
+    directory: &KnownDirectory,
     name: &[u8],
     object: &Known,
-) -> Result<(), Halt>
+) -> Result<(), Missing>
     requires none { draft.now.writes ≡ [] }
     requires shown { IsShown draft.now directory.now.known }
     ensures { IfErr result (StopsAt draft.now (addresses_of draft.now.view directory.now.known.number
@@ -73,7 +73,7 @@ pub fn ask_lost(
 }
 
 /// Asks for what has to be held to count the object no more and to take its locks, where it goes with a name.
-fn ask_gone(draft: &Draft<'_>, object: &Known, asking: &mut Asking) -> Result<(), Halt>
+fn ask_gone(draft: &Draft<'_>, object: &Known, asking: &mut Asking) -> Result<(), Missing>
     ensures { MatchResult result
         (λ _. AsksFor draft.now (IsAmong (group_at object.now.number (inode_at draft.now object.now.number)
         ++ locks_at object.now.number)) (λ a. ⊥) asking.old.asked.items asking.new.asked.items)
@@ -91,7 +91,7 @@ fn ask_gone(draft: &Draft<'_>, object: &Known, asking: &mut Asking) -> Result<()
 }
 
 /// The same where it goes; only a file has locks.
-fn ask_freed(draft: &Draft<'_>, object: &Known, asking: &mut Asking) -> Result<(), Halt>
+fn ask_freed(draft: &Draft<'_>, object: &Known, asking: &mut Asking) -> Result<(), Missing>
     ensures { MatchResult result
         (λ _. AsksFor draft.now (IsAmong (group_at object.now.number (inode_at draft.now object.now.number)
         ++ locks_at object.now.number)) (λ a. ⊥) asking.old.asked.items asking.new.asked.items)
@@ -105,7 +105,11 @@ fn ask_freed(draft: &Draft<'_>, object: &Known, asking: &mut Asking) -> Result<(
 }
 
 /// A directory goes with its only name, which was in this one.
-fn lose_directory(draft: &mut Draft<'_>, directory: &Directory, number: u64) -> Result<(), Halt>
+fn lose_directory(
+    draft: &mut Draft<'_>,
+    directory: &KnownDirectory,
+    number: u64,
+) -> Result<(), Missing>
     requires alone { draft.old.modes ≡ changing }
     requires stands { StillStands draft.old }
     ensures { MatchResult result
@@ -119,7 +123,7 @@ fn lose_directory(draft: &mut Draft<'_>, directory: &Directory, number: u64) -> 
 }
 
 /// Takes one of a directory's links away, since a directory in it goes (RFC 1813, 2.5: nlink).
-fn lose_subdirectory(draft: &mut Draft<'_>, directory: &Directory) -> Result<(), Halt>
+fn lose_subdirectory(draft: &mut Draft<'_>, directory: &KnownDirectory) -> Result<(), Missing>
     requires { draft.old.modes ≡ changing }
     ensures { MatchResult result
         (λ _. Turns draft.old draft.new (subdirectory_lost directory.now.known.number))

@@ -21,7 +21,7 @@ use crate::usage::{Share, recount};
 use nfs_machine::NameKey;
 use nfs_objects::usage::group_of;
 use nfs_objects::{
-    Addr, Content, DIRECTORY_SIZE, Directory, Draft, ExportTable, Halt, Inode, Mode, Object,
+    Addr, Content, DIRECTORY_SIZE, Directory, Draft, ExportTable, Inode, Missing, Mode, Object,
     Reserved, Usage,
 };
 use nfs_wire::Time;
@@ -49,7 +49,7 @@ pub fn put_table(draft: &mut Draft<'_>, table: ExportTable) -> Result<(), AllocE
 /// # Errors
 ///
 /// `Need` of all that was not read, and `Memory`.
-pub fn ask_roots(draft: &Draft<'_>, last: u32, roots: &[Reserved]) -> Result<(), Halt>
+pub fn ask_roots(draft: &Draft<'_>, last: u32, roots: &[Reserved]) -> Result<(), Missing>
     requires { last + length roots.now < 2 ^ 32 }
     ensures { IfErr result (StopsAt draft.now (root_usages last roots.now)) }
 {
@@ -69,7 +69,7 @@ pub fn ask_roots(draft: &Draft<'_>, last: u32, roots: &[Reserved]) -> Result<(),
 /// # Errors
 ///
 /// `Need` of what its group uses, and `Memory`. The draft is of no use then.
-pub fn make_root(draft: &mut Draft<'_>, export: u32, reserved: Reserved) -> Result<(), Halt>
+pub fn make_root(draft: &mut Draft<'_>, export: u32, reserved: Reserved) -> Result<(), Missing>
     requires alone { draft.old.modes ≡ replacing }
     requires exported { ShowsExport draft.old export }
     requires vacant { known_at draft.old (Addr.Inode reserved.number) ≡ Some None }

@@ -9,7 +9,7 @@ ghost use Rattle.nfs_inodes.specs.Sets.{attributes_changed};
 ghost use Rattle.nfs_inodes.specs.Stops.{KnowsAt, StopsAt};
 
 use crate::found::inode;
-use nfs_objects::{Draft, Halt, Inode};
+use nfs_objects::{Draft, Inode, Missing};
 use nfs_wire::Time;
 use std::alloc::AllocError;
 
@@ -31,7 +31,11 @@ pub struct Settings {
 /// # Errors
 ///
 /// `Need` of what has to be held for it, and `Memory`. The draft is of no use then.
-pub fn set_attributes(draft: &mut Draft<'_>, number: u64, settings: &Settings) -> Result<(), Halt>
+pub fn set_attributes(
+    draft: &mut Draft<'_>,
+    number: u64,
+    settings: &Settings,
+) -> Result<(), Missing>
     requires { draft.old.modes ≡ changing }
     ensures turns { MatchResult result
         (λ _. Turns draft.old draft.new (attributes_changed number settings.now))

@@ -10,8 +10,8 @@ ghost use Rattle.nfs_inodes.specs.Stops.{StopsAt};
 
 use crate::content::entries::parent;
 use crate::found::inode;
-use crate::kinds::Directory;
-use nfs_objects::{Addr, Draft, Halt, Mode};
+use crate::kinds::KnownDirectory;
+use nfs_objects::{Addr, Draft, Missing, Mode};
 
 /// Whether a directory is the one at the upper number, or below it. It reads each directory on the way up to the root,
 /// where no more addresses than these were read so far.
@@ -23,8 +23,8 @@ pub fn is_within(
     draft: &Draft<'_>,
     reads: usize,
     upper: u64,
-    directory: &Directory,
-) -> Result<bool, Halt>
+    directory: &KnownDirectory,
+) -> Result<bool, Missing>
     requires reads { length draft.now.view.entries ≤ reads }
     requires none { draft.now.writes ≡ [] }
     requires known { Knows draft.now (λ k. IsKnown k.state directory.now.known) }
@@ -58,5 +58,5 @@ pub fn above(draft: &Draft<'_>, number: u64) -> Option<(Addr, Mode)>
     let Ok(Some(inode)) = inode(draft, number) else {
         return None;
     };
-    draft.lacked(Addr::Inode(inode.directory()?.parent))
+    draft.missing(Addr::Inode(inode.directory()?.parent))
 }

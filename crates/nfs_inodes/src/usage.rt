@@ -16,7 +16,7 @@ ghost use Rattle.nfs_inodes.specs.Stops.{StopsAt, counted_at, group_at, inode_at
 use crate::content::asking::Asking;
 use crate::found::inode;
 use nfs_objects::usage::group_of;
-use nfs_objects::{Addr, Draft, GROUPS, Halt, Inode, Mode, Usage};
+use nfs_objects::{Addr, Draft, GROUPS, Inode, Missing, Mode, Usage};
 use std::alloc::AllocError;
 
 /// What an object has of what its export uses.
@@ -46,7 +46,7 @@ pub(crate) fn counted(
     number: u64,
     before: Share,
     after: Usage,
-) -> Result<Option<Usage>, Halt>
+) -> Result<Option<Usage>, Missing>
     ensures { MatchResult result (IsCount draft.now before.export number before.usage after)
         (StopsAt draft.now (Addr.Usage before.export (group_of number) ∷ [])) }
 {
@@ -79,7 +79,11 @@ pub(crate) fn ask_counted(
 }
 
 /// Asks for what the group of a number uses, where its object is to be counted no more.
-pub(crate) fn ask_uncounted(draft: &Draft<'_>, number: u64, asking: &mut Asking) -> Result<(), Halt>
+pub(crate) fn ask_uncounted(
+    draft: &Draft<'_>,
+    number: u64,
+    asking: &mut Asking,
+) -> Result<(), Missing>
     ensures { MatchResult result
         (λ _. AsksFor draft.now (IsAmong (group_at number (inode_at draft.now number))) (λ a. ⊥)
         asking.old.asked.items asking.new.asked.items)
@@ -121,7 +125,7 @@ pub(crate) fn recount(
     number: u64,
     before: Share,
     after: Usage,
-) -> Result<(), Halt>
+) -> Result<(), Missing>
     requires { draft.old.modes.inodes ≡ Mode.Exclusive }
     ensures turns { MatchResult result
         (λ _. Turns draft.old draft.new
@@ -138,7 +142,7 @@ pub(crate) fn recount(
 /// # Errors
 ///
 /// `Need` of what has to be held for it, and `Memory`. The draft is of no use then.
-pub(crate) fn uncount(draft: &mut Draft<'_>, number: u64) -> Result<(), Halt>
+pub(crate) fn uncount(draft: &mut Draft<'_>, number: u64) -> Result<(), Missing>
     requires { draft.old.modes.inodes ≡ Mode.Exclusive }
     ensures turns { MatchResult result (λ _. Turns draft.old draft.new (uncounted number))
         (StopsAt draft.old (counted_at draft.old number)) }
@@ -156,7 +160,7 @@ pub(crate) fn uncount(draft: &mut Draft<'_>, number: u64) -> Result<(), Halt>
 /// # Errors
 ///
 /// `Need` of what the groups of the export use, of all that were not read at once; and `Memory`.
-pub fn export_usage(draft: &Draft<'_>, export: u32) -> Result<Usage, Halt>
+pub fn export_usage(draft: &Draft<'_>, export: u32) -> Result<Usage, Missing>
     ensures { MatchResult result
         (λ usage. Knows draft.now (λ k. lives_in k.state.exports export ≡ true →
         usage ≡ export_usage k.state export))
@@ -164,7 +168,7 @@ pub fn export_usage(draft: &Draft<'_>, export: u32) -> Result<Usage, Halt>
 {
     let unread = unread(draft, export)?;
     if !unread.is_empty() {
-        return Err(Halt::Need(unread));
+        return Err(Missing::Need(unread));
     }
     let mut total = Usage::none();
     for group in 0..GROUPS {
@@ -180,7 +184,7 @@ fn unread(draft: &Draft<'_>, export: u32) -> Result<Vec<(Addr, Mode)>, AllocErro
 {
     let mut unread = Vec::new(draft.alloc());
     for group in 0..GROUPS {
-        if let Some(wish) = draft.lacked(Addr::Usage { export, group }) {
+        if let Some(wish) = draft.missing(Addr::Usage { export, group }) {
             unread.push(wish)?;
         }
     }

@@ -13,7 +13,7 @@ use crate::content::cut::ask_cut;
 use crate::content::listing::ask_pages;
 use crate::content::taking::leaf_of;
 use crate::found::inode;
-use nfs_objects::{Addr, Content, Draft, EntryPage, Halt, Leaf, Mode, PAGE_COOKIES, PageList};
+use nfs_objects::{Addr, Content, Draft, EntryPage, Leaf, Missing, Mode, PAGE_COOKIES, PageList};
 
 /// An address, with the mode in which it is wanted.
 pub type Wish = (Addr, Mode);
@@ -49,7 +49,7 @@ pub fn part_wish(draft: &Draft<'_>, directory: u64, name: &[u8]) -> Option<Wish>
         return None;
     };
     let place = inode.directory()?.entries.place_of(name)?;
-    draft.lacked(Addr::Part {
+    draft.missing(Addr::Part {
         directory,
         bucket: place.bucket,
         part: place.part,
@@ -78,7 +78,7 @@ pub fn wish_there(draft: &Draft<'_>, address: Addr) -> Option<Wish>
     requires { IsThere draft.now.view address }
     ensures { IfSome result (MayWish draft.now) }
 {
-    draft.lacked(address)
+    draft.missing(address)
 }
 
 /// Whether the draft shows a directory at a number.
@@ -125,7 +125,7 @@ pub fn pages_wish(
         left.page,
         left.missing / PAGE_COOKIES as usize + 1,
     ) {
-        Err(Halt::Need(asked)) => Some((asked, left)),
+        Err(Missing::Need(asked)) => Some((asked, left)),
         _ => None,
     }
 }
@@ -178,7 +178,7 @@ pub fn data_wish(draft: &Draft<'_>, number: u64) -> Option<Vec<Wish>>
         return None;
     }
     match ask_cut(draft, number, map.pages(), 0) {
-        Err(Halt::Need(asked)) => Some(asked),
+        Err(Missing::Need(asked)) => Some(asked),
         _ => None,
     }
 }

@@ -10,7 +10,7 @@ use Rattle.std.specs.List.{AllByRecursion}
 use Rattle.nfs_wire.specs.declared.calls.CreateHow.{CreateHow}
 use Rattle.nfs_wire.specs.declared.calls.CreateHow.TheVariants.{Unchecked, Guarded, Exclusive}
 use Rattle.nfs_wire.specs.declared.calls.NfsCall.TheVariants as calls
-use Rattle.nfs_wire.specs.declared.calls.Place.{Place}
+use Rattle.nfs_wire.specs.declared.calls.DirOp.{DirOp}
 use Rattle.nfs_wire.specs.declared.replies.Found.{Found}
 use Rattle.nfs_wire.specs.declared.replies.Made.{Made}
 use Rattle.nfs_wire.specs.declared.status.NfsStatus.{NfsStatus}
@@ -206,7 +206,7 @@ module _ (m : State) (ctx : Ctx) (w : WellFormed m) (directory : Named) where
 module _ (read : HandlesAreRead) (m : State) (ctx : Ctx) (w : WellFormed m) (fit : NumbersFit m)
     (start : ctx.start < 2 ^ 64) where
   -- ---- LOOKUP
-  lookup-resolves : (place : Place) (parent : ℕ) → IsParentOf m ctx place.directory parent →
+  lookup-resolves : (place : DirOp) (parent : ℕ) → IsParentOf m ctx place.directory parent →
       IfOk (lookup_found m ctx place parent) (λ found. Resolves m ctx found.object found.attributes)
   lookup-resolves place parent is_parent =
       let P = λ (found : Found). Resolves m ctx found.object found.attributes in
@@ -370,7 +370,7 @@ module _ (m : State) (ctx : Ctx) where
         ))
 
   -- what is there under the name is in the export
-  make-known : WellFormed m → (place : Place) (wanted : Result Wanted NfsStatus)
+  make-known : WellFormed m → (place : DirOp) (wanted : Result Wanted NfsStatus)
       (there : ℕ → Option Living → Result (Made × State) NfsStatus)
       → ((directory : Named) → export_admits (export_at m.exports directory.object.export) ctx.host ≡ true →
       (number : ℕ) (o : Living) → get m.objects number ≡ Some o → o.export ≡ directory.object.export →
@@ -524,7 +524,7 @@ mnt_handles_resolve read old ctx path handle messages new w fit start (result, t
 
 -- ---- all calls of NFS
 -- where a call makes what is wanted, or answers what is there
-module _ (read : HandlesAreRead) (old : State) (ctx : Ctx) (place : Place) (w : WellFormed old)
+module _ (read : HandlesAreRead) (old : State) (ctx : Ctx) (place : DirOp) (w : WellFormed old)
     (start : ctx.start < 2 ^ 64) where
   answered-known : (wanted : Result Wanted NfsStatus)
       (there : ℕ → Option Living → Result (Made × State) NfsStatus)

@@ -3,7 +3,7 @@ use Rattle.std.proofs.Common.{◌≡◌, ℕ, ◌+◌, ◌^◌, Bool, true, fals
 use Rattle.std.proofs.Common.{Result, Ok, Err, nat_lt}
 use Rattle.std.proofs.Common.{IfOk, ◌⊎◌, inl, inr, refl, sym, ◌∙◌, ap, subst}
 use Rattle.std.specs.FinMap.{get}
-use Rattle.nfs_wire.specs.declared.calls.Place.{Place}
+use Rattle.nfs_wire.specs.declared.calls.DirOp.{DirOp}
 use Rattle.nfs_wire.specs.declared.replies.Made.{Made}
 use Rattle.nfs_wire.specs.declared.replies.MadeReply.{MadeReply}
 use Rattle.nfs_wire.specs.declared.replies.NfsReply.{NfsReply}
@@ -60,7 +60,7 @@ make_new old ctx name wanted number directory entries last_cookie = do
       let new = record (with_object (with_object old number wider) choice.number o) { spent = choice.spent } in
       (made new ctx choice.number o, new)) (λ choice. refl))
 
-abbrev pub make_plan : (old : State) → Ctx → Place → Result Wanted NfsStatus →
+abbrev pub make_plan : (old : State) → Ctx → DirOp → Result Wanted NfsStatus →
     (there : ℕ → Option Living → Result (Made × State) NfsStatus) → Result (End old) NfsStatus
 make_plan old ctx place asked there = do
   directory ← object_of (resolve old ctx place.directory)
@@ -99,7 +99,7 @@ module _ (old : State) (choice : Choice) where
   of-chain (Ok x) f g same = same x
   of-chain (Err e) f g same = refl
 
-  module _ (ctx : Ctx) (place : Place) (asked : Result Wanted NfsStatus)
+  module _ (ctx : Ctx) (place : DirOp) (asked : Result Wanted NfsStatus)
       (there : ℕ → Option Living → Result (Made × State) NfsStatus) where
     abbrev under_name : Wanted → Named → DirectoryEntries → Option Entry → Result (Made × State)
         NfsStatus
@@ -141,7 +141,7 @@ module _ (old : State) (choice : Choice) where
         of-name wanted directory entries (entry_of entries.list place.name)))))))
 
 -- the step, by that
-pub record MakesAs (old : State) (ctx : Ctx) (place : Place) (asked : Result Wanted NfsStatus)
+pub record MakesAs (old : State) (ctx : Ctx) (place : DirOp) (asked : Result Wanted NfsStatus)
     (there : ℕ → Option Living → Result (Made × State) NfsStatus) (reply_of : MadeReply → NfsReply)
     (reply : NfsReply)
     (messages : List Message) (new : State) : Type 0 where
@@ -185,7 +185,7 @@ module _ (old : State) where
       (record { number = 0; generation = 0; spent = λ n g. false }, inr (λ other. refl), sym is)
   fresh-ends (Ok (Chosen makes shows)) end (fresh, is) = (fresh.choice, inl fresh.is_fresh, sym is)
 
-module _ {old : State} {ctx : Ctx} {place : Place} {asked : Result Wanted NfsStatus}
+module _ {old : State} {ctx : Ctx} {place : DirOp} {asked : Result Wanted NfsStatus}
     {there : ℕ → Option Living → Result (Made × State) NfsStatus} {reply_of : MadeReply → NfsReply}
     {reply : NfsReply}
     {messages : List Message} {new : State} where

@@ -11,7 +11,7 @@ use Rattle.std.specs.Ordering.{nat_cmp}
 use Rattle.nfs_wire.specs.declared.attributes.Time.{Time}
 use Rattle.nfs_wire.specs.declared.calls.CreateHow.{CreateHow}
 use Rattle.nfs_wire.specs.declared.calls.CreateHow.TheVariants.{Unchecked, Guarded, Exclusive}
-use Rattle.nfs_wire.specs.declared.calls.Place.{Place}
+use Rattle.nfs_wire.specs.declared.calls.DirOp.{DirOp}
 use Rattle.nfs_wire.specs.declared.calls.WriteArguments.{WriteArguments}
 use Rattle.nfs_wire.specs.declared.replies.Made.{Made}
 use Rattle.nfs_wire.specs.declared.replies.Written.{Written}
@@ -479,7 +479,7 @@ module _ (m : State) (ctx : Ctx) where
       made-follows name wanted number directory entries last lives content none plain
       (text-within (links_of m number directory.content) wanted.content x0 e0))))
 
-  pub make-follows : (place : Place) (wanted : Result Wanted NfsStatus)
+  pub make-follows : (place : DirOp) (wanted : Result Wanted NfsStatus)
       (there : ℕ → Option Living → Result (Made × State) NfsStatus) → IfOk wanted Plain
       → ((number : ℕ) → IfOk (there number (get m.objects number)) (λ e. Follows (time_of ctx.moment) m e.1)) →
       IfOk (make_plan m ctx place wanted there) EndFollows

@@ -31,7 +31,7 @@ use Rattle.nfs_wire.specs.Replies.{FitsWord, IsHandle}
 use Rattle.nfs_wire.specs.declared.calls.CommitArguments.{CommitArguments}
 use Rattle.nfs_wire.specs.declared.calls.CreateHow.{CreateHow}
 use Rattle.nfs_wire.specs.declared.calls.NfsCall.TheVariants as calls
-use Rattle.nfs_wire.specs.declared.calls.Place.{Place}
+use Rattle.nfs_wire.specs.declared.calls.DirOp.{DirOp}
 use Rattle.nfs_wire.specs.declared.calls.ReadArguments.{ReadArguments}
 use Rattle.nfs_wire.specs.declared.calls.Verifier.{Verifier}
 use Rattle.nfs_wire.specs.declared.calls.WriteArguments.{WriteArguments}
@@ -119,7 +119,7 @@ text-fits (Ok text) short = omega (arith, short)
 text-fits (Err e) short = tt
 
 module _ (m : State) (ctx : Ctx) where
-  lookup-short : (place : Place) (parent : ℕ)
+  lookup-short : (place : DirOp) (parent : ℕ)
       → IfOk (lookup_found m ctx place parent) (λ found. length found.object ≤ 64)
   lookup-short place parent = search (chained, arith) depth 12
 
@@ -152,7 +152,7 @@ module _ (m : State) (ctx : Ctx) where
       chained EndShort (given_attributes ctx wanted.attributes) _ (λ x1.
       chained EndShort (holding (nat_lt (last + 1) (2 ^ 64)) status.NoSpace) _ (λ x2 fresh. omega arith)))
 
-  module _ (place : Place) (there : ℕ → Option Living → Result (Made × State) NfsStatus)
+  module _ (place : DirOp) (there : ℕ → Option Living → Result (Made × State) NfsStatus)
       (found : (number : ℕ) (o : Option Living) → IfOk (there number o) (λ e. IfSome e.0.object IsHandle)) where
     by-name : (what : Wanted) (number : ℕ) (directory : Living) (entries : List Entry) (last : ℕ) (e : Option Entry)
         → IfOk (elim e as (λ (_ : Option Entry). Result (End m) NfsStatus) [

@@ -12,7 +12,7 @@ use Rattle.nfs_wire.specs.declared.calls.CreateHow.TheVariants.{Unchecked, Guard
 use Rattle.nfs_wire.specs.declared.calls.NfsCall.TheVariants as calls
 use Rattle.nfs_wire.specs.declared.attributes.SetAttributes.{SetAttributes}
 use Rattle.nfs_wire.specs.declared.calls.LinkArguments.{LinkArguments}
-use Rattle.nfs_wire.specs.declared.calls.Place.{Place}
+use Rattle.nfs_wire.specs.declared.calls.DirOp.{DirOp}
 use Rattle.nfs_wire.specs.declared.calls.ReadArguments.{ReadArguments}
 use Rattle.nfs_wire.specs.declared.calls.Verifier.{Verifier}
 use Rattle.nfs_wire.specs.declared.calls.WriteArguments.{WriteArguments}
@@ -138,7 +138,7 @@ tells-known (Ok x) tells = record { tells = tt }
 tells-known (Err e) tells = record { tells = tells.tells }
 
 module _ (m : State) (ctx : Ctx) where
-  tells-lookup : (place : Place) (parent : ℕ) → TellsStatus (lookup_found m ctx place parent)
+  tells-lookup : (place : DirOp) (parent : ℕ) → TellsStatus (lookup_found m ctx place parent)
   tells-lookup place parent =
       search (tells-chain, tells-object, tells-entries, tells-name, tells-held, tells-ok_or, tells-value) depth 14
 
@@ -179,14 +179,14 @@ module _ (m : State) (ctx : Ctx) where
   tells-write a = search (tells-chain, tells-object, tells-bytes, tells-held, tells-value) depth 20
 
   -- ---- a name is taken away
-  tells-remove : (place : Place) → TellsStatus (remove_end m ctx place)
+  tells-remove : (place : DirOp) → TellsStatus (remove_end m ctx place)
   tells-remove place =
       search (tells-chain, tells-object, tells-entries, tells-plain, tells-held, tells-ok_or, tells-value) depth 24
 
   tells-empty : (c : Content) → TellsStatus (empty_directory c)
   tells-empty c = search (tells-chain, tells-entries, tells-held) depth 8
 
-  tells-rmdir : (place : Place) → TellsStatus (rmdir_end m ctx place)
+  tells-rmdir : (place : DirOp) → TellsStatus (rmdir_end m ctx place)
   tells-rmdir place = search
       (tells-chain, tells-object, tells-entries, tells-plain, tells-held, tells-ok_or, tells-empty, tells-value)
       depth 24
@@ -238,7 +238,7 @@ module _ (m : State) (ctx : Ctx) where
   tells-special (special.Fifo given) = record { tells = tt }
   tells-special (special.Other kind) = record { tells = refl }
 
-  module _ (place : Place) (there : ℕ → Option Living → Result (Made × State) NfsStatus)
+  module _ (place : DirOp) (there : ℕ → Option Living → Result (Made × State) NfsStatus)
       (found : (number : ℕ) (o : Option Living) → TellsStatus (there number o)) where
     by-name : (what : Wanted) (number : ℕ) (directory : Living) (entries : List Entry) (last : ℕ) (e : Option Entry)
         → TellsStatus (elim e as (λ (_ : Option Entry). Result (End m) NfsStatus) [

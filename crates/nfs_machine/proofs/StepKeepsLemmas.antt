@@ -8,7 +8,7 @@ use Rattle.std.specs.Ordering.{nat_cmp}
 use Rattle.nfs_wire.specs.declared.attributes.Time.{Time}
 use Rattle.nfs_wire.specs.declared.calls.NfsCall.{NfsCall}
 use Rattle.nfs_wire.specs.declared.calls.NfsCall.TheVariants as nfs
-use Rattle.nfs_wire.specs.declared.calls.Place.{Place}
+use Rattle.nfs_wire.specs.declared.calls.DirOp.{DirOp}
 use Rattle.nfs_wire.specs.declared.calls.Special.{Special}
 use Rattle.nfs_wire.specs.declared.calls.Special.TheVariants as special
 use Rattle.nfs_wire.specs.declared.replies.Made.{Made}
@@ -131,7 +131,7 @@ answered : {A : Type 0} {Answer : Type 0} (now : Time) (answer : Answer) (old : 
 answered now answer old end reply messages new step f = subst (Follows now old) (sym step.state_is)
     (follows-after now old end f)
 
-made : (old : State) (ctx : Ctx) (place : Place) (wanted : Result Wanted NfsStatus)
+made : (old : State) (ctx : Ctx) (place : DirOp) (wanted : Result Wanted NfsStatus)
     (there : ℕ → Option Living → Result (Made × State) NfsStatus) (reply_of : MadeReply → NfsReply)
     (reply : NfsReply)
     (messages : List Message) (new : State) → MakeStep old ctx place wanted there reply_of reply messages new

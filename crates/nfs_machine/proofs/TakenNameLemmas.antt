@@ -9,7 +9,7 @@ use Rattle.std.specs.List.{AllByRecursion}
 use Rattle.std.proofs.lemmas.Bool.{not-true}
 use Rattle.nfs_wire.specs.declared.attributes.Time.{Time}
 use Rattle.nfs_wire.specs.declared.calls.LinkArguments.{LinkArguments}
-use Rattle.nfs_wire.specs.declared.calls.Place.{Place}
+use Rattle.nfs_wire.specs.declared.calls.DirOp.{DirOp}
 use Rattle.nfs_wire.specs.declared.status.NfsStatus.{NfsStatus}
 use Rattle.nfs_wire.specs.declared.status.NfsStatus.TheVariants as status
 use Rattle.nfs_machine.specs.Attributes.{entries_of, is_directory, names_of, links_of}
@@ -258,7 +258,7 @@ module _ (m : State) (ctx : Ctx) where
   abbrev Leaves : Unit {0} × State → Type 0
   Leaves e = Follows (time_of ctx.moment) m e.1
 
-  take-follows : (place : Place) (name : List ℕ → Result (Unit {0}) NfsStatus) (content : Content
+  take-follows : (place : DirOp) (name : List ℕ → Result (Unit {0}) NfsStatus) (content : Content
       → Result (Unit {0}) NfsStatus) → ((c : Content) (x : Unit {0}) → content c ≡ Ok x → entries_of c ≡ [])
       → IfOk (take_end m ctx place name content) Leaves
   take-follows place name content empty =
@@ -275,10 +275,10 @@ module _ (m : State) (ctx : Ctx) where
       (leads-found (object_under m (entry_of entries.list place.name)) o e4))
       (empty o.object.content x5 e5))))))))
 
-  pub remove-follows : (place : Place) → IfOk (remove_end m ctx place) Leaves
+  pub remove-follows : (place : DirOp) → IfOk (remove_end m ctx place) Leaves
   remove-follows place = take-follows place (plain_name_checked status.Invalid status.Invalid) not_directory plain-empty
 
-  pub rmdir-follows : (place : Place) → IfOk (rmdir_end m ctx place) Leaves
+  pub rmdir-follows : (place : DirOp) → IfOk (rmdir_end m ctx place) Leaves
   rmdir-follows place = take-follows place (plain_name_checked status.Invalid status.Exists) empty_directory
       directory-empty
 

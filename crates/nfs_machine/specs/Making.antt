@@ -5,7 +5,7 @@ use Rattle.std.specs.Prelude.{Ok, nat_le, nat_lt, ◌==◌, ◌⊎◌}
 use Rattle.std.specs.FinMap.{get}
 use Rattle.std.specs.List.{list_any}
 use Rattle.nfs_wire.specs.declared.attributes.SetAttributes.{SetAttributes}
-use Rattle.nfs_wire.specs.declared.calls.Place.{Place}
+use Rattle.nfs_wire.specs.declared.calls.DirOp.{DirOp}
 use Rattle.nfs_wire.specs.declared.replies.Made.{Made}
 use Rattle.nfs_wire.specs.declared.replies.MadeReply.{MadeReply}
 use Rattle.nfs_wire.specs.declared.replies.NfsReply.{NfsReply}
@@ -92,7 +92,7 @@ kind_checked ctx links content = Ok tt
 
 -- what a call comes to that makes what is asked for under a name, with a number and a generation for it; where the name
 -- is there, what the procedure makes of the object that it leads to
-abbrev pub make_end : State → Ctx → Choice → Place → (asked : Result Wanted NfsStatus) →
+abbrev pub make_end : State → Ctx → Choice → DirOp → (asked : Result Wanted NfsStatus) →
     (there : ℕ → Option Living → Result (Made × State) NfsStatus) → Result (Made × State) NfsStatus
 make_end old ctx choice place asked there = do
   directory ← object_of (resolve old ctx place.directory)
@@ -116,7 +116,7 @@ make_end old ctx choice place asked there = do
   ]
 
 -- the step of such a call: its directory is shown before and after
-pub record MakeStep (old : State) (ctx : Ctx) (place : Place) (asked : Result Wanted NfsStatus)
+pub record MakeStep (old : State) (ctx : Ctx) (place : DirOp) (asked : Result Wanted NfsStatus)
     (there : ℕ → Option Living → Result (Made × State) NfsStatus)
     (reply_of : MadeReply → NfsReply) (reply : NfsReply) (messages : List Message) (new : State) : Type 0 where
   pub choice : Choice

@@ -7,7 +7,7 @@ use Rattle.nfs_wire.specs.declared.attributes.SetTime.TheVariants.{Leave}
 use Rattle.nfs_wire.specs.declared.calls.CreateArguments.{CreateArguments}
 use Rattle.nfs_wire.specs.declared.calls.CreateHow.{CreateHow}
 use Rattle.nfs_wire.specs.declared.calls.CreateHow.TheVariants.{Unchecked, Guarded, Exclusive}
-use Rattle.nfs_wire.specs.declared.calls.Place.{Place}
+use Rattle.nfs_wire.specs.declared.calls.DirOp.{DirOp}
 use Rattle.nfs_wire.specs.declared.replies.Found.{Found}
 use Rattle.nfs_wire.specs.declared.replies.Made.{Made}
 use Rattle.nfs_wire.specs.declared.replies.NfsReply.{NfsReply}
@@ -37,7 +37,7 @@ abbrev pub leads_to : (number parent : ℕ) → List Entry → List ℕ → Resu
 leads_to number parent entries name = ok_or
     (option_map (λ (e : Entry). e.number) (entry_of (all_entries number parent entries) name)) status.NoEntry
 
-abbrev pub lookup_found : State → Ctx → Place → ℕ → Result Found NfsStatus
+abbrev pub lookup_found : State → Ctx → DirOp → ℕ → Result Found NfsStatus
 lookup_found m ctx place parent = do
   directory ← object_of (resolve m ctx place.directory)
   entries ← entries_in directory.object.content
@@ -48,7 +48,7 @@ lookup_found m ctx place parent = do
   Ok (record { object = handle_at ctx number o; attributes = Some (attributes_of m number o) })
 
 -- its directory is shown, and has this parent
-abbrev pub LookupStep : State → Ctx → Place → NfsReply → List Message → State → Type 0
+abbrev pub LookupStep : State → Ctx → DirOp → NfsReply → List Message → State → Type 0
 LookupStep old ctx place reply messages new = (parent : ℕ) × IsParentOf old ctx place.directory parent
     × Answers (replies.Lookup
     (record {

@@ -3,7 +3,7 @@ use Rattle.std.specs.Prelude.{ℕ, not, List, length, Result, Ok, ok_or, filter,
 use Rattle.std.specs.Prelude.{◌==◌, Option, None, Some, option_map}
 use Rattle.std.specs.FinMap.{get, remove}
 use Rattle.nfs_wire.specs.declared.attributes.Time.{Time}
-use Rattle.nfs_wire.specs.declared.calls.Place.{Place}
+use Rattle.nfs_wire.specs.declared.calls.DirOp.{DirOp}
 use Rattle.nfs_wire.specs.declared.replies.NfsReply.{NfsReply}
 use Rattle.nfs_wire.specs.declared.replies.NfsReply.TheVariants as replies
 use Rattle.nfs_wire.specs.declared.replies.RemovedReply.{RemovedReply}
@@ -50,7 +50,7 @@ losing_name m names now number o = if nat_le names 1 then without_object m numbe
     (touched o now)
 
 -- what a call comes to that takes a name away, where the name and the object that it leads to are judged so
-abbrev pub take_end : State → Ctx → Place → (judged_name : List ℕ → Result (Unit {0}) NfsStatus) →
+abbrev pub take_end : State → Ctx → DirOp → (judged_name : List ℕ → Result (Unit {0}) NfsStatus) →
     (judged_content : Content → Result (Unit {0}) NfsStatus) → Result (Unit {0} × State) NfsStatus
 take_end old ctx place judged_name judged_content = do
   directory ← object_of (resolve old ctx place.directory)
@@ -66,7 +66,7 @@ take_end old ctx place judged_name judged_content = do
   Ok (tt, losing_name left (names_of old object.number) (time_of ctx.moment) object.number object.object)
 
 -- its directory is shown before and after
-abbrev pub taken_reply : State → Ctx → Place → (reply_of : RemovedReply → NfsReply) → (after : State) →
+abbrev pub taken_reply : State → Ctx → DirOp → (reply_of : RemovedReply → NfsReply) → (after : State) →
     Result (Unit {0}) NfsStatus → NfsReply
 taken_reply old ctx place reply_of after result =
     reply_of (record { directory = wcc after (resolve old ctx place.directory); result = result })
@@ -75,18 +75,18 @@ taken_reply old ctx place reply_of after result =
 abbrev pub not_directory : Content → Result (Unit {0}) NfsStatus
 not_directory content = holding (not (is_directory content)) status.IsDirectory
 
-abbrev pub remove_end : State → Ctx → Place → Result (Unit {0} × State) NfsStatus
+abbrev pub remove_end : State → Ctx → DirOp → Result (Unit {0} × State) NfsStatus
 remove_end old ctx place = take_end old ctx place (plain_name_checked status.Invalid status.Invalid) not_directory
 
-abbrev pub RemoveStep : State → Ctx → Place → NfsReply → List Message → State → Type 0
+abbrev pub RemoveStep : State → Ctx → DirOp → NfsReply → List Message → State → Type 0
 RemoveStep old ctx place = Ends old (taken_reply old ctx place replies.Remove) (remove_end old ctx place)
 
 -- RMDIR, 3.3.13: of a directory with no entry; "." can't be taken away, and ".." is there always
 abbrev pub empty_directory : Content → Result (Unit {0}) NfsStatus
 empty_directory content = entries_in content >>= λ entries. holding (length entries.list == 0) status.NotEmpty
 
-abbrev pub rmdir_end : State → Ctx → Place → Result (Unit {0} × State) NfsStatus
+abbrev pub rmdir_end : State → Ctx → DirOp → Result (Unit {0} × State) NfsStatus
 rmdir_end old ctx place = take_end old ctx place (plain_name_checked status.Invalid status.Exists) empty_directory
 
-abbrev pub RmdirStep : State → Ctx → Place → NfsReply → List Message → State → Type 0
+abbrev pub RmdirStep : State → Ctx → DirOp → NfsReply → List Message → State → Type 0
 RmdirStep old ctx place = Ends old (taken_reply old ctx place replies.Rmdir) (rmdir_end old ctx place)

@@ -3,7 +3,7 @@ use Rattle.std.specs.Prelude.{◌≡◌, ℕ, true, List, [], ◌++◌, Ok, Err,
 use Rattle.nfs_rpc.specs.Early.{call_of}
 use Rattle.nfs_rpc.specs.Messages.{CallHeader, reply_of}
 use Rattle.nfs_rpc.specs.Records.{fragment}
-use Rattle.nfs_rpc.specs.declared.faults.Answer.TheVariants as answers
+use Rattle.nfs_rpc.specs.declared.faults.ReplyHead.TheVariants as answers
 use Rattle.nfs_rpc.specs.declared.faults.Early.{Early}
 use Rattle.nfs_rpc.specs.declared.faults.Early.TheVariants as early
 use Rattle.nfs_rpc.specs.declared.faults.Fault.{Fault}

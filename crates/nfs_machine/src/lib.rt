@@ -7,13 +7,13 @@
 //! `nfs_rpc` and on the calls and replies of `nfs_wire` and `side_wire`.
 #![tactic(auto)]
 
-pub mod calls;
-pub mod context;
+mod calls;
+mod context;
 mod export_faults;
-pub mod exports;
-pub mod handle;
+mod exports;
+mod handle;
 pub mod laws;
-pub mod moment;
+mod moment;
 pub mod paths;
 mod refusals;
 

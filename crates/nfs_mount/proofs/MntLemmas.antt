@@ -25,11 +25,11 @@ use Rattle.nfs_objects.specs.Knows.{Knows, Possible, Turns}
 use Rattle.nfs_objects.specs.MountTables.{mounted}
 use Rattle.nfs_objects.specs.Promise.{Given, Held, IsPromised}
 use Rattle.nfs_objects.specs.Sound.{Sound}
-use Rattle.nfs_objects.specs.Stands.{Kept, Represents}
+use Rattle.nfs_objects.specs.Stands.{StoreMeaning, Represents}
 use Rattle.nfs_objects.specs.Store.{Store, with_writes}
 use Rattle.nfs_objects.specs.Values.{DraftValue, done_value, with_written}
 use Rattle.nfs_objects.specs.declared.address.Addr.TheVariants as addresses
-use Rattle.nfs_objects.specs.declared.change.Halt.{Halt}
+use Rattle.nfs_objects.specs.declared.change.Missing.{Missing}
 use Rattle.nfs_objects.specs.declared.object.Object.TheVariants as objects
 use Rattle.nfs_inodes.specs.Known.{shell, target}
 use Rattle.nfs_inodes.specs.declared.found.Known.{Known}
@@ -53,7 +53,7 @@ module _ (d : DraftValue) (path : List ℕ) where
         (inr (inl (sane, here, refl)), refl)
 
     module _ (choice : Choice) (chosen : AllApart exports → IsChosen exports d.ctx.host (parts path) choice) where
-      chosen-in : (s : Store) (k : Kept) → Possible d s k → WellFormed k.state →
+      chosen-in : (s : Store) (k : StoreMeaning) → Possible d s k → WellFormed k.state →
           IsChosen k.state.exports d.ctx.host (parts path) choice
       chosen-in s k w formed =
           subst (λ es. AllApart es → IsChosen es d.ctx.host (parts path) choice) (sym (known s k w)) chosen
@@ -72,7 +72,7 @@ module _ (d : DraftValue) (path : List ℕ) where
           c.1.matches.stands in
           object-stands s k choice.root r.root stands (ap (get k.state.objects) (sym c.2) ∙ r.lives)
 
-      pub walked : (r : Result (Result Known MountStatus) Halt) →
+      pub walked : (r : Result (Result Known MountStatus) Missing) →
           Finds d (λ found m. walk (get m.objects) choice.root choice.rest ≡ walk_end m found) r
           → Finds d (IsTarget d.ctx path) r
       walked (Err halt) walks = walks
@@ -100,7 +100,8 @@ module _ (d : DraftValue) (path : List ℕ) where
 module _ (d : DraftValue) (path : List ℕ) (mounts : List MountBody)
     (known : Knows d (λ k. k.state.mounts ≡ mounts)) where
   -- with_mount goes by whether the pair is listed
-  after : (b : Bool) → is_mounted mounts (mounted d.ctx.host path) ≡ b → (s : Store) (k : Kept) → Possible d s k →
+  after : (b : Bool) → is_mounted mounts (mounted d.ctx.host path) ≡ b → (s : Store) (k : StoreMeaning)
+      → Possible d s k →
       with_mount k.state (mounted d.ctx.host path) ≡
       cond b k.state (record k.state { mounts = newest (mounts ++ mounted d.ctx.host path ∷ []) })
   after b is s k w =
@@ -131,7 +132,7 @@ module _ (d : DraftValue) (path : List ℕ) (mounts : List MountBody)
       (subst (λ (n : DraftValue). Turns d n (λ k. with_mounts k table)) (sym is) (mounts-turns d table)))
 
 -- other mounts change neither links nor parents, nor what objects use
-pub mounts-sound : (k : Kept) (mounts : List MountBody) → Sound k → Sound (with_mounts k mounts)
+pub mounts-sound : (k : StoreMeaning) (mounts : List MountBody) → Sound k → Sound (with_mounts k mounts)
 mounts-sound k mounts sound = record {
   links = sound.links;
   parents = λ n o lives is.
@@ -140,7 +141,7 @@ mounts-sound k mounts sound = record {
   usage = sound.usage;
 }
 
-mounted-sound : (k : Kept) (m : MountBody) → Sound k → Sound (record k { state = with_mount k.state m })
+mounted-sound : (k : StoreMeaning) (m : MountBody) → Sound k → Sound (record k { state = with_mount k.state m })
 mounted-sound k m sound =
     elim (is_mounted k.state.mounts m) as
     (λ b. Sound (record k { state = cond b k.state (record k.state { mounts = newest (k.state.mounts ++ m ∷ []) }) })) [
@@ -176,6 +177,6 @@ module _ (d : DraftValue) (none : d.writes ≡ []) (quiet : d.messages ≡ []) w
             Ok handle,
             refl,
             refl,
-            (target k.state x, named s k w formed, is, ap (λ (y : Kept). y.state) (adds.changes s k w)),
+            (target k.state x, named s k w formed, is, ap (λ (y : StoreMeaning). y.state) (adds.changes s k w)),
           ),
         ))

@@ -29,10 +29,10 @@ use Rattle.nfs_objects.specs.Knows.{Knows, Turns}
 use Rattle.nfs_objects.specs.Leaving.{leaves}
 use Rattle.nfs_objects.specs.Promise.{Given, Held, IsPromised}
 use Rattle.nfs_objects.specs.Sound.{Sound}
-use Rattle.nfs_objects.specs.Stands.{Kept}
+use Rattle.nfs_objects.specs.Stands.{StoreMeaning}
 use Rattle.nfs_objects.specs.Values.{DraftValue, done_value, with_written}
 use Rattle.nfs_objects.specs.declared.address.Addr.TheVariants as addresses
-use Rattle.nfs_objects.specs.declared.change.Halt.{Halt}
+use Rattle.nfs_objects.specs.declared.change.Missing.{Missing}
 use Rattle.nfs_objects.specs.declared.mounts.Leaving.{Leaving}
 use Rattle.nfs_objects.specs.declared.mounts.Leaving.TheVariants as which
 use Rattle.nfs_objects.specs.declared.object.Object.TheVariants as objects
@@ -82,7 +82,7 @@ module _ (d : DraftValue) (call : MountCall) (begins : Begins (calls.Mount call)
         subst Sound (sym (takes.changes s k w))
             (mounts-sound k (without_mounts k.state (leaves leaving)).mounts w.sound),
         λ after. subst (MountStep k.state d.ctx call reply [])
-            (sym (ap (λ (y : Kept). y.state) (takes.changes s k w))) (steps k.state),
+            (sym (ap (λ (y : StoreMeaning). y.state) (takes.changes s k w))) (steps k.state),
       ))
 
   -- nothing changes
@@ -146,19 +146,19 @@ module _ (d : DraftValue) where
 
 -- ---- what stops a call
 module _ (d : DraftValue) (call : MountCall) (begins : Begins (calls.Mount call) d) where
-  pub stopped : (halt : Halt) → StopsAt d tables halt → EndsCall (calls.Mount call) d.ctx d.view (Err halt)
+  pub stopped : (halt : Missing) → StopsAt d tables halt → EndsCall (calls.Mount call) d.ctx d.view (Err halt)
   stopped halt stops =
       subst (λ modes. StopsCall modes (named_by (calls.Mount call) d.view) 0 d.view halt) begins.modes stops
 
 -- the exports are named by each call, and so is the table
-pub exports-stop : (d : DraftValue) (halt : Halt) → StopsAt d (addresses.Exports ∷ []) halt → StopsAt d tables halt
+pub exports-stop : (d : DraftValue) (halt : Missing) → StopsAt d (addresses.Exports ∷ []) halt → StopsAt d tables halt
 exports-stop d halt stops = exports-stop-at d tables halt stops
 
-pub mounts-stop : (d : DraftValue) (halt : Halt) → Lacks d addresses.Mounts halt → StopsAt d tables halt
+pub mounts-stop : (d : DraftValue) (halt : Missing) → Lacks d addresses.Mounts halt → StopsAt d tables halt
 mounts-stop d halt lacks = lacks-stops d tables 0 addresses.Mounts halt lacks (inl (inr (inl refl)))
 
 -- an object that lives may be read by each call
-pub object-stops : (d : DraftValue) (n : ℕ) (halt : Halt) → IsThere d.view (addresses.Inode n) →
+pub object-stops : (d : DraftValue) (n : ℕ) (halt : Missing) → IsThere d.view (addresses.Inode n) →
     StopsAt d (addresses_of d.view n) halt → StopsAt d tables halt
 object-stops d n halt lives stops =
     stops-wider d.modes (addresses_of d.view n) tables 0 d.view halt (inr lives, tt) stops

@@ -27,7 +27,7 @@ use Rattle.nfs_objects.proofs.UsageSumLemmas.{AllFit}
 use Rattle.nfs_objects.specs.ExportTables.{ExportTableValue}
 use Rattle.nfs_objects.specs.Replaced.{with_table}
 use Rattle.nfs_objects.specs.Sound.{Sound}
-use Rattle.nfs_objects.specs.Stands.{Kept, lives_in}
+use Rattle.nfs_objects.specs.Stands.{StoreMeaning, lives_in}
 use Rattle.nfs_objects.specs.Sums.{usage_in}
 use Rattle.nfs_inodes.proofs.RootsMadeLemmas.{AreFree, links-made, links-stay, parents-made, parents-stay, spent-made}
 use Rattle.nfs_inodes.proofs.RootsMadeLemmas.{spent-stays, state-made, usage-made}
@@ -111,7 +111,7 @@ named-export m directory o n (e ∷ es) leads some at =
     ] refl
 
 -- ---- the state
-module _ (k : Kept) (exports : List ExportValue) (choose : ℕ → RootChoice) (now : Time) where
+module _ (k : StoreMeaning) (exports : List ExportValue) (choose : ℕ → RootChoice) (now : Time) where
   abbrev m : State
   m = k.state
 
@@ -121,10 +121,10 @@ module _ (k : Kept) (exports : List ExportValue) (choose : ℕ → RootChoice) (
   abbrev table : ExportTableValue
   table = table_of m.exports m.last_export exports choose
 
-  abbrev kept : Kept
+  abbrev kept : StoreMeaning
   kept = with_table k table
 
-  abbrev pub end : Kept
+  abbrev pub end : StoreMeaning
   end = roots_made now choose m.last_export count kept
 
   abbrev spent : ℕ → ℕ → Bool

@@ -15,11 +15,11 @@ use Rattle.nfs_objects.specs.ExportTables.{ExportTableValue}
 use Rattle.nfs_objects.specs.Fits.{NumbersApart}
 use Rattle.nfs_objects.specs.Knows.{ShowsExport, Turns}
 use Rattle.nfs_objects.specs.Roots.{choice_of, root_choice}
-use Rattle.nfs_objects.specs.Stands.{Kept, exports_of, lives_in}
+use Rattle.nfs_objects.specs.Stands.{StoreMeaning, exports_of, lives_in}
 use Rattle.nfs_objects.specs.Sums.{group_of}
 use Rattle.nfs_objects.specs.Values.{DraftValue, known_at}
 use Rattle.nfs_objects.specs.declared.address.Addr.TheVariants as addresses
-use Rattle.nfs_objects.specs.declared.change.Halt.{Halt}
+use Rattle.nfs_objects.specs.declared.change.Missing.{Missing}
 use Rattle.nfs_objects.specs.declared.object.Object.TheVariants as objects
 use Rattle.nfs_objects.specs.declared.view.Reserved.{Reserved}
 use Rattle.nfs_inodes.proofs.ReaderHaltLemmas.{stops-before}
@@ -136,8 +136,9 @@ usage-among last (q ∷ roots) (suc i) r within at =
     (let next : suc last + suc i ≡ last + suc (suc i) = omega arith in next)
     (usage-among (suc last) roots i r (omega (arith, within)) at))
 
-pub usage-stops : (old mid : DraftValue) (op : Kept → Kept) (last : ℕ) (roots : List Reserved) (i export : ℕ)
-    (r : Reserved) (halt : Halt) → Turns old mid op → i < length roots → r ≡ get_or roots i r → export ≡ last + suc i
+pub usage-stops : (old mid : DraftValue) (op : StoreMeaning → StoreMeaning) (last : ℕ) (roots : List Reserved)
+    (i export : ℕ)
+    (r : Reserved) (halt : Missing) → Turns old mid op → i < length roots → r ≡ get_or roots i r → export ≡ last + suc i
     → StopsAt mid (addresses.Usage export (group_of r.number) ∷ []) halt → StopsAt old (root_usages last roots) halt
 usage-stops old mid op last roots i export r halt turns within at numbered stops =
     stops-wider old.modes (addresses.Usage export (group_of r.number) ∷ []) (root_usages last roots) 0 old.view halt (

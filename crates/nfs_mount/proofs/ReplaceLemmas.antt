@@ -33,13 +33,13 @@ use Rattle.nfs_objects.specs.Promise.{Given, Held, IsPromised, IsReserved}
 use Rattle.nfs_objects.specs.Replaced.{with_table}
 use Rattle.nfs_objects.specs.Roots.{choice_of, root_choice}
 use Rattle.nfs_objects.specs.Sound.{Sound}
-use Rattle.nfs_objects.specs.Stands.{Kept, Represents, beside_at, export_table_of, lives_in, living_in}
+use Rattle.nfs_objects.specs.Stands.{StoreMeaning, Represents, beside_at, export_table_of, lives_in, living_in}
 use Rattle.nfs_objects.specs.Store.{Store, with_writes}
 use Rattle.nfs_objects.specs.Values.{DraftValue, Seen, done_value, known_at, seen_at, shown_at, with_written}
 use Rattle.nfs_objects.specs.Values.{written_at}
 use Rattle.nfs_objects.specs.declared.address.Addr.{Addr}
 use Rattle.nfs_objects.specs.declared.address.Addr.TheVariants as addresses
-use Rattle.nfs_objects.specs.declared.change.Halt.{Halt}
+use Rattle.nfs_objects.specs.declared.change.Missing.{Missing}
 use Rattle.nfs_objects.specs.declared.object.Object.{Object}
 use Rattle.nfs_objects.specs.declared.object.Object.TheVariants as objects
 use Rattle.nfs_objects.specs.declared.view.Reserved.{Reserved}
@@ -98,13 +98,13 @@ module _ (d : DraftValue) (none : d.writes ≡ []) (table : ExportTableValue)
       by (Some o) is = refl
 
   -- the exports are not asked for
-  pub table-first : {A : Type 0} (r : Result A Halt)
+  pub table-first : {A : Type 0} (r : Result A Missing)
       → HaltsFirst d.modes d.view (unless_seen d.view addresses.Exports) r
   table-first r = subst (λ w. HaltsFirst d.modes d.view w r)
       (sym (known-shown d addresses.Exports none table-known)) tt
 
   -- in each store
-  pub table-stands : (s : Store) (k : Kept) → Fits d.view s → Represents (with_writes s d.writes) k
+  pub table-stands : (s : Store) (k : StoreMeaning) → Fits d.view s → Represents (with_writes s d.writes) k
       → (k.state.exports ≡ table.exports) × (k.state.last_export ≡ table.last)
   table-stands s k fits stands = by (known_at d addresses.Exports) refl known
     where
@@ -142,7 +142,7 @@ module _ (d : DraftValue) (none : d.writes ≡ []) (table : ExportTableValue)
     has-numbers room few (inl empty) = inl empty
     has-numbers room few (inr enough) = inr (subst (λ n. n ≤ length d.view.reserved) (wanted-is room few) enough)
 
-    pub roots-stop : is_exhausted table.exports table.last exports ≡ false → count ≤ 64 → (halt : Halt)
+    pub roots-stop : is_exhausted table.exports table.last exports ≡ false → count ≤ 64 → (halt : Missing)
         → WantsNumbers d count halt → StopsReplacing d exports halt
     roots-stop room few halt wants =
         subst (λ n. StopsCall d.modes (named_by (calls.Replace exports) d.view) n d.view halt)
@@ -159,7 +159,7 @@ module _ (d : DraftValue) (none : d.writes ≡ []) (table : ExportTableValue)
     usages-front last (suc n) (suc more) (r ∷ roots) a less (inr among) =
         inr (usages-front (suc last) n more roots a (omega (arith, less)) among)
 
-    pub usages-stop : count ≤ 64 → (roots : List Reserved) → roots ≡ take count d.view.reserved → (halt : Halt)
+    pub usages-stop : count ≤ 64 → (roots : List Reserved) → roots ≡ take count d.view.reserved → (halt : Missing)
         → StopsAt d (root_usages table.last roots) halt → StopsReplacing d exports halt
     usages-stop few roots first halt stops =
         stops-wider d.modes (root_usages table.last roots) (named_by (calls.Replace exports) d.view)
@@ -257,7 +257,7 @@ module _ (d : DraftValue) (none : d.writes ≡ []) (table : ExportTableValue)
     abbrev IsUnused : State → Reserved → Type 0
     IsUnused m r = (get m.objects r.number ≡ None) × (m.spent r.number r.generation ≡ false)
 
-    unused : (s : Store) (k : Kept) → Possible d s k → AllByRecursion (IsUnused k.state) d.view.reserved
+    unused : (s : Store) (k : StoreMeaning) → Possible d s k → AllByRecursion (IsUnused k.state) d.view.reserved
     unused s k w =
         let stands : Represents s k = subst (λ ws. Represents (with_writes s ws) k) none w.stands in
         all-map (λ (r : Reserved). (seen_at d.view.entries (addresses.Inode r.number) ≡ Some (vacant r))
@@ -268,7 +268,7 @@ module _ (d : DraftValue) (none : d.writes ≡ []) (table : ExportTableValue)
           stands.objects.spent r.number r.generation ∙ lt-leb r.generation (s.last r.number) is.1,
         )) d.view.reserved w.fits.reserved
 
-    module _ (s : Store) (k : Kept) (w : Possible d s k) (fit : AllByRecursion ReservedFits roots) where
+    module _ (s : Store) (k : StoreMeaning) (w : Possible d s k) (fit : AllByRecursion ReservedFits roots) where
       at-state : (k.state.exports ≡ table.exports) × (k.state.last_export ≡ table.last)
       at-state = table-stands s k w.fits w.stands
 
@@ -344,19 +344,19 @@ module _ (d : DraftValue) (none : d.writes ≡ []) (table : ExportTableValue)
       sound = λ s k w formed. subst Sound (sym (same-end s k w fit))
           (end-sound k exports choose (time_of d.ctx.moment) (given s k w fit) faultless (room-there s k w fit room)
           formed w.sound (fits-there s k w));
-      steps = λ s k w formed. subst (λ (x : Kept). ReplaceStep k.state d.ctx exports [] x.state)
+      steps = λ s k w formed. subst (λ (x : StoreMeaning). ReplaceStep k.state d.ctx exports [] x.state)
           (sym (same-end s k w fit))
           (end-step k exports choose (time_of d.ctx.moment) (given s k w fit) faultless (room-there s k w fit room)
           formed w.sound (fits-there s k w) d.ctx refl);
     }
       where
-        fits-there : (s : Store) (k : Kept) → Possible d s k → AllFit k.state
+        fits-there : (s : Store) (k : StoreMeaning) → Possible d s k → AllFit k.state
         fits-there s k w = all-fit (with_writes s d.writes) k w.stands
 
     -- the same of a result that is handed on
     pub made-replaces : {A : Type 0} → AreFaultless exports → is_exhausted table.exports table.last exports ≡ false
         → new_count table.exports exports ≤ 64 → (mid new : DraftValue) → Turns d mid (λ k. with_table k made)
-        → (r : Result A Halt)
+        → (r : Result A Missing)
         → MatchResult r (λ _. Turns mid new (roots_made (time_of mid.ctx.moment) choose table.last (length roots)))
         (StopsAt mid (root_usages table.last roots))
         → OnOk r (AllByRecursion ReservedFits roots)
@@ -368,7 +368,7 @@ module _ (d : DraftValue) (none : d.writes ≡ []) (table : ExportTableValue)
         (stops-before d mid (λ k. with_table k made) (λ v. root_usages table.last roots) halt puts stops)
 
 -- the exports are named by the call
-pub exports-stop : (d : DraftValue) (exports : List ExportValue) (halt : Halt) → Lacks d addresses.Exports halt
+pub exports-stop : (d : DraftValue) (exports : List ExportValue) (halt : Missing) → Lacks d addresses.Exports halt
     → StopsReplacing d exports halt
 exports-stop d exports halt lacks =
     lacks-stops d (named_by (calls.Replace exports) d.view) (new_numbers (calls.Replace exports) d.view)
@@ -376,7 +376,8 @@ exports-stop d exports halt lacks =
 
 -- ---- the end of the call
 module _ (d : DraftValue) (exports : List ExportValue) (begins : Begins (calls.Replace exports) d) where
-  pub stopped : (halt : Halt) → StopsReplacing d exports halt → EndsCall (calls.Replace exports) d.ctx d.view (Err halt)
+  pub stopped : (halt : Missing) → StopsReplacing d exports halt
+      → EndsCall (calls.Replace exports) d.ctx d.view (Err halt)
   stopped halt stops = subst (λ modes. StopsCall modes (named_by (calls.Replace exports) d.view)
       (new_numbers (calls.Replace exports) d.view) d.view halt) begins.modes stops
 

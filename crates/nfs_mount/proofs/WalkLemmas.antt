@@ -21,7 +21,7 @@ use Rattle.nfs_objects.specs.Stands.{Represents}
 use Rattle.nfs_objects.specs.Store.{with_writes}
 use Rattle.nfs_objects.specs.declared.address.Addr.TheVariants as addresses
 use Rattle.nfs_objects.specs.Values.{DraftValue}
-use Rattle.nfs_objects.specs.declared.change.Halt.{Halt}
+use Rattle.nfs_objects.specs.declared.change.Missing.{Missing}
 use Rattle.nfs_inodes.specs.Known.{ChecksDirectory, IsKnown, IsObject, content_at, listed, object_at}
 use Rattle.nfs_inodes.specs.declared.found.Known.{Known}
 use Rattle.nfs_mount.specs.Targets.{Finds, walk_end}
@@ -77,7 +77,7 @@ module _ (find : ℕ → Option Living) (number : ℕ) where
 
 -- ---- as far as a draft knows
 module _ (d : DraftValue) (root : ℕ) (start : List (List ℕ)) where
-  abbrev pub Ended : Result (Result Known MountStatus) Halt → Type 0
+  abbrev pub Ended : Result (Result Known MountStatus) Missing → Type 0
   Ended = Finds d (λ found m. walk (get m.objects) root start ≡ walk_end m found)
 
   -- the walk goes on at this number with these names

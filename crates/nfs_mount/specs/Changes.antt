@@ -5,13 +5,13 @@ use Rattle.nfs_machine.specs.State.{State}
 use Rattle.nfs_objects.specs.Knows.{Knows, Turns}
 use Rattle.nfs_objects.specs.Leaving.{leaves}
 use Rattle.nfs_objects.specs.MountTables.{mounted}
-use Rattle.nfs_objects.specs.Stands.{Kept}
+use Rattle.nfs_objects.specs.Stands.{StoreMeaning}
 use Rattle.nfs_objects.specs.Values.{DraftValue}
 use Rattle.nfs_objects.specs.declared.mounts.Leaving.{Leaving}
 
 -- this is the state from now on, and what is kept beside it stays
 pub record ChangesState (old new : DraftValue) (after : State → State) : Type 0 where
-  pub op : Kept → Kept
+  pub op : StoreMeaning → StoreMeaning
   pub turns : Turns old new op
   pub changes : Knows old (λ k. op k ≡ record k { state = after k.state })
 

@@ -13,24 +13,24 @@ use Rattle.nfs_objects.specs.Knows.{Possible, Turns}
 use Rattle.nfs_objects.specs.Modes.{replacing}
 use Rattle.nfs_objects.specs.Promise.{IsReserved}
 use Rattle.nfs_objects.specs.Sound.{Sound}
-use Rattle.nfs_objects.specs.Stands.{Kept, lives_in}
+use Rattle.nfs_objects.specs.Stands.{StoreMeaning, lives_in}
 use Rattle.nfs_objects.specs.Store.{Store}
 use Rattle.nfs_objects.specs.Values.{DraftValue, known_at}
 use Rattle.nfs_objects.specs.declared.address.Addr.TheVariants as addresses
-use Rattle.nfs_objects.specs.declared.change.Halt.{Halt}
+use Rattle.nfs_objects.specs.declared.change.Missing.{Missing}
 use Rattle.nfs_objects.specs.declared.object.Object.TheVariants as objects
 use Rattle.nfs_objects.specs.declared.view.Reserved.{Reserved}
 
 -- in each sound state that is the machine's step, and what is kept stays sound
 pub record ReplacesExports (old new : DraftValue) (exports : List ExportValue) : Type 0 where
-  pub op : Kept → Kept
+  pub op : StoreMeaning → StoreMeaning
   pub turns : Turns old new op
-  pub sound : (s : Store) (k : Kept) → Possible old s k → WellFormed k.state → Sound (op k)
-  pub steps : (s : Store) (k : Kept) → Possible old s k → WellFormed k.state →
+  pub sound : (s : Store) (k : StoreMeaning) → Possible old s k → WellFormed k.state → Sound (op k)
+  pub steps : (s : Store) (k : StoreMeaning) → Possible old s k → WellFormed k.state →
       ReplaceStep k.state old.ctx exports [] (op k).state
 
 -- the call asks for what it names, or for all its new numbers
-abbrev pub StopsReplacing : DraftValue → List ExportValue → Halt → Type 0
+abbrev pub StopsReplacing : DraftValue → List ExportValue → Missing → Type 0
 StopsReplacing d exports halt = StopsCall d.modes (named_by (calls.Replace exports) d.view)
     (new_numbers (calls.Replace exports) d.view) d.view halt
 

@@ -7,12 +7,12 @@ use Rattle.nfs_machine.specs.State.{State}
 use Rattle.nfs_machine.specs.WellFormed.{WellFormed}
 use Rattle.nfs_machine.specs.declared.context.Ctx.{Ctx}
 use Rattle.nfs_objects.specs.Knows.{Possible}
-use Rattle.nfs_objects.specs.Stands.{Kept}
+use Rattle.nfs_objects.specs.Stands.{StoreMeaning}
 use Rattle.nfs_objects.specs.Store.{Store}
 use Rattle.nfs_objects.specs.Values.{DraftValue}
 use Rattle.nfs_objects.specs.declared.address.Addr.{Addr}
 use Rattle.nfs_objects.specs.declared.address.Addr.TheVariants as addresses
-use Rattle.nfs_objects.specs.declared.change.Halt.{Halt}
+use Rattle.nfs_objects.specs.declared.change.Missing.{Missing}
 use Rattle.nfs_inodes.specs.Known.{target}
 use Rattle.nfs_inodes.specs.Stops.{StopsAt}
 use Rattle.nfs_inodes.specs.declared.found.Known.{Known}
@@ -22,8 +22,8 @@ abbrev pub tables : List Addr
 tables = addresses.Exports ∷ addresses.Mounts ∷ []
 
 -- what is found is so in each well-formed state, whatever the store; what halts stops the call
-abbrev pub Finds : {A : Type 0} → DraftValue → (A → State → Type 0) → Result A Halt → Type 0
-Finds d found (Ok x) = (s : Store) (k : Kept) → Possible d s k → WellFormed k.state → found x k.state
+abbrev pub Finds : {A : Type 0} → DraftValue → (A → State → Type 0) → Result A Missing → Type 0
+Finds d found (Ok x) = (s : Store) (k : StoreMeaning) → Possible d s k → WellFormed k.state → found x k.state
 Finds d found (Err halt) = StopsAt d tables halt
 
 -- the end of a walk

@@ -6,7 +6,7 @@ ghost use Rattle.nfs_machine.specs.Paths.{parts};
 ghost use Rattle.nfs_machine.specs.WellFormed.{AllApart};
 ghost use Rattle.nfs_mount.specs.Choices.{IsChosen, IsLead, LeadsNot, deeper_of};
 
-use crate::paths::{Names, names_below};
+use crate::paths::{PathNames, names_below};
 use bytes::Bytes;
 use nfs_objects::LivingExport;
 
@@ -18,7 +18,7 @@ pub struct Choice<'a> {
     /// How many names the export's path has.
     pub depth: usize,
     /// The names of the path that are left to walk from the root.
-    pub rest: Names<'a>,
+    pub rest: PathNames<'a>,
 }
 
 /// Of the exports that admit the host and whose names begin the path's, the one with the most names; None where there
@@ -47,7 +47,7 @@ fn lead<'a>(export: &LivingExport, host: &Bytes, path: &'a [u8]) -> Option<Choic
     let rest = names_below(path, export.path().as_slice())?;
     Some(Choice {
         root: export.root(),
-        depth: Names::of(export.path().as_slice()).count(),
+        depth: PathNames::of(export.path().as_slice()).count(),
         rest,
     })
 }

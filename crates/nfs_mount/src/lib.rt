@@ -23,7 +23,7 @@ mod replace;
 mod unmount;
 
 use nfs_machine::{Call, Ctx, Exports, Reply};
-use nfs_objects::{Change, Draft, Halt, MOUNTING, Outcome, READING, REPLACING, View, outcome};
+use nfs_objects::{Change, Draft, MOUNTING, Missing, Outcome, READING, REPLACING, View, outcome};
 use side_wire::{MountCall, MountReply};
 use std::alloc::{AllocError, Global};
 
@@ -70,7 +70,7 @@ fn replaced<'a>(
     exports: &'a Exports,
     ctx: &'a Ctx,
     view: &'a View,
-) -> Result<Change, Halt>
+) -> Result<Change, Missing>
     requires suits { Suits (modes_of (Call.Replace exports.now)) view.now }
     requires numbers { HasNumbers (Call.Replace exports.now) view.now }
     ensures ends { EndsCall (Call.Replace exports.now) ctx.now view.now result }
@@ -84,7 +84,7 @@ fn ended<'a>(
     call: &'a MountCall,
     ctx: &'a Ctx,
     view: &'a View,
-) -> Result<Change, Halt>
+) -> Result<Change, Missing>
     requires { Suits (modes_of (Call.Mount call.now)) view.now }
     ensures ends { EndsCall (Call.Mount call.now) ctx.now view.now result }
     ensures first { EndsFirst (Call.Mount call.now) view.now result }
@@ -102,7 +102,7 @@ fn ended<'a>(
 }
 
 /// NULL does nothing (RFC 1813, 5.2.0).
-fn null(draft: Draft<'_>) -> Result<Change, Halt>
+fn null(draft: Draft<'_>) -> Result<Change, Missing>
     requires { Begins (Call.Mount MountCall.Null) draft }
     ensures ends { EndsCall (Call.Mount MountCall.Null) draft.entry.ctx draft.entry.view result }
     ensures first { EndsFirst (Call.Mount MountCall.Null) draft.entry.view result }

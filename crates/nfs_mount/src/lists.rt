@@ -8,7 +8,7 @@ ghost use Rattle.nfs_objects.specs.Stands.{mounts_in};
 
 use nfs_inodes::exports;
 use nfs_machine::{Call, Reply};
-use nfs_objects::{Change, Draft, Halt, LivingExport, MountTable};
+use nfs_objects::{Change, Draft, LivingExport, Missing, MountTable};
 use side_wire::{ExportList, ExportNode, Groups, MountBody, MountCall, MountList, MountReply};
 use std::alloc::{AllocError, Global};
 
@@ -17,7 +17,7 @@ use std::alloc::{AllocError, Global};
 /// # Errors
 ///
 /// `Need` of the exports or of the mounts, and `Memory`.
-pub fn attempt_dump(draft: Draft<'_>) -> Result<Change, Halt>
+pub fn attempt_dump(draft: Draft<'_>) -> Result<Change, Missing>
     requires { Begins (Call.Mount MountCall.Dump) draft }
     ensures ends { EndsCall (Call.Mount MountCall.Dump) draft.entry.ctx draft.entry.view result }
     ensures first { EndsFirst (Call.Mount MountCall.Dump) draft.entry.view result }
@@ -33,7 +33,7 @@ pub fn attempt_dump(draft: Draft<'_>) -> Result<Change, Halt>
 /// # Errors
 ///
 /// `Need` of the exports, and `Memory`.
-pub fn attempt_export(draft: Draft<'_>) -> Result<Change, Halt>
+pub fn attempt_export(draft: Draft<'_>) -> Result<Change, Missing>
     requires { Begins (Call.Mount MountCall.Export) draft }
     ensures ends { EndsCall (Call.Mount MountCall.Export) draft.entry.ctx draft.entry.view result }
     ensures first { EndsFirst (Call.Mount MountCall.Export) draft.entry.view result }

@@ -11,11 +11,11 @@ ghost use Rattle.nfs_mount.specs.Changes.{AddsMount};
 ghost use Rattle.nfs_mount.specs.Targets.{Finds, IsTarget, tables, walk_end};
 
 use crate::choice::choose;
-use crate::paths::{Names, path_fault};
+use crate::paths::{PathNames, path_fault};
 use bytes::Bytes;
 use nfs_inodes::{Known, directory, entry, exports, handle, object};
 use nfs_machine::{Call, Reply};
-use nfs_objects::{Addr, Change, Draft, Halt, Mode, MountTable};
+use nfs_objects::{Addr, Change, Draft, Missing, Mode, MountTable};
 use side_wire::{MountCall, MountReply, MountStatus};
 
 /// Tries MNT of a path: the handle of the directory that it names, and the path is listed for the caller's host.
@@ -23,7 +23,7 @@ use side_wire::{MountCall, MountReply, MountStatus};
 /// # Errors
 ///
 /// `Need` of the exports, of a directory that the path leads through or of the mounts, and `Memory`.
-pub fn attempt(draft: Draft<'_>, path: &Bytes) -> Result<Change, Halt>
+pub fn attempt(draft: Draft<'_>, path: &Bytes) -> Result<Change, Missing>
     requires { Begins (Call.Mount (MountCall.Mnt path.now)) draft }
     ensures ends { EndsCall (Call.Mount (MountCall.Mnt path.now)) draft.entry.ctx draft.entry.view result }
     ensures first { EndsFirst (Call.Mount (MountCall.Mnt path.now)) draft.entry.view result }
@@ -43,7 +43,7 @@ pub fn attempt(draft: Draft<'_>, path: &Bytes) -> Result<Change, Halt>
 /// # Errors
 ///
 /// `Need` of the exports or of a directory that the path leads through, and `Memory`.
-fn target(draft: &Draft<'_>, path: &Bytes) -> Result<Result<Known, MountStatus>, Halt>
+fn target(draft: &Draft<'_>, path: &Bytes) -> Result<Result<Known, MountStatus>, Missing>
     requires { draft.now.writes ≡ [] }
     ensures found { Finds draft.now (λ found. IsTarget draft.now.ctx path.now found) result }
     ensures first { HaltsFirst draft.now.modes draft.now.view (unless_seen draft.now.view Addr.Exports) result }
@@ -66,8 +66,8 @@ fn target(draft: &Draft<'_>, path: &Bytes) -> Result<Result<Known, MountStatus>,
 fn walk(
     draft: &Draft<'_>,
     root: u64,
-    mut names: Names<'_>,
-) -> Result<Result<Known, MountStatus>, Halt>
+    mut names: PathNames<'_>,
+) -> Result<Result<Known, MountStatus>, Missing>
     requires none { draft.now.writes ≡ [] }
     requires lives { IsThere draft.now.view (Addr.Inode root) }
     ensures { Finds draft.now (λ found m. walk (get m.objects) root names.entry ≡ walk_end m found) result }
@@ -95,7 +95,7 @@ fn walk(
 /// # Errors
 ///
 /// `Need` of the table of mounts, and `Memory`.
-fn add_mount(draft: &mut Draft<'_>, path: &Bytes) -> Result<(), Halt>
+fn add_mount(draft: &mut Draft<'_>, path: &Bytes) -> Result<(), Missing>
     requires { draft.old.modes.mounts ≡ Mode.Exclusive }
     ensures { MatchResult result (λ _. AddsMount draft.old draft.new path.now) (StopsAt draft.old tables) }
 {

@@ -12,12 +12,12 @@ use std::marker::Model;
 
 /// The names that a path walks, from left to right; empty parts are skipped.
 #[derive(Drop)]
-pub struct Names<'a> {
+pub struct PathNames<'a> {
     /// What follows the last slash that was passed; None at the path's end.
     rest: Option<&'a [u8]>,
 }
 
-impl<'a> Model for Names<'a> {
+impl<'a> Model for PathNames<'a> {
     ghost use Rattle.std.specs.Prelude.{ℕ, List, []};
     ghost use Rattle.std.specs.Option.{option_map_or};
     ghost use Rattle.nfs_machine.specs.Paths.{parts};
@@ -27,13 +27,13 @@ impl<'a> Model for Names<'a> {
     ghost view = { λ names. option_map_or (λ text. parts text.now) names.rest [] };
 }
 
-impl<'a> Names<'a> {
+impl<'a> PathNames<'a> {
     /// The names of a path.
-    pub fn of(path: &'a [u8]) -> Names<'a>
+    pub fn of(path: &'a [u8]) -> PathNames<'a>
         ensures names { result ≡ parts path.now }
         ensures count { length result ≤ length path.now }
     {
-        Names { rest: Some(path) }
+        PathNames { rest: Some(path) }
     }
 
     /// How many bytes of the path are left.
@@ -45,7 +45,7 @@ impl<'a> Names<'a> {
     }
 }
 
-impl<'a> Iterator for Names<'a> {
+impl<'a> Iterator for PathNames<'a> {
     ghost use Rattle.std.specs.Iterator.{YieldsFirstRef, item_count};
 
     type Item = &'a [u8];
@@ -97,23 +97,23 @@ fn is_dots(name: &[u8]) -> bool
 fn has_dots(path: &[u8]) -> bool
     ensures { result ≡ list_any is_dots (parts path.now) }
 {
-    Names::of(path).any(|name| is_dots(name))
+    PathNames::of(path).any(|name| is_dots(name))
 }
 
 fn has_long_name(path: &[u8]) -> bool
     ensures { result ≡ list_any (λ name. nat_lt 255 (length name)) (parts path.now) }
 {
-    Names::of(path).any(|name| name.len() > MAX_NAME)
+    PathNames::of(path).any(|name| name.len() > MAX_NAME)
 }
 
 /// The names that a path goes on with below an export; None where the export's names do not begin the path's. It takes
 /// no memory.
-pub fn names_below<'a>(path: &'a [u8], export: &[u8]) -> Option<Names<'a>>
+pub fn names_below<'a>(path: &'a [u8], export: &[u8]) -> Option<PathNames<'a>>
     ensures { MatchOption result (BeginsNot (parts export.now) (parts path.now))
         (λ rest. parts path.now ≡ parts export.now ++ rest) }
 {
-    let mut rest = Names::of(path);
-    for own in Names::of(export) {
+    let mut rest = PathNames::of(path);
+    for own in PathNames::of(export) {
         if rest.next()? != own {
             return None;
         }

@@ -10,7 +10,7 @@ ghost use Rattle.nfs_inodes.specs.Wants.{IsWanted};
 ghost use Rattle.nfs_mount.specs.Plans.{MayGoOn};
 
 use crate::choice::choose;
-use crate::paths::{Names, path_fault};
+use crate::paths::{PathNames, path_fault};
 use bytes::Bytes;
 use nfs_inodes::exports;
 use nfs_inodes::wishes::{Want, leaf_shown, part_wish, wish_there};
@@ -47,10 +47,10 @@ pub enum Plan {
 }
 
 /// What is wanted, and where the plan is once it is taken. None where the plan is over, as far as the view tells.
-type Next = Option<(Want, Plan)>;
+type NextWant = Option<(Want, Plan)>;
 
 /// What a call that is there in its plan wants next.
-pub fn next(alloc: Global, call: &Call, ctx: &Ctx, view: &View, plan: Plan) -> Next
+pub fn next(alloc: Global, call: &Call, ctx: &Ctx, view: &View, plan: Plan) -> NextWant
     requires { Suits (modes_of call.now) view.now }
     ensures { IfSome result (λ next. IsWanted (modes_of call.now) (named_by call.now view.now)
         (new_numbers call.now view.now) view.now next.0) }
@@ -63,7 +63,7 @@ pub fn next(alloc: Global, call: &Call, ctx: &Ctx, view: &View, plan: Plan) -> N
 }
 
 /// The same of its draft.
-fn go_on(draft: &Draft<'_>, call: &MountCall, plan: Plan) -> Next
+fn go_on(draft: &Draft<'_>, call: &MountCall, plan: Plan) -> NextWant
     requires { draft.now.writes ≡ [] }
     ensures { MayGoOn draft.now result }
 {
@@ -78,18 +78,18 @@ fn go_on(draft: &Draft<'_>, call: &MountCall, plan: Plan) -> Next
 }
 
 /// The exports, which all but NULL read first.
-fn first(draft: &Draft<'_>, call: &MountCall) -> Next
+fn first(draft: &Draft<'_>, call: &MountCall) -> NextWant
     ensures { MayGoOn draft.now result }
 {
     if let MountCall::Null = call {
         return None;
     }
-    let wish = draft.lacked(Addr::Exports)?;
+    let wish = draft.missing(Addr::Exports)?;
     Some((Want::Address(wish), Plan::Behind))
 }
 
 /// What is behind the exports.
-fn behind(draft: &Draft<'_>, call: &MountCall) -> Next
+fn behind(draft: &Draft<'_>, call: &MountCall) -> NextWant
     requires { draft.now.writes ≡ [] }
     ensures { MayGoOn draft.now result }
 {
@@ -109,7 +109,7 @@ fn path_of(call: &MountCall) -> Option<&Bytes> {
 }
 
 /// The root of the export that a path is under, and what is behind that.
-fn root(draft: &Draft<'_>, path: &[u8]) -> Next
+fn root(draft: &Draft<'_>, path: &[u8]) -> NextWant
     requires { draft.now.writes ≡ [] }
     ensures { MayGoOn draft.now result }
 {
@@ -134,7 +134,7 @@ fn root(draft: &Draft<'_>, path: &[u8]) -> Next
 }
 
 /// The part of the next name of a path of which so many bytes are left, and what is behind that.
-fn part(draft: &Draft<'_>, path: &[u8], number: u64, left: usize) -> Next
+fn part(draft: &Draft<'_>, path: &[u8], number: u64, left: usize) -> NextWant
     requires { draft.now.writes ≡ [] }
     ensures { MayGoOn draft.now result }
 {
@@ -148,7 +148,7 @@ fn part(draft: &Draft<'_>, path: &[u8], number: u64, left: usize) -> Next
 }
 
 /// What the next name of a path leads to.
-fn object(draft: &Draft<'_>, path: &[u8], number: u64, left: usize) -> Next
+fn object(draft: &Draft<'_>, path: &[u8], number: u64, left: usize) -> NextWant
     requires { draft.now.writes ≡ [] }
     ensures { MayGoOn draft.now result }
 {
@@ -166,15 +166,15 @@ fn object(draft: &Draft<'_>, path: &[u8], number: u64, left: usize) -> Next
 }
 
 /// The names of a path of which so many bytes are left.
-fn names_left(path: &[u8], left: usize) -> Names<'_> {
+fn names_left(path: &[u8], left: usize) -> PathNames<'_> {
     let (_passed, rest) = path.split_at(path.len().saturating_sub(left));
-    Names::of(rest)
+    PathNames::of(rest)
 }
 
 /// The mounts.
-fn mounts(draft: &Draft<'_>) -> Next
+fn mounts(draft: &Draft<'_>) -> NextWant
     ensures { MayGoOn draft.now result }
 {
-    let wish = draft.lacked(Addr::Mounts)?;
+    let wish = draft.missing(Addr::Mounts)?;
     Some((Want::Address(wish), Plan::Over))
 }

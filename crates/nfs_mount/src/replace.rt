@@ -15,7 +15,7 @@ ghost use Rattle.nfs_mount.specs.Replaces.{AwaitsRoots, ReplacesExports, StopsRe
 
 use nfs_inodes::{ask_roots, make_root, put_table};
 use nfs_machine::{Call, Exports, Reply};
-use nfs_objects::{Addr, Change, Draft, ExportTable, Halt, Reserved};
+use nfs_objects::{Addr, Change, Draft, ExportTable, Missing, Reserved};
 
 /// Tries to replace the exports by these. A path that was exported keeps its number, its root and what is below; a new
 /// one gets a number that was never used, and a root. What belongs to a path that is not among these goes. Nothing
@@ -24,7 +24,7 @@ use nfs_objects::{Addr, Change, Draft, ExportTable, Halt, Reserved};
 /// # Errors
 ///
 /// `Need` of the exports, or of what the groups of all new roots use; `Fresh` of their numbers; and `Memory`.
-pub fn attempt(draft: Draft<'_>, exports: &Exports) -> Result<Change, Halt>
+pub fn attempt(draft: Draft<'_>, exports: &Exports) -> Result<Change, Missing>
     requires begins { Begins (Call.Replace exports.now) draft }
     requires numbers { HasNumbers (Call.Replace exports.now) draft.view }
     ensures ends { EndsCall (Call.Replace exports.now) draft.entry.ctx draft.entry.view result }
@@ -41,7 +41,7 @@ pub fn attempt(draft: Draft<'_>, exports: &Exports) -> Result<Change, Halt>
 ///
 /// `Need` of the exports, or of what the groups of all new roots use; `Fresh` of their numbers; and `Memory`. The draft
 /// is of no use then.
-fn replace(draft: &mut Draft<'_>, exports: &Exports) -> Result<(), Halt>
+fn replace(draft: &mut Draft<'_>, exports: &Exports) -> Result<(), Missing>
     requires begins { Begins (Call.Replace exports.now) draft.old }
     requires numbers { HasNumbers (Call.Replace exports.now) draft.old.view }
     ensures replaces { MatchResult result (λ _. ReplacesExports draft.old draft.new exports.now)
@@ -66,7 +66,7 @@ fn replace(draft: &mut Draft<'_>, exports: &Exports) -> Result<(), Halt>
 /// # Errors
 ///
 /// `Need` of what the group of a root uses, and `Memory`. The draft is of no use then.
-fn make_roots(draft: &mut Draft<'_>, last: u32, roots: &[Reserved]) -> Result<(), Halt>
+fn make_roots(draft: &mut Draft<'_>, last: u32, roots: &[Reserved]) -> Result<(), Missing>
     requires room { last + length roots.now < 2 ^ 32 }
     requires ready { AwaitsRoots draft.old last roots.now }
     ensures made { MatchResult result

@@ -10,7 +10,7 @@ ghost use Rattle.nfs_mount.specs.Targets.{tables};
 use bytes::Bytes;
 use nfs_inodes::exports;
 use nfs_machine::{Call, Reply};
-use nfs_objects::{Addr, Change, Draft, Halt, Leaving, Mode};
+use nfs_objects::{Addr, Change, Draft, Leaving, Missing, Mode};
 use side_wire::{MountCall, MountReply};
 
 /// Tries UMNT of a path: the caller's host has it mounted no more.
@@ -18,7 +18,7 @@ use side_wire::{MountCall, MountReply};
 /// # Errors
 ///
 /// `Need` of the exports or of the mounts, and `Memory`.
-pub fn attempt_path(draft: Draft<'_>, path: &Bytes) -> Result<Change, Halt>
+pub fn attempt_path(draft: Draft<'_>, path: &Bytes) -> Result<Change, Missing>
     requires { Begins (Call.Mount (MountCall.Unmount path.now)) draft }
     ensures ends { EndsCall (Call.Mount (MountCall.Unmount path.now)) draft.entry.ctx draft.entry.view result }
     ensures first { EndsFirst (Call.Mount (MountCall.Unmount path.now)) draft.entry.view result }
@@ -35,7 +35,7 @@ pub fn attempt_path(draft: Draft<'_>, path: &Bytes) -> Result<Change, Halt>
 /// # Errors
 ///
 /// `Need` of the exports or of the mounts, and `Memory`.
-pub fn attempt_all(draft: Draft<'_>) -> Result<Change, Halt>
+pub fn attempt_all(draft: Draft<'_>) -> Result<Change, Missing>
     requires { Begins (Call.Mount MountCall.UnmountAll) draft }
     ensures ends { EndsCall (Call.Mount MountCall.UnmountAll) draft.entry.ctx draft.entry.view result }
     ensures first { EndsFirst (Call.Mount MountCall.UnmountAll) draft.entry.view result }
@@ -51,7 +51,7 @@ pub fn attempt_all(draft: Draft<'_>) -> Result<Change, Halt>
 /// # Errors
 ///
 /// `Need` of the exports or of the table, and `Memory`.
-fn take_mounts(draft: &mut Draft<'_>, leaving: Leaving<'_>) -> Result<(), Halt>
+fn take_mounts(draft: &mut Draft<'_>, leaving: Leaving<'_>) -> Result<(), Missing>
     requires none { draft.old.writes ≡ [] }
     requires alone { draft.old.modes.mounts ≡ Mode.Exclusive }
     ensures takes { MatchResult result (λ _. TakesMounts draft.old draft.new leaving.entry)

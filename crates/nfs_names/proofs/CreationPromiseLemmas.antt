@@ -5,7 +5,7 @@ use Rattle.nfs_wire.specs.declared.calls.MkdirArguments.{MkdirArguments}
 use Rattle.nfs_wire.specs.declared.calls.MknodArguments.{MknodArguments}
 use Rattle.nfs_wire.specs.declared.calls.NfsCall.{NfsCall}
 use Rattle.nfs_wire.specs.declared.calls.NfsCall.TheVariants as nfs
-use Rattle.nfs_wire.specs.declared.calls.Place.{Place}
+use Rattle.nfs_wire.specs.declared.calls.DirOp.{DirOp}
 use Rattle.nfs_wire.specs.declared.calls.SymlinkArguments.{SymlinkArguments}
 use Rattle.nfs_wire.specs.declared.replies.MadeReply.{MadeReply}
 use Rattle.nfs_wire.specs.declared.replies.NfsReply.{NfsReply}
@@ -36,7 +36,7 @@ module _ (old new : DraftValue) (reply : MadeReply) (held : Held new.view new.wr
   Promised call reply_of = IsPromised (done_value (calls.Nfs call) old.ctx old.view
       (record { writes = new.writes; messages = new.messages; reply = answers.Nfs (reply_of reply) }))
 
-  abbrev Replies : Place → Result Wanted NfsStatus → ThereEnd → Type 0
+  abbrev Replies : DirOp → Result Wanted NfsStatus → ThereEnd → Type 0
   Replies place asked there = MakesReply old new place asked there reply
 
   create-step : (a : CreateArguments) (m after : State) (answer : NfsReply) →

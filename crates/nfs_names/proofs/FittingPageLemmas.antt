@@ -24,7 +24,7 @@ use Rattle.nfs_machine.specs.WellFormed.{WellFormed}
 use Rattle.nfs_objects.proofs.KnowsLemmas.{failed}
 use Rattle.nfs_objects.specs.Asks.{IsThere}
 use Rattle.nfs_objects.specs.Knows.{Knows, Possible}
-use Rattle.nfs_objects.specs.Stands.{Kept}
+use Rattle.nfs_objects.specs.Stands.{StoreMeaning}
 use Rattle.nfs_objects.specs.Store.{Store}
 use Rattle.nfs_objects.specs.Values.{DraftValue, ViewValue}
 use Rattle.nfs_objects.specs.declared.address.Addr.TheVariants as addresses
@@ -32,9 +32,9 @@ use Rattle.nfs_inodes.proofs.StandsLemmas.{kind-is}
 use Rattle.nfs_inodes.specs.Gathers.{EachLives}
 use Rattle.nfs_inodes.specs.Known.{IsKnown, Means, content_at, entries_found}
 use Rattle.nfs_inodes.specs.Listing.{IsFrontOf, listed_entry}
-use Rattle.nfs_inodes.specs.declared.content.listing.Listed.{Listed}
+use Rattle.nfs_inodes.specs.declared.content.listing.ListedEntry.{ListedEntry}
 use Rattle.nfs_inodes.specs.declared.found.Known.{Known}
-use Rattle.nfs_inodes.specs.declared.kinds.Directory.{Directory}
+use Rattle.nfs_inodes.specs.declared.kinds.KnownDirectory.{KnownDirectory}
 use Rattle.nfs_names.specs.Checking.{ComesTo}
 use Rattle.nfs_names.specs.Pages.{IsPageOf, KnowsPage, Lists, fit_of, front_page, left_in, list_checked, page_cut}
 use Rattle.nfs_names.specs.Pages.{page_found, result_size, sizes_fit, sizes_of}
@@ -191,7 +191,7 @@ module _ (fit : List Entry → Bool) (shrinks : Shrinks fit) where
       (none-behind front is.rest e (never front (is.many refl)) pages)
 
 -- the page that is cut
-pub cut-listed : (entries : List Listed) → (entries ≡ [] → ⊥) →
+pub cut-listed : (entries : List ListedEntry) → (entries ≡ [] → ⊥) →
     Ok (record { entries = map listed_entry entries; eof = false }) ≡ page_cut (map listed_entry entries)
 cut-listed [] some = absurd (some refl)
 cut-listed (e ∷ entries) some = refl
@@ -211,21 +211,21 @@ front-lives view fit left (Err e) each pages = tt
 
 -- ---- the directory
 module _ (d : DraftValue) (x : Known) (asked : PageAsked) (known : Knows d (λ k. IsKnown k.state x)) where
-  abbrev rest : Kept → DirectoryEntries → Result (List Entry) NfsStatus
+  abbrev rest : StoreMeaning → DirectoryEntries → Result (List Entry) NfsStatus
   rest k entries = Ok (behind asked.cookie (all_entries x.number (k.parents x.number) entries.list))
 
   -- the checks decide, or the rest
-  left-is : (checked : Result Directory NfsStatus) → ComesTo (list_checked d.ctx asked) x checked →
-      (s : Store) (k : Kept) → Possible d s k →
+  left-is : (checked : Result KnownDirectory NfsStatus) → ComesTo (list_checked d.ctx asked) x checked →
+      (s : Store) (k : StoreMeaning) → Possible d s k →
       left_in k d.ctx x asked ≡ entries_found (content_at k.state x.number) (rest k) checked
   left-is checked comes s k w = comes (content_at k.state x.number) (rest k) (kind-is k.state x (known s k w))
 
-  pub page-refused : (e : NfsStatus) → ComesTo {B = Directory} (list_checked d.ctx asked) x (Err e) →
+  pub page-refused : (e : NfsStatus) → ComesTo {B = KnownDirectory} (list_checked d.ctx asked) x (Err e) →
       KnowsPage d x asked (Err e)
   page-refused e comes s k w formed =
       subst (λ left. IsPageOf asked.budget left (Err e)) (sym (left-is (Err e) comes s k w)) refl
 
-  pub page-listed : (directory : Directory) → ComesTo (list_checked d.ctx asked) x (Ok directory) →
+  pub page-listed : (directory : KnownDirectory) → ComesTo (list_checked d.ctx asked) x (Ok directory) →
       (left : List Entry) (is_all : Bool) (enough : ℕ) →
       ((es : List Entry) → enough ≤ length es → fit_of asked.budget es ≡ false) →
       Knows d (λ k. WellFormed k.state → IsFrontOf left is_all enough
@@ -242,7 +242,7 @@ module _ (d : DraftValue) (x : Known) (asked : PageAsked) (known : Knows d (λ k
   module _ {A : Type 0} (show : State → DirectoryPage → A) (handle : List ℕ)
       (named : Knows d (Means d.ctx handle (Ok x))) (result : Result A NfsStatus)
       (lists : Lists d x asked show result) where
-    pub page-step : (reply_of : Option Attributes → Result A NfsStatus → NfsReply) → (s : Store) (k : Kept) →
+    pub page-step : (reply_of : Option Attributes → Result A NfsStatus → NfsReply) → (s : Store) (k : StoreMeaning) →
         Possible d s k → WellFormed k.state →
         PageStep k.state d.ctx handle asked.cookie asked.verifier (fit_of asked.budget)
         (λ attributes page. reply_of attributes (page >>= λ p. Ok (show k.state p)))
@@ -266,7 +266,7 @@ module _ (d : DraftValue) (x : Known) (asked : PageAsked) (known : Knows d (λ k
 -- a handle that names nothing lists nothing
 pub nothing-step : {A : Type 0} (d : DraftValue) (asked : PageAsked) (show : State → DirectoryPage → A)
     (handle : List ℕ) (e : NfsStatus) → Knows d (Means d.ctx handle (Err e)) →
-    (reply_of : Option Attributes → Result A NfsStatus → NfsReply) → (s : Store) (k : Kept) → Possible d s k →
+    (reply_of : Option Attributes → Result A NfsStatus → NfsReply) → (s : Store) (k : StoreMeaning) → Possible d s k →
     PageStep k.state d.ctx handle asked.cookie asked.verifier (fit_of asked.budget)
     (λ attributes page. reply_of attributes (page >>= λ p. Ok (show k.state p)))
     (reply_of None (Err e)) [] k.state

@@ -3,7 +3,7 @@ use Rattle.std.proofs.Common.{◌≡◌, ℕ, false, List, Option, Some, None, R
 use Rattle.std.proofs.Common.{subst, ap, ◌∙◌}
 use Rattle.std.specs.Prelude.{IfOk, IfSome, option_map}
 use Rattle.nfs_wire.specs.declared.calls.NfsCall.TheVariants as nfs
-use Rattle.nfs_wire.specs.declared.calls.Place.{Place}
+use Rattle.nfs_wire.specs.declared.calls.DirOp.{DirOp}
 use Rattle.nfs_wire.specs.declared.calls.RenameArguments.{RenameArguments}
 use Rattle.nfs_machine.specs.Handles.{handle_of}
 use Rattle.nfs_machine.specs.declared.calls.Call.TheVariants as calls
@@ -13,10 +13,10 @@ use Rattle.nfs_objects.proofs.ModesSuitLemmas.{change-from, change-to, place-its
 use Rattle.nfs_objects.specs.Drafts.{MayChange}
 use Rattle.nfs_objects.specs.Knows.{Turns}
 use Rattle.nfs_objects.specs.Modes.{is_apart, led_at, modes_of}
-use Rattle.nfs_objects.specs.Stands.{Kept}
+use Rattle.nfs_objects.specs.Stands.{StoreMeaning}
 use Rattle.nfs_objects.specs.Values.{DraftValue, ModesValue, ViewValue}
 use Rattle.nfs_objects.specs.declared.address.Addr.TheVariants as addresses
-use Rattle.nfs_objects.specs.declared.change.Halt.{Halt}
+use Rattle.nfs_objects.specs.declared.change.Missing.{Missing}
 use Rattle.nfs_inodes.specs.Known.{HasNumber}
 use Rattle.nfs_inodes.specs.declared.found.Known.{Known}
 use Rattle.nfs_names.specs.Renames.{MayRename}
@@ -24,7 +24,7 @@ use Rattle.nfs_names.specs.declared.rename.Places.{Places}
 
 -- ---- what a name leads to, as the view shows it
 pub led-number : (view : ViewValue) (directory : ℕ) (name : List ℕ) (n : ℕ)
-    (result : Result (Option Known) Halt) →
+    (result : Result (Option Known) Missing) →
     led_at view directory name ≡ Some n → IfOk result (λ x. IfSome x (λ (x : Known). x.number ≡ n)) →
     IfOk result (λ x. IfSome x (λ (x : Known). led_at view directory name ≡ Some x.number))
 led-number view directory name n (Ok (Some x)) led same = led ∙ ap Some (sym same)
@@ -37,7 +37,7 @@ pub some-handle : (o : Option Handle) (n : ℕ) → option_map (λ (h : Handle).
 some-handle None n e = cc
 some-handle (Some h) n e = (h, refl, (let same : h.fileid ≡ n = cc in same))
 
-module _ (view : ViewValue) (place : Place) (n : ℕ) (has : HasNumber place.directory n) where
+module _ (view : ViewValue) (place : DirOp) (n : ℕ) (has : HasNumber place.directory n) where
   directory-within : is_apart view place n ≡ false
   directory-within =
       let h = some-handle (handle_of place.directory) n has in
@@ -82,7 +82,7 @@ module _ (d : DraftValue) (a : RenameArguments) (modes : d.modes ≡ modes_of (c
           change-to d a modes o.number (named-within d.view a.to y.number target o.number under)
 
 -- what has the new name may be changed still
-pub replaced-changes : (old new : DraftValue) (op : Kept → Kept) (o : Option Known) → Turns old new op →
+pub replaced-changes : (old new : DraftValue) (op : StoreMeaning → StoreMeaning) (o : Option Known) → Turns old new op →
     IfSome o (λ z. MayChange old (addresses.Inode z.number)) →
     IfSome o (λ z. MayChange new (addresses.Inode z.number))
 replaced-changes old new op None turns may = tt

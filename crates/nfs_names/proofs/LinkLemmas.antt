@@ -34,7 +34,7 @@ use Rattle.nfs_objects.specs.Begins.{Begins}
 use Rattle.nfs_objects.specs.Knows.{Does, Knows, Possible, Turns, ending}
 use Rattle.nfs_objects.specs.Promise.{Given, Held, IsPromised}
 use Rattle.nfs_objects.specs.Sound.{Sound}
-use Rattle.nfs_objects.specs.Stands.{Kept}
+use Rattle.nfs_objects.specs.Stands.{StoreMeaning}
 use Rattle.nfs_objects.specs.Store.{Store}
 use Rattle.nfs_objects.specs.Values.{DraftValue, done_value}
 use Rattle.nfs_inodes.proofs.NameGainedLemmas.{gained-sound, gained-state}
@@ -43,7 +43,7 @@ use Rattle.nfs_inodes.specs.Known.{Means, Names, content_at, entries_found, last
 use Rattle.nfs_inodes.specs.Known.{object_at, weak_of}
 use Rattle.nfs_inodes.specs.Links.{link_gained}
 use Rattle.nfs_inodes.specs.declared.found.Known.{Known}
-use Rattle.nfs_inodes.specs.declared.kinds.Directory.{Directory}
+use Rattle.nfs_inodes.specs.declared.kinds.KnownDirectory.{KnownDirectory}
 use Rattle.nfs_names.proofs.MakeObjectLemmas.{a-cookie, no-cookie}
 use Rattle.nfs_names.specs.Checking.{names_checked}
 use Rattle.nfs_names.specs.Links.{IsLinkEnd, LinkComesTo, link_checked}
@@ -77,8 +77,8 @@ module _ (d : DraftValue) (a : LinkArguments) (file x : Known) (names : Knows d 
   abbrev rest : State → DirectoryEntries → LinkEnd
   rest m entries = holding (is_none (entry_of entries.list a.place.name)) status.Exists >>= λ _. count m entries
 
-  comes : (checked : Result Directory NfsStatus) → LinkComesTo exports d.ctx a.place.name file x checked →
-      (s : Store) (k : Kept) → Possible d s k →
+  comes : (checked : Result KnownDirectory NfsStatus) → LinkComesTo exports d.ctx a.place.name file x checked →
+      (s : Store) (k : StoreMeaning) → Possible d s k →
       link_end k.state d.ctx a ≡ entries_found (content_at k.state x.number) (rest k.state) checked
   comes checked passes s k w = passed _ (names s k w).names (passed _ (above s k w).names
       (ap (λ es. link_checked es d.ctx a.place.name (object_at k.state file) (object_at k.state x) (rest k.state))
@@ -87,11 +87,11 @@ module _ (d : DraftValue) (a : LinkArguments) (file x : Known) (names : Knows d 
       (kind-is k.state file (names s k w).known) (kind-is k.state x (above s k w).known)))
 
   pub refused-end : (e : NfsStatus) → LinkComesTo exports d.ctx a.place.name file x (Err e) →
-      (s : Store) (k : Kept) → Possible d s k →
+      (s : Store) (k : StoreMeaning) → Possible d s k →
       IsLinkEnd d.ctx a k.state (Err e)
   refused-end e refuses s k w = comes (Err e) refuses s k w
 
-  module _ (directory : Directory) (known : directory.known ≡ x)
+  module _ (directory : KnownDirectory) (known : directory.known ≡ x)
       (passes : LinkComesTo exports d.ctx a.place.name file x (Ok directory)) where
     -- the checks tell that the file is of the directory's export, and is none
     abbrev of_export : Result (Unit {0}) NfsStatus
@@ -104,24 +104,24 @@ module _ (d : DraftValue) (a : LinkArguments) (file x : Known) (names : Knows d 
     named m = names_checked status.Invalid status.Invalid exports d.ctx a.place.name (object_at m x)
         (λ _. Ok (tt, m))
 
-    passing : (s : Store) (k : Kept) → Possible d s k →
+    passing : (s : Store) (k : StoreMeaning) → Possible d s k →
         (of_export >>= λ _. of_kind k.state >>= λ _. named k.state) ≡ Ok (tt, k.state)
     passing s k w = passes (content_at k.state file.number) (content_at k.state x.number) (λ _. Ok (tt, k.state))
         (kind-is k.state file (names s k w).known) (kind-is k.state x (above s k w).known)
 
-    export : (s : Store) (k : Kept) → Possible d s k → file.export ≡ x.export
+    export : (s : Store) (k : StoreMeaning) → Possible d s k → file.export ≡ x.export
     export s k w =
         let first = bound-ok of_export (λ _. of_kind k.state >>= λ _. named k.state) _ (passing s k w) in
         (unsigned_Decides file.export x.export).0 (holds (file.export == x.export) status.CrossDevice first.0 first.1)
 
-    plain : (s : Store) (k : Kept) → Possible d s k → is_directory (content_at k.state file.number) ≡ false
+    plain : (s : Store) (k : StoreMeaning) → Possible d s k → is_directory (content_at k.state file.number) ≡ false
     plain s k w =
         let first = bound-ok of_export (λ _. of_kind k.state >>= λ _. named k.state) _ (passing s k w) in
         let second = bound-ok (of_kind k.state) (λ _. named k.state) _ first.2 in
         not-true (is_directory (content_at k.state file.number))
         (holds (not (is_directory (content_at k.state file.number))) status.Invalid second.0 second.1)
 
-    abbrev entry : Kept → Option Entry
+    abbrev entry : StoreMeaning → Option Entry
     entry k = entry_of (entries_of (content_at k.state x.number)) a.place.name
 
     abbrev numbered : Option Entry → Option ℕ
@@ -138,40 +138,40 @@ module _ (d : DraftValue) (a : LinkArguments) (file x : Known) (names : Knows d 
     none-none (Some e) number is none = (let no : false ≡ true = none ∙ ap is_some (sym is) in cc)
 
     module _ (number : Option ℕ) (leads : Knows d (λ k. numbered (entry k) ≡ number)) where
-      pub there-end : true ≡ is_some number → (s : Store) (k : Kept) → Possible d s k →
+      pub there-end : true ≡ is_some number → (s : Store) (k : StoreMeaning) → Possible d s k →
           IsLinkEnd d.ctx a k.state (Err status.Exists)
       there-end some s k w = comes (Ok directory) passes s k w
           ∙ failed _ (ap (λ b. holding b status.Exists) (some-none (entry k) number (leads s k w) some))
 
       module _ (free : false ≡ is_some number) where
-        absent : (s : Store) (k : Kept) → Possible d s k → entry k ≡ None
+        absent : (s : Store) (k : StoreMeaning) → Possible d s k → entry k ≡ None
         absent s k w = none-none (entry k) number (leads s k w) free
 
-        counted : (s : Store) (k : Kept) → Possible d s k → link_end k.state d.ctx a ≡ count k.state
+        counted : (s : Store) (k : StoreMeaning) → Possible d s k → link_end k.state d.ctx a ≡ count k.state
             (listed (content_at k.state x.number))
         counted s k w = comes (Ok directory) passes s k w
             ∙ passed _ (ap (λ f. holding (is_none f) status.Exists) (absent s k w)) refl
 
-        limit : (s : Store) (k : Kept) → Possible d s k → (b : Bool) → nat_lt file.attributes.links link_limit ≡
+        limit : (s : Store) (k : StoreMeaning) → Possible d s k → (b : Bool) → nat_lt file.attributes.links link_limit ≡
             b →
             holding (nat_lt (links_of k.state file.number (content_at k.state file.number)) link_limit)
             status.TooManyLinks ≡ holding b status.TooManyLinks
         limit s k w b is = ap (λ b. holding b status.TooManyLinks)
             (ap (λ l. nat_lt l link_limit) (sym (ap (λ (z : Attributes). z.links) (names s k w).known.shows)) ∙ is)
 
-        pub many-end : nat_lt file.attributes.links link_limit ≡ false → (s : Store) (k : Kept) →
+        pub many-end : nat_lt file.attributes.links link_limit ≡ false → (s : Store) (k : StoreMeaning) →
             Possible d s k → IsLinkEnd d.ctx a k.state (Err status.TooManyLinks)
         many-end many s k w = counted s k w ∙ failed _ (limit s k w false many)
 
         module _ (few : nat_lt file.attributes.links link_limit ≡ true) where
-          abbrev last : Kept → ℕ
+          abbrev last : StoreMeaning → ℕ
           last k = last_cookie_of (content_at k.state x.number)
 
-          roomy : (s : Store) (k : Kept) → Possible d s k → link_end k.state d.ctx a ≡ room k.state
+          roomy : (s : Store) (k : StoreMeaning) → Possible d s k → link_end k.state d.ctx a ≡ room k.state
               (listed (content_at k.state x.number))
           roomy s k w = counted s k w ∙ passed _ (limit s k w true few) refl
 
-          pub full-end : Knows d (λ k. new_cookie (last k) ≡ None) → (s : Store) (k : Kept) → Possible d s k →
+          pub full-end : Knows d (λ k. new_cookie (last k) ≡ None) → (s : Store) (k : StoreMeaning) → Possible d s k →
               IsLinkEnd d.ctx a k.state (Err status.NoSpace)
           full-end none s k w = roomy s k w ∙ failed _ (no-cookie (nat_lt (last k + 1) (2 ^ 64)) _ status.NoSpace
               (none s k w))
@@ -180,17 +180,18 @@ module _ (d : DraftValue) (a : LinkArguments) (file x : Known) (names : Knows d 
               (turns : Turns d new (link_gained (time_of d.ctx.moment) x.number x.attributes.links
               (record { name = a.place.name; number = file.number; cookie = cookie })
               (file.attributes.links + 1))) where
-            free-cookie : (s : Store) (k : Kept) → Possible d s k →
+            free-cookie : (s : Store) (k : StoreMeaning) → Possible d s k →
                 (holding (nat_lt (last k + 1) (2 ^ 64)) status.NoSpace ≡ Ok tt) × (last k + 1 ≡ cookie)
             free-cookie s k w = a-cookie (nat_lt (last k + 1) (2 ^ 64)) (last k + 1) cookie status.NoSpace (next s k w)
 
-            has-entries : (s : Store) (k : Kept) → Possible d s k → entries_in (content_at k.state x.number) ≡ Ok
+            has-entries : (s : Store) (k : StoreMeaning) → Possible d s k
+                → entries_in (content_at k.state x.number) ≡ Ok
                 (listed (content_at k.state x.number))
             has-entries s k w = directory-listed (content_at k.state x.number)
                 (kind-is k.state x (above s k w).known ∙ ap (λ (z : Known). z.attributes.kind) (sym known)
                 ∙ directory.kind)
 
-            abbrev op : ℕ → Kept → Kept
+            abbrev op : ℕ → StoreMeaning → StoreMeaning
             op cookie = link_gained (time_of d.ctx.moment) x.number x.attributes.links
                 (record { name = a.place.name; number = file.number; cookie = cookie }) (file.attributes.links + 1)
 

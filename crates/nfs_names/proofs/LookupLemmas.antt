@@ -4,7 +4,7 @@ use Rattle.std.specs.FinMap.{get}
 use Rattle.std.specs.Prelude.{ok_or}
 use Rattle.nfs_wire.specs.declared.attributes.Attributes.{Attributes}
 use Rattle.nfs_wire.specs.declared.calls.NfsCall.TheVariants as nfs
-use Rattle.nfs_wire.specs.declared.calls.Place.{Place}
+use Rattle.nfs_wire.specs.declared.calls.DirOp.{DirOp}
 use Rattle.nfs_wire.specs.declared.replies.Found.{Found}
 use Rattle.nfs_wire.specs.declared.replies.NfsReply.TheVariants as replies
 use Rattle.nfs_wire.specs.declared.status.NfsStatus.{NfsStatus}
@@ -23,13 +23,13 @@ use Rattle.nfs_objects.proofs.PromiseLemmas.{promised-unchanged}
 use Rattle.nfs_objects.specs.Begins.{Begins}
 use Rattle.nfs_objects.specs.Knows.{Knows, Possible}
 use Rattle.nfs_objects.specs.Promise.{Given, Held, IsPromised}
-use Rattle.nfs_objects.specs.Stands.{Kept}
+use Rattle.nfs_objects.specs.Stands.{StoreMeaning}
 use Rattle.nfs_objects.specs.Store.{Store}
 use Rattle.nfs_objects.specs.Values.{DraftValue, done_value}
 use Rattle.nfs_inodes.proofs.StandsLemmas.{kind-is}
 use Rattle.nfs_inodes.specs.Known.{IsKnown, IsObject, Means, content_at, entries_found, object_at, shell}
 use Rattle.nfs_inodes.specs.declared.found.Known.{Known}
-use Rattle.nfs_inodes.specs.declared.kinds.Directory.{Directory}
+use Rattle.nfs_inodes.specs.declared.kinds.KnownDirectory.{KnownDirectory}
 use Rattle.nfs_names.specs.Checking.{ComesTo}
 use Rattle.nfs_names.specs.Lookup.{found_in, found_under, searched}
 
@@ -43,16 +43,16 @@ module _ (d : DraftValue) (x : Known) (name : List ℕ) (known : Knows d (λ k. 
   Finds found = Knows d (λ k. found_in k d.ctx x name ≡ found)
 
   -- the checks decide, or the rest
-  found-is : (checked : Result Directory NfsStatus) → ComesTo (searched d.ctx name) x checked →
-      (s : Store) (k : Kept) → Possible d s k → found_in k d.ctx x name ≡ entries_found
+  found-is : (checked : Result KnownDirectory NfsStatus) → ComesTo (searched d.ctx name) x checked →
+      (s : Store) (k : StoreMeaning) → Possible d s k → found_in k d.ctx x name ≡ entries_found
       (content_at k.state x.number) (found_under k.state d.ctx x.number (k.parents x.number) name) checked
   found-is checked comes s k w = comes (content_at k.state x.number)
       (found_under k.state d.ctx x.number (k.parents x.number) name) (kind-is k.state x (known s k w))
 
-  pub check-refused : (e : NfsStatus) → ComesTo {B = Directory} (searched d.ctx name) x (Err e) → Finds (Err e)
+  pub check-refused : (e : NfsStatus) → ComesTo {B = KnownDirectory} (searched d.ctx name) x (Err e) → Finds (Err e)
   check-refused e comes = found-is (Err e) comes
 
-  module _ (directory : Directory) (comes : ComesTo (searched d.ctx name) x (Ok directory)) where
+  module _ (directory : KnownDirectory) (comes : ComesTo (searched d.ctx name) x (Ok directory)) where
     abbrev LeadsTo : Result ℕ NfsStatus → Type 0
     LeadsTo number = Knows d (λ k.
         leads_to x.number (k.parents x.number) (entries_of (content_at k.state x.number)) name ≡ number)
@@ -80,7 +80,7 @@ module _ (d : DraftValue) (x : Known) (name : List ℕ) (known : Knows d (λ k. 
           ∙ ap (λ a. Ok (record { object = handle; attributes = Some a })) (sym ((there s k w).1).shows)))
 
 -- ---- the reply
-module _ (d : DraftValue) (place : Place) (begins : Begins (calls.Nfs (nfs.Lookup place)) d)
+module _ (d : DraftValue) (place : DirOp) (begins : Begins (calls.Nfs (nfs.Lookup place)) d)
     (held : Held d.view d.writes) (given : Given d.view d.writes) where
   lookup-step : (m : State) (parent : ℕ) (attributes : Option Attributes) (result : Result Found NfsStatus) →
       IsParentOf m d.ctx place.directory parent → shown m (resolve m d.ctx place.directory) ≡ attributes →

@@ -10,7 +10,7 @@ use Rattle.nfs_wire.specs.declared.attributes.FileType.TheVariants as types
 use Rattle.nfs_wire.specs.declared.attributes.Time.{Time}
 use Rattle.nfs_wire.specs.declared.attributes.Wcc.{Wcc}
 use Rattle.nfs_wire.specs.declared.calls.NfsCall.{NfsCall}
-use Rattle.nfs_wire.specs.declared.calls.Place.{Place}
+use Rattle.nfs_wire.specs.declared.calls.DirOp.{DirOp}
 use Rattle.nfs_wire.specs.declared.replies.Made.{Made}
 use Rattle.nfs_wire.specs.declared.replies.MadeReply.{MadeReply}
 use Rattle.nfs_wire.specs.declared.replies.NfsReply.{NfsReply}
@@ -43,12 +43,12 @@ use Rattle.nfs_objects.specs.Begins.{Begins}
 use Rattle.nfs_objects.specs.Knows.{Does, Knows, Possible, Turns, ending}
 use Rattle.nfs_objects.specs.Promise.{Given, Held, IsPromised}
 use Rattle.nfs_objects.specs.Sound.{Sound}
-use Rattle.nfs_objects.specs.Stands.{Kept}
+use Rattle.nfs_objects.specs.Stands.{StoreMeaning}
 use Rattle.nfs_objects.specs.Store.{Store}
 use Rattle.nfs_objects.specs.Values.{DraftValue, done_value}
 use Rattle.nfs_objects.specs.declared.address.Addr.{Addr}
 use Rattle.nfs_objects.specs.declared.address.Addr.TheVariants as addresses
-use Rattle.nfs_objects.specs.declared.change.Halt.{Halt}
+use Rattle.nfs_objects.specs.declared.change.Missing.{Missing}
 use Rattle.nfs_objects.specs.declared.view.Reserved.{Reserved}
 use Rattle.nfs_inodes.proofs.UsageChangeLemmas.{among-brought}
 use Rattle.nfs_inodes.proofs.ReaderHaltLemmas.{lives-stops, stops-before}
@@ -61,9 +61,9 @@ use Rattle.nfs_inodes.specs.Known.{listed, new_cookie, object_at, shell, weak_of
 use Rattle.nfs_inodes.specs.Makes.{IsFree, made_under}
 use Rattle.nfs_inodes.specs.Stops.{IsOfExport, StopsAt, StopsMaking, brought_by}
 use Rattle.nfs_inodes.specs.declared.found.Known.{Known}
-use Rattle.nfs_inodes.specs.declared.making.NewContent.{NewContent}
-use Rattle.nfs_inodes.specs.declared.making.NewContent.TheVariants as contents
-use Rattle.nfs_inodes.specs.declared.making.Wanted as rust
+use Rattle.nfs_inodes.specs.declared.new_objects.NewContent.{NewContent}
+use Rattle.nfs_inodes.specs.declared.new_objects.NewContent.TheVariants as contents
+use Rattle.nfs_inodes.specs.declared.new_objects.Wanted as rust
 use Rattle.nfs_names.proofs.NameGrowsLemmas.{next-added}
 use Rattle.nfs_names.proofs.LookupLemmas.{lives-at}
 use Rattle.nfs_names.specs.Checking.{ComesTo}
@@ -73,7 +73,7 @@ use Rattle.nfs_names.specs.declared.make.Accepted.{Accepted}
 
 -- ---- a new name
 -- what it asks for by a directory and a name that are these, the call may ask for that brings both
-pub new-stops : (d : DraftValue) (place : Place) (x known : Known) (name : List ℕ) (halt : Halt) → x ≡ known →
+pub new-stops : (d : DraftValue) (place : DirOp) (x known : Known) (name : List ℕ) (halt : Missing) → x ≡ known →
     name ≡ place.name → IsOfExport place.directory known.export → HasNumber place.directory known.number →
     StopsMaking d (usages_of x.export 64 ++ next_places d.view x.number name) halt →
     StopsMaking d (brought_by d.view place.directory ++ added_at d.view place) halt
@@ -94,7 +94,7 @@ new-stops d place x known name halt same named usage number stops =
 abbrev number_of : Option Entry → Option ℕ
 number_of = option_map (λ (e : Entry). e.number)
 
-module _ (d : DraftValue) (place : Place) (asked : Result Wanted NfsStatus) (there : ThereEnd) (x : Known)
+module _ (d : DraftValue) (place : DirOp) (asked : Result Wanted NfsStatus) (there : ThereEnd) (x : Known)
     (names : Knows d (λ k. Names d.ctx place.directory k x)) (exports : List LivingExport)
     (lists : Knows d (λ k. k.state.exports ≡ exports)) where
   abbrev whole : State → Choice → MakeEnd
@@ -129,7 +129,7 @@ module _ (d : DraftValue) (place : Place) (asked : Result Wanted NfsStatus) (the
       at_entry m choice links wanted entries (entry_of entries.list place.name)
 
   -- what is asked for decides with the checks of the directory
-  split : (k : Kept) (choice : Choice) → Names d.ctx place.directory k x → (a : Result Wanted NfsStatus) →
+  split : (k : StoreMeaning) (choice : Choice) → Names d.ctx place.directory k x → (a : Result Wanted NfsStatus) →
       make_end k.state d.ctx choice place a (there k.state)
       ≡ add_checked k.state.exports d.ctx place.name a (object_at k.state x)
       (rest k.state choice (attributes_of k.state x.number (object_at k.state x)).links a)
@@ -137,7 +137,7 @@ module _ (d : DraftValue) (place : Place) (asked : Result Wanted NfsStatus) (the
   split k choice is (Err e) = passed _ is.names refl
 
   comes : (checked : Result Accepted NfsStatus) → ComesTo (add_checked exports d.ctx place.name asked) x checked →
-      (s : Store) (k : Kept) → Possible d s k → (choice : Choice) → whole k.state choice
+      (s : Store) (k : StoreMeaning) → Possible d s k → (choice : Choice) → whole k.state choice
       ≡ entries_found (content_at k.state x.number) (rest k.state choice x.attributes.links asked) checked
   comes checked passes s k w choice =
       let is = names s k w in
@@ -151,17 +151,17 @@ module _ (d : DraftValue) (place : Place) (asked : Result Wanted NfsStatus) (the
 
   pub refused-end : (e : NfsStatus) →
       ComesTo {B = Accepted} (add_checked exports d.ctx place.name asked) x (Err e) →
-      (s : Store) (k : Kept) → Possible d s k → IsMakeEnd d.ctx place asked there k.state (Err e)
+      (s : Store) (k : StoreMeaning) → Possible d s k → IsMakeEnd d.ctx place asked there k.state (Err e)
   refused-end e refuses s k w = inl (comes (Err e) refuses s k w)
 
   module _ (accepted : Accepted) (passes : ComesTo (add_checked exports d.ctx place.name asked) x (Ok accepted))
       (wanted : Wanted) (is_asked : asked ≡ Ok wanted)
-      (new : DraftValue) (r : Result (Result Made NfsStatus) Halt) where
+      (new : DraftValue) (r : Result (Result Made NfsStatus) Missing) where
     abbrev LeadsTo : Option ℕ → Type 0
     LeadsTo number = Knows d (λ k.
         number_of (entry_of (entries_of (content_at k.state x.number)) place.name) ≡ number)
 
-    leads : (number : Option ℕ) → LeadsTo number → (s : Store) (k : Kept) → Possible d s k →
+    leads : (number : Option ℕ) → LeadsTo number → (s : Store) (k : StoreMeaning) → Possible d s k →
         (choice : Choice) → whole k.state choice ≡
         at_number k.state choice x.attributes.links wanted (listed (content_at k.state x.number)) number
     leads number to s k w choice =
@@ -171,7 +171,7 @@ module _ (d : DraftValue) (place : Place) (asked : Result Wanted NfsStatus) (the
         ∙ passed _ is_asked (by-number k.state choice x.attributes.links wanted entries found
         ∙ ap (at_number k.state choice x.attributes.links wanted entries) (to s k w))
 
-    abbrev DoesOr : (Halt → Type 0) → (State → MakeEnd → Type 0) → Type 0
+    abbrev DoesOr : (Missing → Type 0) → (State → MakeEnd → Type 0) → Type 0
     DoesOr Stop IsEnd = MatchResult r (Does d new IsEnd) Stop
 
     abbrev brought : List Addr
@@ -180,8 +180,8 @@ module _ (d : DraftValue) (place : Place) (asked : Result Wanted NfsStatus) (the
     abbrev Made_in : Type 0
     Made_in = MatchResult r (Does d new (IsMakeEnd d.ctx place asked there)) (StopsMaking d brought)
 
-    ends-so : (Stop : Halt → Type 0) → ((halt : Halt) → Stop halt → StopsMaking d brought halt) →
-        (IsEnd : State → MakeEnd → Type 0) → ((s : Store) (k : Kept) → Possible d s k →
+    ends-so : (Stop : Missing → Type 0) → ((halt : Missing) → Stop halt → StopsMaking d brought halt) →
+        (IsEnd : State → MakeEnd → Type 0) → ((s : Store) (k : StoreMeaning) → Possible d s k →
         (end : MakeEnd) → IsEnd k.state end → IsMakeEnd d.ctx place asked there k.state end) →
         DoesOr Stop IsEnd → Made_in
     ends-so Stop stops IsEnd means = elim r as (λ q. MatchResult q (Does d new IsEnd) Stop →
@@ -209,11 +209,11 @@ module _ (d : DraftValue) (place : Place) (asked : Result Wanted NfsStatus) (the
         ])
 
 -- ---- of a new object, the same of another directory and name that are these
-abbrev pub MakesNew : (d new : DraftValue) → Result (Result Made NfsStatus) Halt → Wanted → Known → List ℕ → Type 0
+abbrev pub MakesNew : (d new : DraftValue) → Result (Result Made NfsStatus) Missing → Wanted → Known → List ℕ → Type 0
 MakesNew d new r wanted x name = MatchResult r (Does d new (IsNewEnd d.ctx wanted x name))
     (StopsMaking d (usages_of x.export 64 ++ next_places d.view x.number name))
 
-pub new-as : (d new : DraftValue) (r : Result (Result Made NfsStatus) Halt) (wanted : Wanted) (x y : Known)
+pub new-as : (d new : DraftValue) (r : Result (Result Made NfsStatus) Missing) (wanted : Wanted) (x y : Known)
     (name other : List ℕ) → x ≡ y → name ≡ other → MakesNew d new r wanted x name → MakesNew d new r wanted y other
 new-as d new r wanted x y name other same named makes =
     subst (λ n. MakesNew d new r wanted y n) named (subst (λ (z : Known). MakesNew d new r wanted z name) same makes)
@@ -313,14 +313,14 @@ module _ (d : DraftValue) (asked : rust.Wanted) (x : Known) (name : List ℕ) wh
   given = given_attributes d.ctx wanted.attributes
 
   pub not-given : (e : NfsStatus) → Err e ≡ (kind >>= λ _. given) →
-      (s : Store) (k : Kept) → Possible d s k → IsNewEnd d.ctx wanted x name k.state (Err e)
+      (s : Store) (k : StoreMeaning) → Possible d s k → IsNewEnd d.ctx wanted x name k.state (Err e)
   not-given e judged s k w = inl (λ choice. one-fails kind given e _ judged)
 
   module _ (judged : Ok tt ≡ (kind >>= λ _. given)) where
-    abbrev last : Kept → ℕ
+    abbrev last : StoreMeaning → ℕ
     last k = last_cookie_of (content_at k.state x.number)
 
-    pub no-space : Knows d (λ k. new_cookie (last k) ≡ None) → (s : Store) (k : Kept) → Possible d s k →
+    pub no-space : Knows d (λ k. new_cookie (last k) ≡ None) → (s : Store) (k : StoreMeaning) → Possible d s k →
         IsNewEnd d.ctx wanted x name k.state (Err status.NoSpace)
     no-space none s k w = let both = both-pass kind given judged in inl (λ choice. passed _ both.0
         (passed _ both.1 (failed _ (no-cookie (nat_lt (last k + 1) (2 ^ 64)) _ status.NoSpace (none s k w)))))
@@ -335,32 +335,32 @@ module _ (d : DraftValue) (asked : rust.Wanted) (x : Known) (name : List ℕ) wh
       abbrev object : Living
       object = new_object d.ctx x.export r.generation wanted
 
-      abbrev op : (cookie : ℕ) → Kept → Kept
+      abbrev op : (cookie : ℕ) → StoreMeaning → StoreMeaning
       op cookie k = made_under (now_of d) x.number x.attributes.links cookie name r object k
 
-      abbrev entries : Kept → List Entry
+      abbrev entries : StoreMeaning → List Entry
       entries k = entries_of (content_at k.state x.number)
 
-      room : (s : Store) (k : Kept) → Possible d s k →
+      room : (s : Store) (k : StoreMeaning) → Possible d s k →
           (holding (nat_lt (last k + 1) (2 ^ 64)) status.NoSpace ≡ Ok tt) × (last k + 1 ≡ cookie)
       room s k w = a-cookie (nat_lt (last k + 1) (2 ^ 64)) (last k + 1) cookie status.NoSpace (next s k w)
 
-      abbrev widened : Kept → State
+      abbrev widened : StoreMeaning → State
       widened k = with_object k.state x.number
           (with_content (object_at k.state x) (now_of d) (with_entry (entries k) (last k) name r.number))
 
-      abbrev after : Kept → State
+      abbrev after : StoreMeaning → State
       after k = record (with_object (widened k) r.number object) { spent = (choice-of k.state r).spent }
 
-      has-entries : (s : Store) (k : Kept) → Possible d s k →
+      has-entries : (s : Store) (k : StoreMeaning) → Possible d s k →
           entries_in (content_at k.state x.number) ≡ Ok (listed (content_at k.state x.number))
       has-entries s k w = directory-listed (content_at k.state x.number)
           (kind-is k.state x (known s k w) ∙ is_directory)
 
-      is-absent : (s : Store) (k : Kept) → Possible d s k → entry_of (entries k) name ≡ None
+      is-absent : (s : Store) (k : StoreMeaning) → Possible d s k → entry_of (entries k) name ≡ None
       is-absent s k w = no-number _ (absent s k w)
 
-      op-sound : (s : Store) (k : Kept) → Possible d s k → WellFormed k.state → Sound (op cookie k)
+      op-sound : (s : Store) (k : StoreMeaning) → Possible d s k → WellFormed k.state → Sound (op cookie k)
       op-sound s k w formed =
           subst (λ c. Sound (op c k)) (room s k w).1
           (made-sound k x (known s k w) (now_of d) name r object (entries k) (last k) (has-entries s k w)
@@ -368,12 +368,12 @@ module _ (d : DraftValue) (asked : rust.Wanted) (x : Known) (name : List ℕ) wh
           (room-of d.ctx x.attributes.links wanted.content (both-pass kind given judged).0) formed w.sound
           (subst (λ c. AllFit (op c k).state) (sym (room s k w).1) (turned-fit d new (op cookie) turns s k w)))
 
-      after-is : (s : Store) (k : Kept) → Possible d s k → after k ≡ (op cookie k).state
-      after-is s k w = sym (ap (λ (q : Kept). q.state)
+      after-is : (s : Store) (k : StoreMeaning) → Possible d s k → after k ≡ (op cookie k).state
+      after-is s k w = sym (ap (λ (q : StoreMeaning). q.state)
           (made-is k x (known s k w) (now_of d) name r object (entries k) (last k) (has-entries s k w)
           (is-absent s k w))) ∙ ap (λ c. (op c k).state) (room s k w).1
 
-      answer-is : (s : Store) (k : Kept) → Possible d s k → WellFormed k.state →
+      answer-is : (s : Store) (k : StoreMeaning) → Possible d s k → WellFormed k.state →
           made (after k) d.ctx r.number object ≡ told
       answer-is s k w formed =
           sym (tells s (op cookie k) (possible-after d new (op cookie) turns s k w (op-sound s k w formed))
@@ -396,39 +396,42 @@ module _ (d : DraftValue) (asked : rust.Wanted) (x : Known) (name : List ℕ) wh
       }
 
 -- ---- how it halts
-pub later-stops : (old new : DraftValue) (op : Kept → Kept) (n : ℕ) (halt : Halt) → Turns old new op →
+pub later-stops : (old new : DraftValue) (op : StoreMeaning → StoreMeaning) (n : ℕ) (halt : Missing)
+    → Turns old new op →
     IsThere old.view (addresses.Inode n) → StopsAt new (addresses_of new.view n) halt → StopsAt old [] halt
 later-stops old new op n halt turns lives stops =
     lives-stops old n halt lives (stops-before old new op (λ view. addresses_of view n) halt turns stops)
 
 -- a call that makes an object may read one that lives
-pub lives-making : (d : DraftValue) (n : ℕ) (asked : List Addr) (halt : Halt) → IsThere d.view (addresses.Inode n) →
+pub lives-making : (d : DraftValue) (n : ℕ) (asked : List Addr) (halt : Missing) → IsThere d.view (addresses.Inode n) →
     StopsAt d (addresses_of d.view n) halt → StopsMaking d asked halt
 lives-making d n asked halt lives stops =
     stops-wider d.modes (addresses_of d.view n) asked 1 d.view halt (inr lives, tt) stops
 
 -- and what some may ask for may be asked for by who names them first
-pub front-making : (d : DraftValue) (few more : List Addr) (halt : Halt) → StopsAt d few halt →
+pub front-making : (d : DraftValue) (few more : List Addr) (halt : Missing) → StopsAt d few halt →
     StopsMaking d (few ++ more) halt
 front-making d few more halt stops =
     stops-wider d.modes few (few ++ more) 1 d.view halt
     (covers-among few (few ++ more) d.view (λ a among. among-front few more a among)) stops
 
 -- what it knows it may read after a change
-pub knows-making : (old new : DraftValue) (op : Kept → Kept) (asked : List Addr) (halt : Halt) → Turns old new op →
+pub knows-making : (old new : DraftValue) (op : StoreMeaning → StoreMeaning) (asked : List Addr) (halt : Missing)
+    → Turns old new op →
     StopsAt new [] halt → StopsMaking old asked halt
 knows-making old new op asked halt turns stops =
     stops-wider old.modes [] asked 1 old.view halt tt (stops-before old new op (λ view. []) halt turns stops)
 
 -- an object that lives may be read after it
-pub bringing-stops : (old new : DraftValue) (op : Kept → Kept) (asked : List Addr) (n : ℕ) (halt : Halt) →
+pub bringing-stops : (old new : DraftValue) (op : StoreMeaning → StoreMeaning) (asked : List Addr) (n : ℕ)
+    (halt : Missing) →
     Turns old new op → IsThere old.view (addresses.Inode n) → StopsAt new (addresses_of new.view n) halt →
     StopsMaking old asked halt
 bringing-stops old new op asked n halt turns lives stops =
     lives-making old n asked halt lives (stops-before old new op (λ view. addresses_of view n) halt turns stops)
 
 -- ---- the reply
-module _ (place : Place) (asked : Result Wanted NfsStatus) (there : ThereEnd) where
+module _ (place : DirOp) (asked : Result Wanted NfsStatus) (there : ThereEnd) where
   module _ (ctx : Ctx) (m after : State) (shown : Wcc) (result : Result Made NfsStatus) (end : MakeEnd)
       (is : after ≡ state_after m end) (shows : shown ≡ wcc (state_after m end) (resolve m ctx place.directory))
       (tells : answer_of end ≡ result) (reply_of : MadeReply → NfsReply) where

@@ -2,7 +2,7 @@
 use Rattle.std.proofs.Common.{◌≡◌, ℕ, suc, List, [], ◌∷◌, ◌++◌, Option, Some, None, option_map, inl, inr, refl, sym}
 use Rattle.std.proofs.Common.{◌∙◌, ap, subst}
 use Rattle.nfs_wire.specs.declared.attributes.FileType.{FileType}
-use Rattle.nfs_wire.specs.declared.calls.Place.{Place}
+use Rattle.nfs_wire.specs.declared.calls.DirOp.{DirOp}
 use Rattle.nfs_machine.specs.Handles.{handle_of}
 use Rattle.nfs_machine.specs.declared.handle.Handle.{Handle}
 use Rattle.nfs_objects.proofs.StandsInExportLemmas.{inode-stands}
@@ -12,11 +12,11 @@ use Rattle.nfs_objects.proofs.PromiseLemmas.{turns-none}
 use Rattle.nfs_objects.specs.Asks.{IsThere}
 use Rattle.nfs_objects.specs.Calls.{IsAmong, added_at, addresses_of, header_shown, next_places, places_for, usages_of}
 use Rattle.nfs_objects.specs.Knows.{Turns}
-use Rattle.nfs_objects.specs.Stands.{Kept, exports_of, header_in, header_of, inode_in}
+use Rattle.nfs_objects.specs.Stands.{StoreMeaning, exports_of, header_in, header_of, inode_in}
 use Rattle.nfs_objects.specs.Values.{DraftValue, ViewValue, known_at, shown_at, written_at}
 use Rattle.nfs_objects.specs.declared.address.Addr.{Addr}
 use Rattle.nfs_objects.specs.declared.address.Addr.TheVariants as addresses
-use Rattle.nfs_objects.specs.declared.change.Halt.{Halt}
+use Rattle.nfs_objects.specs.declared.change.Missing.{Missing}
 use Rattle.nfs_objects.specs.declared.directory.Directory.{Directory}
 use Rattle.nfs_objects.specs.declared.object.Inode.{Inode}
 use Rattle.nfs_objects.specs.declared.object.Object.{Object}
@@ -104,7 +104,7 @@ module _ (d mid : DraftValue) (n : ℕ) (kind : FileType) (name : List ℕ) (coo
   grown-covers lives = (inr lives, places (header_at mid n) refl)
 
 -- so it is named by who brings the directory's handle with the name
-pub next-added : (view : ViewValue) (place : Place) (n : ℕ) → HasNumber place.directory n → (a : Addr) →
+pub next-added : (view : ViewValue) (place : DirOp) (n : ℕ) → HasNumber place.directory n → (a : Addr) →
     IsAmong (next_places view n place.name) a → IsAmong (added_at view place) a
 next-added view place n has a among = by (handle_of place.directory) has
   where
@@ -115,7 +115,7 @@ next-added view place n has a among = by (handle_of place.directory) has
         let same : h.fileid ≡ n = cc in
         subst (λ m. IsAmong (next_places view m place.name) a) (sym same) among
 
-pub covers-added : (view : ViewValue) (place : Place) (n : ℕ) (few : List Addr) → HasNumber place.directory n →
+pub covers-added : (view : ViewValue) (place : DirOp) (n : ℕ) (few : List Addr) → HasNumber place.directory n →
     Covers (next_places view n place.name) view few → Covers (added_at view place) view few
 covers-added view place n [] has covers = tt
 covers-added view place n (a ∷ few) has covers = (
@@ -132,7 +132,7 @@ covers-behind named more view (a ∷ few) covers = (
 )
 
 -- an object that is made may ask for where its name goes and for what all groups use
-pub grown-making : (d : DraftValue) (n : ℕ) (kind : FileType) (name : List ℕ) (cookie export : ℕ) (halt : Halt) →
+pub grown-making : (d : DraftValue) (n : ℕ) (kind : FileType) (name : List ℕ) (cookie export : ℕ) (halt : Missing) →
     d.writes ≡ [] → kind_at d n ≡ Some kind → IsNextCookie d n cookie → IsThere d.view (addresses.Inode n) →
     StopsMaking d (grown_at d n name cookie ++ usages_of export 64) halt →
     StopsMaking d (usages_of export 64 ++ next_places d.view n name) halt
@@ -146,7 +146,7 @@ grown-making d n kind name cookie export halt none shown next lives stops =
     (λ a among. among-front (usages_of export 64) (next_places d.view n name) a among))) stops
 
 -- an object that gets one more name may ask for where it goes
-linking-stops : (d : DraftValue) (place : Place) (n : ℕ) (kind : FileType) (file cookie : ℕ) (halt : Halt) →
+linking-stops : (d : DraftValue) (place : DirOp) (n : ℕ) (kind : FileType) (file cookie : ℕ) (halt : Missing) →
     d.writes ≡ [] → kind_at d n ≡ Some kind → HasNumber place.directory n → IsNextCookie d n cookie →
     IsThere d.view (addresses.Inode n) → IsThere d.view (addresses.Inode file) →
     StopsAt d (grown_at d n place.name cookie ++ addresses_of d.view file) halt →
@@ -160,7 +160,7 @@ linking-stops d place n kind file cookie halt none shown has next lives there st
     (grown-covers d d n kind place.name cookie none shown refl next lives))) (inr there, tt)) stops
 
 -- the same of another directory and name that are these
-pub linking-as : (d : DraftValue) (place : Place) (x known : Known) (name : List ℕ) (file cookie : ℕ) (halt : Halt) →
+pub linking-as : (d : DraftValue) (place : DirOp) (x known : Known) (name : List ℕ) (file cookie : ℕ) (halt : Missing) →
     x ≡ known → name ≡ place.name → d.writes ≡ [] → IsShown d known → HasNumber place.directory known.number →
     IsNextCookie d known.number cookie → IsThere d.view (addresses.Inode known.number) →
     IsThere d.view (addresses.Inode file) →
@@ -172,8 +172,9 @@ linking-as d place x known name file cookie halt same named none shown has next 
     (subst (λ (z : Known). StopsAt d (grown_at d z.number name cookie ++ addresses_of d.view file) halt) same stops))
 
 -- a name that is given after changes that leave its directory's inode
-pub giving-stops : (d mid : DraftValue) (op : Kept → Kept) (place : Place) (n : ℕ) (kind : FileType) (cookie : ℕ)
-    (halt : Halt) → Turns d mid op → d.writes ≡ [] → kind_at d n ≡ Some kind →
+pub giving-stops : (d mid : DraftValue) (op : StoreMeaning → StoreMeaning) (place : DirOp) (n : ℕ) (kind : FileType)
+    (cookie : ℕ)
+    (halt : Missing) → Turns d mid op → d.writes ≡ [] → kind_at d n ≡ Some kind →
     known_at mid (addresses.Inode n) ≡ known_at d (addresses.Inode n) → HasNumber place.directory n →
     IsNextCookie d n cookie → IsThere d.view (addresses.Inode n) →
     StopsAt mid (grown_at mid n place.name cookie) halt → StopsAt d (added_at d.view place) halt
@@ -184,7 +185,7 @@ giving-stops d mid op place n kind cookie halt turns none shown stays has next l
     (turned-stops d mid op (grown_at mid n place.name cookie) 0 halt turns stops)
 
 -- the same of a directory and a name that are these
-pub giving-as : (d : DraftValue) (place : Place) (x known : Known) (name : List ℕ) (cookie : ℕ) (halt : Halt) →
+pub giving-as : (d : DraftValue) (place : DirOp) (x known : Known) (name : List ℕ) (cookie : ℕ) (halt : Missing) →
     x ≡ known → name ≡ place.name → d.writes ≡ [] → IsShown d known → HasNumber place.directory known.number →
     IsNextCookie d known.number cookie → IsThere d.view (addresses.Inode known.number) →
     StopsAt d (grown_at d x.number name cookie) halt → StopsAt d (added_at d.view place) halt

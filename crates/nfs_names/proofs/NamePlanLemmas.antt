@@ -20,8 +20,8 @@ use Rattle.nfs_objects.specs.Modes.{held_mode, modes_of}
 use Rattle.nfs_objects.specs.Values.{DraftValue, ViewValue, known_at, new_draft}
 use Rattle.nfs_objects.specs.declared.address.Addr.{Addr}
 use Rattle.nfs_objects.specs.declared.address.Addr.TheVariants as addresses
-use Rattle.nfs_objects.specs.declared.change.Halt.{Halt}
-use Rattle.nfs_objects.specs.declared.change.Halt.TheVariants as halts
+use Rattle.nfs_objects.specs.declared.change.Missing.{Missing}
+use Rattle.nfs_objects.specs.declared.change.Missing.TheVariants as halts
 use Rattle.nfs_objects.specs.declared.modes.Mode.{Mode}
 use Rattle.nfs_inodes.proofs.NamedHaltLemmas.{asking}
 use Rattle.nfs_inodes.proofs.ReaderHaltLemmas.{halts-as}
@@ -83,7 +83,7 @@ wishes-wanted d asked asks call =
 
 -- ---- what it asks for last
 -- who may ask for no more than the call names may halt so
-pub asks-ended : {A : Type 0} (call : Call) (d : DraftValue) (few : List Addr) (r : Result A Halt) → Begins call d →
+pub asks-ended : {A : Type 0} (call : Call) (d : DraftValue) (few : List Addr) (r : Result A Missing) → Begins call d →
     Covers (named_by call d.view) d.view few → IfErr r (StopsAt d few) → IfErr r (MayHalt call d)
 asks-ended call d few r begins covers =
     halts-as (StopsAt d few) (MayHalt call d) r (λ halt. asking d call halt begins few covers)

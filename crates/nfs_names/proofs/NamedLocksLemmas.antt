@@ -3,7 +3,7 @@ use Rattle.std.proofs.Common.{◌≡◌, ℕ, List, [], ◌∷◌, ◌++◌, Opt
 use Rattle.std.proofs.Common.{refl, sym, ap, subst, ◌∙◌}
 use Rattle.std.specs.Prelude.{IfOk, IfSome, MatchResult}
 use Rattle.nfs_wire.specs.declared.calls.NfsCall.TheVariants as nfs
-use Rattle.nfs_wire.specs.declared.calls.Place.{Place}
+use Rattle.nfs_wire.specs.declared.calls.DirOp.{DirOp}
 use Rattle.nfs_wire.specs.declared.calls.RenameArguments.{RenameArguments}
 use Rattle.nfs_wire.specs.declared.status.NfsStatus.{NfsStatus}
 use Rattle.nfs_machine.specs.Handles.{handle_of}
@@ -17,7 +17,7 @@ use Rattle.nfs_objects.specs.Modes.{led_at}
 use Rattle.nfs_objects.specs.Values.{DraftValue, ViewValue}
 use Rattle.nfs_objects.specs.declared.address.Addr.{Addr}
 use Rattle.nfs_objects.specs.declared.address.Addr.TheVariants as addresses
-use Rattle.nfs_objects.specs.declared.change.Halt.{Halt}
+use Rattle.nfs_objects.specs.declared.change.Missing.{Missing}
 use Rattle.nfs_inodes.proofs.MakerChainLemmas.{group-lives}
 use Rattle.nfs_inodes.specs.Known.{HasNumber}
 use Rattle.nfs_inodes.specs.Stops.{StopsAt, UsageLives, counted_at, group_at, inode_at}
@@ -28,7 +28,7 @@ use Rattle.nfs_names.specs.declared.remove.Taking.{Taking}
 use Rattle.nfs_names.specs.declared.remove.Taking.TheVariants.{Remove, Rmdir}
 
 -- ---- what a name leads to, as the view shows it
-module _ (view : ViewValue) (place : Place) (n : ℕ) (has : HasNumber place.directory n) where
+module _ (view : ViewValue) (place : DirOp) (n : ℕ) (has : HasNumber place.directory n) where
   abbrev locks_led : Option ℕ → List Addr
   locks_led led = elim led [ None ↦ [] | Some number ↦ locks_at number ]
 
@@ -61,7 +61,7 @@ led-so view read directory bytes name found x same named is led =
     (subst (λ f. IfOk f (λ (y : Known). led_at view read.number bytes ≡ Some y.number)) is led))
 
 -- ---- how a call that takes a name away halts
-pub taking-names : (taking : Taking) (place : Place) (view : ViewValue) (a : Addr) →
+pub taking-names : (taking : Taking) (place : DirOp) (view : ViewValue) (a : Addr) →
     IsAmong (addresses.Exports ∷ locks_under view place) a → IsAmong (named_by (call_of taking place) view) a
 taking-names Remove place view a (inl same) = inl same
 taking-names Remove place view a (inr among) = names-lost (nfs.Remove place) view a among
@@ -69,7 +69,7 @@ taking-names Rmdir place view a (inl same) = inl same
 taking-names Rmdir place view a (inr among) = names-lost (nfs.Rmdir place) view a among
 
 -- two objects that live, and what the second has of locks
-pub both-stop-locked : (d : DraftValue) (n m : ℕ) (locks asked : List Addr) (halt : Halt) →
+pub both-stop-locked : (d : DraftValue) (n m : ℕ) (locks asked : List Addr) (halt : Missing) →
     IsThere d.view (addresses.Inode n) → IsThere d.view (addresses.Inode m) →
     ((a : Addr) → IsAmong locks a → IsAmong asked a) →
     StopsAt d (addresses_of d.view n ++ (addresses_of d.view m ++ locks)) halt → StopsAt d asked halt
@@ -92,7 +92,7 @@ rename-names view a n has o led b among =
     ]
 
 -- an object that lives, counted anew without its locks
-pub always-counting : {A : Type 0} (d : DraftValue) (n : ℕ) (P : A → Type 0) (r : Result A Halt) →
+pub always-counting : {A : Type 0} (d : DraftValue) (n : ℕ) (P : A → Type 0) (r : Result A Missing) →
     IsThere d.view (addresses.Inode n) → UsageLives d n →
     MatchResult r P (StopsAt d (counted_at d n ++ locks_at n)) → MatchResult r P (StopsAt d (locks_at n))
 always-counting d n P (Ok x) lives counts is = is
@@ -104,7 +104,7 @@ always-counting d n P (Err halt) lives counts stops =
     (covers-among (locks_at n) (locks_at n) d.view (λ a among. among))) stops
 
 -- a name that a directory loses, with an object that lives
-pub lost-stops : (d : DraftValue) (place n : ℕ) (all : List Addr) (halt : Halt) →
+pub lost-stops : (d : DraftValue) (place n : ℕ) (all : List Addr) (halt : Missing) →
     IsThere d.view (addresses.Inode place) → IsThere d.view (addresses.Inode n) → UsageLives d n →
     ((a : Addr) → IsAmong (locks_at n) a → IsAmong all a) →
     StopsAt d (addresses_of d.view place ++ (counted_at d n ++ locks_at n)) halt → StopsAt d all halt

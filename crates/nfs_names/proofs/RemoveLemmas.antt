@@ -4,7 +4,7 @@ use Rattle.std.proofs.Common.{option_map, Result, Ok, Err, refl, sym, ◌∙◌,
 use Rattle.std.specs.FinMap.{get}
 use Rattle.std.specs.Prelude.{ok_or}
 use Rattle.nfs_wire.specs.declared.attributes.Wcc.{Wcc}
-use Rattle.nfs_wire.specs.declared.calls.Place.{Place}
+use Rattle.nfs_wire.specs.declared.calls.DirOp.{DirOp}
 use Rattle.nfs_wire.specs.declared.replies.RemovedReply.{RemovedReply}
 use Rattle.nfs_wire.specs.declared.status.NfsStatus.{NfsStatus}
 use Rattle.nfs_wire.specs.declared.status.NfsStatus.TheVariants as status
@@ -30,11 +30,11 @@ use Rattle.nfs_objects.specs.Calls.{handles_of}
 use Rattle.nfs_objects.specs.Knows.{Does, Knows, Possible, Turns, ending}
 use Rattle.nfs_objects.specs.Modes.{changing, modes_of}
 use Rattle.nfs_objects.specs.Promise.{Given, Held, IsPromised}
-use Rattle.nfs_objects.specs.Stands.{Kept}
+use Rattle.nfs_objects.specs.Stands.{StoreMeaning}
 use Rattle.nfs_objects.specs.Store.{Store}
 use Rattle.nfs_objects.specs.Values.{DraftValue, ViewValue, done_value}
 use Rattle.nfs_objects.specs.declared.address.Addr.{Addr}
-use Rattle.nfs_objects.specs.declared.change.Halt.{Halt}
+use Rattle.nfs_objects.specs.declared.change.Missing.{Missing}
 use Rattle.nfs_objects.proofs.UsageSumLemmas.{turned-fit}
 use Rattle.nfs_inodes.proofs.NameLostLemmas.{lost-sound, lost-state}
 use Rattle.nfs_inodes.proofs.StandsLemmas.{directory-listed, kind-is}
@@ -42,7 +42,7 @@ use Rattle.nfs_inodes.specs.Known.{ChecksDirectory, IsKnown, IsObject, Means, Na
 use Rattle.nfs_inodes.specs.Known.{object_at, target, weak_of}
 use Rattle.nfs_inodes.specs.Removes.{name_lost}
 use Rattle.nfs_inodes.specs.declared.found.Known.{Known}
-use Rattle.nfs_inodes.specs.declared.kinds.Directory.{Directory as DirectoryKnown}
+use Rattle.nfs_inodes.specs.declared.kinds.KnownDirectory.{KnownDirectory as DirectoryKnown}
 use Rattle.nfs_names.proofs.LookupLemmas.{lives-at}
 use Rattle.nfs_names.specs.Checking.{ComesTo, names_checked}
 use Rattle.nfs_names.specs.Removes.{IsTakable, IsTakenEnd, above, call_of, judged, reply_of}
@@ -50,16 +50,16 @@ use Rattle.nfs_names.specs.declared.remove.Taking.{Taking}
 use Rattle.nfs_names.specs.declared.remove.Taking.TheVariants.{Remove, Rmdir}
 
 -- ---- both procedures alike
-pub alone : (taking : Taking) (place : Place) (d : DraftValue) → Begins (call_of taking place) d →
+pub alone : (taking : Taking) (place : DirOp) (d : DraftValue) → Begins (call_of taking place) d →
     d.modes ≡ changing
 alone Remove place d begins = begins.modes
 alone Rmdir place d begins = begins.modes
 
-pub names-directory : (taking : Taking) (place : Place) → handles_of (call_of taking place) ≡ place.directory ∷ []
+pub names-directory : (taking : Taking) (place : DirOp) → handles_of (call_of taking place) ≡ place.directory ∷ []
 names-directory Remove place = refl
 names-directory Rmdir place = refl
 
-wants : (taking : Taking) (place : Place) (view : ViewValue) → first_wanted_with view (place.directory ∷ []) ≡
+wants : (taking : Taking) (place : DirOp) (view : ViewValue) → first_wanted_with view (place.directory ∷ []) ≡
     first_wanted (call_of taking place) view
 wants Remove place view = refl
 wants Rmdir place view = refl
@@ -125,7 +125,7 @@ module _ (taking : Taking) (d : DraftValue) (number : ℕ) (name : List ℕ) whe
         (under-some k.state (entry k.state) n None (leads s k w) (none s k w)))
 
     module _ (x : Known) (there : Knows d (λ k. IsObject k.state n (Some x))) where
-      leads-to : (s : Store) (k : Kept) → Possible d s k → object_under k.state (entry k.state) ≡ Some
+      leads-to : (s : Store) (k : StoreMeaning) → Possible d s k → object_under k.state (entry k.state) ≡ Some
           (target k.state x)
       leads-to s k w = under-some k.state (entry k.state) n (Some (object_at k.state x)) (leads s k w)
           (lives-at k.state n x (there s k w))
@@ -138,7 +138,7 @@ module _ (taking : Taking) (d : DraftValue) (number : ℕ) (name : List ℕ) whe
       pub judged-good : Knows d (λ k. judged taking (content_at k.state x.number) ≡ Ok tt) → Judges (Ok x)
       judged-good is s k w = record { known = (there s k w).1; named = leads-to s k w; passes = is s k w }
 
-module _ (taking : Taking) (d : DraftValue) (place : Place) (x : Known)
+module _ (taking : Taking) (d : DraftValue) (place : DirOp) (x : Known)
     (names : Knows d (λ k. Names d.ctx place.directory k x))
     (exports : List LivingExport) (lists : Knows d (λ k. k.state.exports ≡ exports)) where
   abbrev TakenEnd : Type 0
@@ -159,7 +159,7 @@ module _ (taking : Taking) (d : DraftValue) (place : Place) (x : Known)
 
   comes : (checked : Result DirectoryKnown NfsStatus) →
       ComesTo (names_checked status.Invalid (above taking) exports d.ctx place.name) x checked →
-      (s : Store) (k : Kept) → Possible d s k →
+      (s : Store) (k : StoreMeaning) → Possible d s k →
       take_end k.state d.ctx place (plain_name_checked status.Invalid (above taking)) (judged taking) ≡ entries_found
       (content_at k.state x.number) (rest k.state) checked
   comes checked passes s k w = passed _ (names s k w).names
@@ -169,13 +169,13 @@ module _ (taking : Taking) (d : DraftValue) (place : Place) (x : Known)
 
   pub refused-end : (e : NfsStatus) →
       ComesTo {B = DirectoryKnown} (names_checked status.Invalid (above taking) exports d.ctx place.name) x (Err e) →
-      (s : Store) (k : Kept) → Possible d s k → IsTakenEnd taking d.ctx place k.state (Err e)
+      (s : Store) (k : StoreMeaning) → Possible d s k → IsTakenEnd taking d.ctx place k.state (Err e)
   refused-end e refuses s k w = comes (Err e) refuses s k w
 
   module _ (directory : DirectoryKnown) (known : directory.known ≡ x)
       (passes : ComesTo (names_checked status.Invalid (above taking) exports d.ctx place.name) x (Ok directory)) where
     pub untaken-end : (e : NfsStatus) → Knows d (λ k. IsTakable taking k.state x.number place.name (Err e)) →
-        (s : Store) (k : Kept) → Possible d s k → IsTakenEnd taking d.ctx place k.state (Err e)
+        (s : Store) (k : StoreMeaning) → Possible d s k → IsTakenEnd taking d.ctx place k.state (Err e)
     untaken-end e is s k w = comes (Ok directory) passes s k w
         ∙ both-failed (ok_or (object_under k.state (entry_of (entries_of (content_at k.state x.number)) place.name))
         status.NoEntry) (λ o. judged taking o.object.content)
@@ -184,7 +184,7 @@ module _ (taking : Taking) (d : DraftValue) (place : Place) (x : Known)
     module _ (y : Known) (takable : Knows d (λ k. IsTakable taking k.state x.number place.name (Ok y)))
         (new : DraftValue)
         (turns : Turns d new (name_lost (time_of d.ctx.moment) x.number place.name y)) where
-      has-entries : (s : Store) (k : Kept) → Possible d s k → entries_in (content_at k.state x.number) ≡ Ok
+      has-entries : (s : Store) (k : StoreMeaning) → Possible d s k → entries_in (content_at k.state x.number) ≡ Ok
           (listed (content_at k.state x.number))
       has-entries s k w = directory-listed (content_at k.state x.number)
           (kind-is k.state x (names s k w).known ∙ ap (λ (z : Known). z.attributes.kind) (sym known)
@@ -214,7 +214,7 @@ module _ (taking : Taking) (d : DraftValue) (place : Place) (x : Known)
 abbrev removed : Wcc → Result (Unit {0}) NfsStatus → RemovedReply
 removed shown result = record { directory = shown; result = result }
 
-module _ (ctx : Ctx) (place : Place) (m after : State) (shown : Wcc) (result : Result (Unit {0}) NfsStatus)
+module _ (ctx : Ctx) (place : DirOp) (m after : State) (shown : Wcc) (result : Result (Unit {0}) NfsStatus)
     (end : Result (Unit {0} × State) NfsStatus)
     (is : after ≡ state_after m end) (shows : shown ≡ wcc (state_after m end) (resolve m ctx place.directory))
     (tells : answer_of end ≡ result) where
@@ -237,7 +237,7 @@ module _ (ctx : Ctx) (place : Place) (m after : State) (shown : Wcc) (result : R
   taken-step Remove ends = subst (AnsweredBy Remove) (sym ends) (answered Remove)
   taken-step Rmdir ends = subst (AnsweredBy Rmdir) (sym ends) (answered Rmdir)
 
-module _ (taking : Taking) (old : DraftValue) (place : Place) (begins : Begins (call_of taking place) old)
+module _ (taking : Taking) (old : DraftValue) (place : DirOp) (begins : Begins (call_of taking place) old)
     (new : DraftValue)
     (held : Held new.view new.writes) (given : Given new.view new.writes) where
   abbrev Replies : Wcc → Result (Unit {0}) NfsStatus → Type 0
@@ -263,7 +263,7 @@ module _ (taking : Taking) (old : DraftValue) (place : Place) (begins : Begins (
       ∙ sym ((named s k w).wcc_after (state_after k.state (ending result (does.op k).state))))
       (answer-ending result (does.op k).state) taking ends)
 
-module _ (taking : Taking) (d : DraftValue) (place : Place) (begins : Begins (call_of taking place) d)
+module _ (taking : Taking) (d : DraftValue) (place : DirOp) (begins : Begins (call_of taking place) d)
     (held : Held d.view d.writes) (given : Given d.view d.writes) where
   pub refused-promised : (e : NfsStatus) → Knows d (Means d.ctx place.directory (Err e)) →
       Replies taking d place begins d held given (record { before = None; after = None }) (Err e)
@@ -273,9 +273,9 @@ module _ (taking : Taking) (d : DraftValue) (place : Place) (begins : Begins (ca
       taking (failed _ (refused s k w).refused))
 
 -- ---- what is asked for first
-module _ (taking : Taking) (place : Place) (d : DraftValue) (begins : Begins (call_of taking place) d)
+module _ (taking : Taking) (place : DirOp) (d : DraftValue) (begins : Begins (call_of taking place) d)
     (handle : List ℕ) (is : handle ≡ place.directory) where
-  first-asked : {A : Type 0} (r : Result A Halt)
+  first-asked : {A : Type 0} (r : Result A Missing)
       → HaltsFirst d.modes d.view (first_wanted_with d.view (handle ∷ [])) r →
       HaltsFirst (modes_of (call_of taking place)) d.view (first_wanted (call_of taking place) d.view) r
   first-asked r first =
@@ -283,7 +283,7 @@ module _ (taking : Taking) (place : Place) (d : DraftValue) (begins : Begins (ca
       (subst (λ wanted. HaltsFirst d.modes d.view wanted r)
       (ap (λ h. first_wanted_with d.view (h ∷ [])) is ∙ wants taking place d.view) first)
 
-  pub first-halted : (A B : Type 0) (halt : Halt) →
+  pub first-halted : (A B : Type 0) (halt : Missing) →
       HaltsFirst {A = A} d.modes d.view (first_wanted_with d.view (handle ∷ [])) (Err halt) →
       HaltsFirst {A = B} (modes_of (call_of taking place)) d.view (first_wanted (call_of taking place) d.view)
       (Err halt)
@@ -295,7 +295,7 @@ module _ (taking : Taking) (place : Place) (d : DraftValue) (begins : Begins (ca
       by (Some a) first = first
 
   -- once it was read, any end will do
-  pub first-read : {A B : Type 0} (x : A) (r : Result B Halt) →
+  pub first-read : {A B : Type 0} (x : A) (r : Result B Missing) →
       HaltsFirst d.modes d.view (first_wanted_with d.view (handle ∷ [])) (Ok x) →
       HaltsFirst (modes_of (call_of taking place)) d.view (first_wanted (call_of taking place) d.view) r
   first-read x r first = first-asked r (by (first_wanted_with d.view (handle ∷ [])) first)

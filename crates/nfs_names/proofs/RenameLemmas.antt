@@ -50,12 +50,12 @@ use Rattle.nfs_objects.specs.Begins.{Begins}
 use Rattle.nfs_objects.specs.Knows.{Does, Knows, Possible, Turns, ending}
 use Rattle.nfs_objects.specs.Promise.{Given, Held, IsPromised}
 use Rattle.nfs_objects.specs.Sound.{Sound}
-use Rattle.nfs_objects.specs.Stands.{Kept}
+use Rattle.nfs_objects.specs.Stands.{StoreMeaning}
 use Rattle.nfs_objects.specs.Store.{Store}
 use Rattle.nfs_objects.specs.Values.{DraftValue, ModesValue, ViewValue, done_value}
 use Rattle.nfs_objects.specs.declared.address.Addr.{Addr}
 use Rattle.nfs_objects.specs.declared.address.Addr.TheVariants as addresses
-use Rattle.nfs_objects.specs.declared.change.Halt.{Halt}
+use Rattle.nfs_objects.specs.declared.change.Missing.{Missing}
 use Rattle.nfs_objects.proofs.UsageSumLemmas.{AllFit, turned-fit}
 use Rattle.nfs_inodes.proofs.LivedBeforeLemmas.{LivesAsBefore, lived-both, lived-given, lived-left, lived-rehomed}
 use Rattle.nfs_inodes.proofs.LivedBeforeLemmas.{lived-same}
@@ -71,7 +71,7 @@ use Rattle.nfs_inodes.proofs.ReaderHaltLemmas.{any-stops, lives-stops, stops-bef
 use Rattle.nfs_inodes.specs.Entered.{grown_at}
 use Rattle.nfs_inodes.specs.Stops.{StopsAt, UsageLives}
 use Rattle.nfs_inodes.specs.declared.found.Known.{Known}
-use Rattle.nfs_inodes.specs.declared.kinds.Directory as kinds
+use Rattle.nfs_inodes.specs.declared.kinds.KnownDirectory as kinds
 use Rattle.nfs_names.proofs.MakeObjectLemmas.{a-cookie, no-cookie}
 use Rattle.nfs_names.proofs.LookupLemmas.{lives-at}
 use Rattle.nfs_names.specs.Renames.{ComesToBoth, IsRenameEnd, IsRenaming, IsUnder, both_found, entry_moved}
@@ -91,12 +91,12 @@ stays-same (Err e) m = refl
 
 module _ (d : DraftValue) (a : RenameArguments) where
   -- the machine comes to this end, whatever test tells what is within what
-  abbrev pub EndsSo : RenameEnd → Kept → Type 0
+  abbrev pub EndsSo : RenameEnd → StoreMeaning → Type 0
   EndsSo end k = (is_within : (upper lower : ℕ) → Bool) → TellsWithin k.state is_within →
       rename_end k.state d.ctx a is_within ≡ end
 
   pub settled-does : (result : Result (Unit {0}) NfsStatus) →
-      ((s : Store) (k : Kept) → Possible d s k → WellFormed k.state → EndsSo (ending result k.state) k)
+      ((s : Store) (k : StoreMeaning) → Possible d s k → WellFormed k.state → EndsSo (ending result k.state) k)
       → Does d d (IsRenameEnd d.ctx a) result
   settled-does result ends = record {
     op = λ k. k;
@@ -146,7 +146,7 @@ module _ (d : DraftValue) (a : RenameArguments) (x y : Known) (m : State) (is_wi
       (object_under m (entry_of from_entries.list a.from.name)) (object_under m (entry_of to_entries.list a.to.name))
 
 -- they decide, or the rest
-comes-of : (d : DraftValue) (a : RenameArguments) (x y : Known) (checked : Result Places NfsStatus) (k : Kept) →
+comes-of : (d : DraftValue) (a : RenameArguments) (x y : Known) (checked : Result Places NfsStatus) (k : StoreMeaning) →
     Names d.ctx a.from.directory k x → Names d.ctx a.to.directory k y →
     ComesToBoth (rename_checked k.state.exports d.ctx a) x y checked → (is_within : (upper lower : ℕ) → Bool) →
     rename_end k.state d.ctx a is_within ≡
@@ -160,7 +160,7 @@ module _ (d : DraftValue) (a : RenameArguments) (x y : Known)
     (from : Knows d (λ k. Names d.ctx a.from.directory k x)) (to : Knows d (λ k. Names d.ctx a.to.directory k y))
     (exports : List LivingExport) (lists : Knows d (λ k. k.state.exports ≡ exports)) where
   comes : (checked : Result Places NfsStatus) → ComesToBoth (rename_checked exports d.ctx a) x y checked →
-      (s : Store) (k : Kept) → Possible d s k → (is_within : (upper lower : ℕ) → Bool) →
+      (s : Store) (k : StoreMeaning) → Possible d s k → (is_within : (upper lower : ℕ) → Bool) →
       rename_end k.state d.ctx a is_within ≡
       both_found (content_at k.state x.number) (content_at k.state y.number) (rest d a x y k.state is_within) checked
   comes checked passes s k w =
@@ -168,12 +168,12 @@ module _ (d : DraftValue) (a : RenameArguments) (x y : Known)
       (subst (λ es. ComesToBoth (rename_checked es d.ctx a) x y checked) (sym (lists s k w)) passes)
 
   pub check-refused : (e : NfsStatus) → ComesToBoth (rename_checked exports d.ctx a) x y (Err e) →
-      (s : Store) (k : Kept) → Possible d s k → WellFormed k.state → EndsSo d a (Err e) k
+      (s : Store) (k : StoreMeaning) → Possible d s k → WellFormed k.state → EndsSo d a (Err e) k
   check-refused e refuses s k w formed = λ is_within tells. comes (Err e) refuses s k w is_within
 
   module _ (places : Places) (passes : ComesToBoth (rename_checked exports d.ctx a) x y (Ok places)) where
     pub no-source : Knows d (λ k. IsUnder k.state x a.from.name None) →
-        (s : Store) (k : Kept) → Possible d s k → WellFormed k.state → EndsSo d a (Err status.NoEntry) k
+        (s : Store) (k : StoreMeaning) → Possible d s k → WellFormed k.state → EndsSo d a (Err status.NoEntry) k
     no-source none s k w formed = λ is_within tells.
         comes (Ok places) passes s k w is_within ∙ failed _ (ap (λ o. ok_or o status.NoEntry) (none s k w).0)
 
@@ -235,7 +235,7 @@ under-number d x name number found leads is s k w = (
     known None none = tt
     known (Some z) there = there.1
 
-pub reads-under : (d : DraftValue) (x : Known) (name : List ℕ) (number : ℕ) (r : Result (Option Known) Halt)
+pub reads-under : (d : DraftValue) (x : Known) (name : List ℕ) (number : ℕ) (r : Result (Option Known) Missing)
     → Knows d (λ k. option_map (λ (e : Entry). e.number) (entry_of (entries_of (content_at k.state x.number)) name)
     ≡ Some number) → IsThere d.view (addresses.Inode number)
     → MatchResult r (λ found. Knows d (λ k. IsObject k.state number found)) (StopsAt d (addresses_of d.view number))
@@ -305,7 +305,7 @@ module _ (d : DraftValue) (a : RenameArguments) (r : Renaming) (finds : Knows d 
   fits m = option_map_or (λ (o : Known). is_compatible (content_at m r.moved.number) (content_at m o.number))
       r.replaced true
 
-  found-ends : (s : Store) (k : Kept) → Possible d s k → (is_within : (upper lower : ℕ) → Bool) →
+  found-ends : (s : Store) (k : StoreMeaning) → Possible d s k → (is_within : (upper lower : ℕ) → Bool) →
       rename_end k.state d.ctx a is_within ≡ move_end k.state now a is_within (target k.state x) (target k.state y)
       (listed (content_at k.state x.number)) (listed (content_at k.state y.number)) (target k.state r.moved)
       (over k.state)
@@ -319,7 +319,7 @@ module _ (d : DraftValue) (a : RenameArguments) (r : Renaming) (finds : Knows d 
       (object_under m (entry_of (entries_of (content_at m y.number)) a.to.name))) f.moved.0
       ∙ ap (λ o. tail d a x y m is_within from_entries to_entries (Some (target m r.moved)) o) f.replaced.0
 
-  ends-by : (s : Store) (k : Kept) → Possible d s k → (is_within : (upper lower : ℕ) → Bool)
+  ends-by : (s : Store) (k : StoreMeaning) → Possible d s k → (is_within : (upper lower : ℕ) → Bool)
       → rename_end k.state d.ctx a is_within ≡ by_checks k.state is_one (fits k.state)
       (is_within r.moved.number y.number) has_room (nat_lt (last k.state + 1) (2 ^ 64))
   ends-by s k w is_within =
@@ -349,7 +349,7 @@ module _ (d : DraftValue) (a : RenameArguments) (r : Renaming) (finds : Knows d 
       link_limit) (nat_lt (last m + 1) (2 ^ 64)))
       (sym (known-links m y f.to.known))
 
-  pub ends-one : is_one ≡ true → (s : Store) (k : Kept) → Possible d s k → WellFormed k.state →
+  pub ends-one : is_one ≡ true → (s : Store) (k : StoreMeaning) → Possible d s k → WellFormed k.state →
       EndsSo d a (Ok (tt, k.state)) k
   ends-one one s k w formed = λ is_within tells.
       ends-by s k w is_within ∙ ap (λ b. by_checks k.state b (fits k.state) (is_within r.moved.number y.number)
@@ -359,14 +359,14 @@ module _ (d : DraftValue) (a : RenameArguments) (r : Renaming) (finds : Knows d 
     abbrev Fits : Bool → Type 0
     Fits b = Knows d (λ k. fits k.state ≡ b)
 
-    ends-other : (s : Store) (k : Kept) → Possible d s k → (is_within : (upper lower : ℕ) → Bool)
+    ends-other : (s : Store) (k : StoreMeaning) → Possible d s k → (is_within : (upper lower : ℕ) → Bool)
         → rename_end k.state d.ctx a is_within ≡ by_checks k.state false (fits k.state)
         (is_within r.moved.number y.number) has_room (nat_lt (last k.state + 1) (2 ^ 64))
     ends-other s k w is_within =
         ends-by s k w is_within ∙ ap (λ b. by_checks k.state b (fits k.state) (is_within r.moved.number y.number)
         has_room (nat_lt (last k.state + 1) (2 ^ 64))) one
 
-    pub ends-exists : Fits false → (s : Store) (k : Kept) → Possible d s k → WellFormed k.state →
+    pub ends-exists : Fits false → (s : Store) (k : StoreMeaning) → Possible d s k → WellFormed k.state →
         EndsSo d a (Err status.Exists) k
     ends-exists unfit s k w formed = λ is_within tells.
         ends-other s k w is_within ∙ ap (λ b. by_checks k.state false b (is_within r.moved.number y.number) has_room
@@ -376,13 +376,13 @@ module _ (d : DraftValue) (a : RenameArguments) (r : Renaming) (finds : Knows d 
       abbrev Within : Bool → Type 0
       Within b = Knows d (λ k. WellFormed k.state → (b ≡ true) ↔ IsWithin k.state r.moved.number y.number)
 
-      directory-there : (s : Store) (k : Kept) → Possible d s k → y.attributes.kind ≡ types.Directory →
+      directory-there : (s : Store) (k : StoreMeaning) → Possible d s k → y.attributes.kind ≡ types.Directory →
           is_living_directory (get k.state.objects y.number) ≡ true
       directory-there s k w kind =
           ap is_living_directory (finds s k w).to.known.lives ∙ known-kind k.state y (finds s k w).to.known
           ∙ ap is_directory_type kind
 
-      ends-within : (b : Bool) → Within b → (s : Store) (k : Kept) → Possible d s k → WellFormed k.state →
+      ends-within : (b : Bool) → Within b → (s : Store) (k : StoreMeaning) → Possible d s k → WellFormed k.state →
           (is_within : (upper lower : ℕ) → Bool) → TellsWithin k.state is_within
           → rename_end k.state d.ctx a is_within ≡
           by_checks k.state false true b has_room (nat_lt (last k.state + 1) (2 ^ 64))
@@ -394,19 +394,19 @@ module _ (d : DraftValue) (a : RenameArguments) (r : Renaming) (finds : Knows d 
           (same-test (is_within r.moved.number y.number) b (IsWithin k.state r.moved.number y.number)
           (tells r.moved.number y.number (directory-there s k w r.to.kind)) (within s k w formed))
 
-      pub ends-invalid : Within true → (s : Store) (k : Kept) → Possible d s k → WellFormed k.state →
+      pub ends-invalid : Within true → (s : Store) (k : StoreMeaning) → Possible d s k → WellFormed k.state →
           EndsSo d a (Err status.Invalid) k
       ends-invalid within s k w formed = λ is_within tells. ends-within true within s k w formed is_within tells
 
       module _ (out : Within false) where
-        pub ends-links : has_room ≡ false → (s : Store) (k : Kept) → Possible d s k → WellFormed k.state →
+        pub ends-links : has_room ≡ false → (s : Store) (k : StoreMeaning) → Possible d s k → WellFormed k.state →
             EndsSo d a (Err status.TooManyLinks) k
         ends-links full s k w formed = λ is_within tells.
             ends-within false out s k w formed is_within tells
             ∙ ap (λ b. by_checks k.state false true false b (nat_lt (last k.state + 1) (2 ^ 64))) full
 
         module _ (room : has_room ≡ true) where
-          ends-room : (s : Store) (k : Kept) → Possible d s k → WellFormed k.state →
+          ends-room : (s : Store) (k : StoreMeaning) → Possible d s k → WellFormed k.state →
               (is_within : (upper lower : ℕ) → Bool) → TellsWithin k.state is_within
               → rename_end k.state d.ctx a is_within ≡
               by_checks k.state false true false true (nat_lt (last k.state + 1) (2 ^ 64))
@@ -414,7 +414,7 @@ module _ (d : DraftValue) (a : RenameArguments) (r : Renaming) (finds : Knows d 
               ends-within false out s k w formed is_within tells
               ∙ ap (λ b. by_checks k.state false true false b (nat_lt (last k.state + 1) (2 ^ 64))) room
 
-          pub ends-space : Knows d (λ k. new_cookie (last k.state) ≡ None) → (s : Store) (k : Kept) →
+          pub ends-space : Knows d (λ k. new_cookie (last k.state) ≡ None) → (s : Store) (k : StoreMeaning) →
               Possible d s k → WellFormed k.state → EndsSo d a (Err status.NoSpace) k
           ends-space none s k w formed = λ is_within tells.
               ends-room s k w formed is_within tells
@@ -423,7 +423,7 @@ module _ (d : DraftValue) (a : RenameArguments) (r : Renaming) (finds : Knows d 
 
           -- ---- the change
           module _ (cookie : ℕ) (next : Knows d (λ k. new_cookie (last k.state) ≡ Some cookie)) where
-            has-cookie : (s : Store) (k : Kept) → Possible d s k →
+            has-cookie : (s : Store) (k : StoreMeaning) → Possible d s k →
                 (holding (nat_lt (last k.state + 1) (2 ^ 64)) status.NoSpace ≡ Ok tt) × (last k.state + 1 ≡ cookie)
             has-cookie s k w = a-cookie (nat_lt (last k.state + 1) (2 ^ 64)) (last k.state + 1) cookie status.NoSpace
                 (next s k w)
@@ -434,7 +434,7 @@ module _ (d : DraftValue) (a : RenameArguments) (r : Renaming) (finds : Knows d 
             listed-is m z is kind = facts.is-directory (content_at m z.number) (listed (content_at m z.number))
                 (directory-listed (content_at m z.number) (kind-is m z is ∙ kind))
 
-            begun : (s : Store) (k : Kept) → Possible d s k → IsBegun k.state (move_of k.state)
+            begun : (s : Store) (k : StoreMeaning) → Possible d s k → IsBegun k.state (move_of k.state)
             begun s k w =
                 let m = k.state in
                 let f = finds s k w in
@@ -448,7 +448,7 @@ module _ (d : DraftValue) (a : RenameArguments) (r : Renaming) (finds : Knows d 
                 }
 
             -- what has the new name is another object, and may be replaced
-            is-move : (s : Store) (k : Kept) → Possible d s k → IsMove k.state (move_of k.state)
+            is-move : (s : Store) (k : StoreMeaning) → Possible d s k → IsMove k.state (move_of k.state)
             is-move s k w = by r.replaced refl
               where
                 by : (o : Option Known) → r.replaced ≡ o → IsMove k.state (move_of k.state)
@@ -460,12 +460,12 @@ module _ (d : DraftValue) (a : RenameArguments) (r : Renaming) (finds : Knows d 
                     (sym (ap (λ z. option_map_or (λ (o : Known). is_compatible (content_at k.state r.moved.number)
                     (content_at k.state o.number)) z true) e) ∙ fit s k w)
 
-            stays-out : (s : Store) (k : Kept) → Possible d s k → WellFormed k.state →
+            stays-out : (s : Store) (k : StoreMeaning) → Possible d s k → WellFormed k.state →
                 GoesIntoItself k.state (move_of k.state) → ⊥
             stays-out s k w formed into = (let no : false ≡ true = (out s k w formed).1 into.1 in cc)
 
             -- ---- links
-            module _ (s : Store) (k : Kept) (w : Possible d s k) (formed : WellFormed k.state) where
+            module _ (s : Store) (k : StoreMeaning) (w : Possible d s k) (formed : WellFormed k.state) where
               abbrev m : State
               m = k.state
 
@@ -589,7 +589,7 @@ module _ (d : DraftValue) (a : RenameArguments) (r : Renaming) (finds : Knows d 
                   by (Some z) e is = (let same : target m z ≡ o = cc in names-of z e
                       ∙ ap (λ (p : Named). names_of m p.number) same)
 
-              lost-same : (q : Option Known) (h : Kept) → ◌≡◌ {A = Kept}
+              lost-same : (q : Option Known) (h : StoreMeaning) → ◌≡◌ {A = StoreMeaning}
                   (elim q [ None ↦ h | Some o ↦ link_lost now o.number (names_counted o) h ])
                   (elim (option_map (target m) q) [ None ↦ h | Some o ↦ link_lost now o.number (names q) h ])
               lost-same None h = refl
@@ -607,10 +607,10 @@ module _ (d : DraftValue) (a : RenameArguments) (r : Renaming) (finds : Knows d 
               op-sound fit = subst Sound (sym op-is)
                   (moved-sound k now (move_of m) (is-move s k w) formed (stays-out s k w formed) w.sound (links_left r)
                   (links_given r) lefts gives (names r.replaced) counts
-                  (subst (λ (q : Kept). AllFit q.state) op-is fit))
+                  (subst (λ (q : StoreMeaning). AllFit q.state) op-is fit))
 
               op-state : (renamed now a r cookie k).state ≡ with_moved m now (move_of m)
-              op-state = ap (λ (q : Kept). q.state) op-is
+              op-state = ap (λ (q : StoreMeaning). q.state) op-is
                   ∙ moved-state k now (move_of m) (is-move s k w) formed (stays-out s k w formed) w.sound
                   (links_left r) (links_given r) lefts gives (names r.replaced) counts
 
@@ -642,7 +642,7 @@ module _ (d : DraftValue) (moved : Known) (known : Knows d (λ k. IsKnown k.stat
   compatible a b e = (a && b && e) || (not a && not b)
 
   module _ (o : Known) (there : Knows d (λ k. IsKnown k.state o)) where
-    by-kinds : (s : Store) (k : Kept) → Possible d s k → (a b : Bool) →
+    by-kinds : (s : Store) (k : StoreMeaning) → Possible d s k → (a b : Bool) →
         is_directory_type moved.attributes.kind ≡ a → is_directory_type o.attributes.kind ≡ b
         → is_compatible (content_at k.state moved.number) (content_at k.state o.number) ≡
         compatible a b (facts.are_none (entries_of (content_at k.state o.number)))
@@ -656,7 +656,8 @@ module _ (d : DraftValue) (moved : Known) (known : Knows d (λ k. IsKnown k.stat
         is_directory_type o.attributes.kind ≡ b → Replaceable (Some o) (not b)
     over-plain plain b kind s k w = by-kinds s k w false b plain kind
 
-    pub over-directory : is_directory_type moved.attributes.kind ≡ true → (r : Result kinds.Directory NfsStatus) →
+    pub over-directory : is_directory_type moved.attributes.kind ≡ true
+        → (r : Result kinds.KnownDirectory NfsStatus) →
         ChecksDirectory o r → (e : NfsStatus) → r ≡ Err e → Replaceable (Some o) false
     over-directory moves r checks e is s k w =
         let none : is_directory (content_at k.state o.number) ≡ false =
@@ -666,8 +667,8 @@ module _ (d : DraftValue) (moved : Known) (known : Knows d (λ k. IsKnown k.stat
         (checks (content_at k.state o.number) (kind-is k.state o (there s k w)))) in
         by-kinds s k w true false moves (sym (known-kind k.state o (there s k w)) ∙ none)
 
-    pub over-empty : is_directory_type moved.attributes.kind ≡ true → (directory : kinds.Directory) →
-        directory.known ≡ o → (r : Result Bool Halt)
+    pub over-empty : is_directory_type moved.attributes.kind ≡ true → (directory : kinds.KnownDirectory) →
+        directory.known ≡ o → (r : Result Bool Missing)
         → MatchResult r (λ empty. Knows d (λ k. facts.are_none
         (entries_of (content_at k.state directory.known.number)) ≡ empty))
         (StopsAt d (addresses_of d.view directory.known.number))
@@ -686,7 +687,7 @@ module _ (d : DraftValue) (moved : Known) (known : Knows d (λ k. IsKnown k.stat
         (subst (λ z. Knows d (λ k. IsKnown k.state z)) (sym same) there)) stops
 
 -- ---- nothing is within what is no directory
-pub plain-outside : (d : DraftValue) (moved : Known) (lower : kinds.Directory) →
+pub plain-outside : (d : DraftValue) (moved : Known) (lower : kinds.KnownDirectory) →
     Knows d (λ k. IsKnown k.state moved) → Knows d (λ k. IsKnown k.state lower.known) →
     is_directory_type moved.attributes.kind ≡ false
     → Knows d (λ k. WellFormed k.state → (false ≡ true) ↔ IsWithin k.state moved.number lower.known.number)
@@ -706,38 +707,41 @@ plain-outside d moved lower known below plain s k w formed = (
 
 -- ---- the change, step by step
 -- what lives in every store that the view fits is there once more was written
-pub lives-on : (old new : DraftValue) (op : Kept → Kept) (a : Addr) → Turns old new op → IsThere old.view a →
+pub lives-on : (old new : DraftValue) (op : StoreMeaning → StoreMeaning) (a : Addr) → Turns old new op
+    → IsThere old.view a →
     IsThere new.view a
 lives-on old new op a turns lives = subst (λ v. IsThere v a) (sym turns.view) lives
 
-pub over-lives : (old new : DraftValue) (op : Kept → Kept) (o : Option Known) → Turns old new op →
+pub over-lives : (old new : DraftValue) (op : StoreMeaning → StoreMeaning) (o : Option Known) → Turns old new op →
     old.writes ≡ [] → Knows old (λ k. IfSome o (IsKnown k.state))
     → IfSome o (λ z. IsThere new.view (addresses.Inode z.number))
 over-lives old new op None turns none known = tt
 over-lives old new op (Some z) turns none known = lives-on old new op (addresses.Inode z.number) turns
     (known-lives old z none known)
 
-pub stops-later : (old new : DraftValue) (op : Kept → Kept) (halt : Halt) → Turns old new op →
+pub stops-later : (old new : DraftValue) (op : StoreMeaning → StoreMeaning) (halt : Missing) → Turns old new op →
     StopsAt new [] halt → StopsAt old [] halt
 stops-later old new op halt turns stops = stops-before old new op (λ view. []) halt turns stops
 
 -- a change after another, at the call's moment
-pub turned-both : (a b c : DraftValue) (f : Kept → Kept) (g : Time → Kept → Kept) → Turns a b f →
+pub turned-both : (a b c : DraftValue) (f : StoreMeaning → StoreMeaning) (g : Time → StoreMeaning → StoreMeaning)
+    → Turns a b f →
     Turns b c (g (time_of b.ctx.moment)) → Turns a c (λ k. g (time_of a.ctx.moment) (f k))
 turned-both a b c f g first second =
     turns-both a b c f (g (time_of a.ctx.moment)) first
     (subst (λ (x : Ctx). Turns b c (g (time_of x.moment))) first.ctx second)
 
 -- which is the last
-pub turned-after : (a b c : DraftValue) (f : Kept → Kept) (g : Time → Kept → Kept)
-    (r : Result (Unit {0}) Halt) (Stops After : Halt → Type 0) → ((halt : Halt) → Stops halt → After halt) →
+pub turned-after : (a b c : DraftValue) (f : StoreMeaning → StoreMeaning) (g : Time → StoreMeaning → StoreMeaning)
+    (r : Result (Unit {0}) Missing) (Stops After : Missing → Type 0) → ((halt : Missing) → Stops halt → After halt) →
     Turns a b f → MatchResult r (λ _. Turns b c (g (time_of b.ctx.moment))) Stops →
     MatchResult r (λ _. Turns a c (λ k. g (time_of a.ctx.moment) (f k))) After
 turned-after a b c f g (Ok x) Stops After before first second = turned-both a b c f g first second
 turned-after a b c f g (Err halt) Stops After before first stops = before halt stops
 
 -- what may be asked for whatever is named may be asked for by who names some
-pub later-named : (old new : DraftValue) (op : Kept → Kept) (named : List Addr) (halt : Halt) → Turns old new op →
+pub later-named : (old new : DraftValue) (op : StoreMeaning → StoreMeaning) (named : List Addr) (halt : Missing)
+    → Turns old new op →
     StopsAt new [] halt → StopsAt old named halt
 later-named old new op named halt turns stops = any-stops old named halt (stops-later old new op halt turns stops)
 
@@ -745,7 +749,8 @@ later-named old new op named halt turns stops = any-stops old named halt (stops-
 pub moved-lived : (now : Time) (a : RenameArguments) (r : Renaming) (cookie : ℕ) →
     LivesAsBefore (λ k. rehomed now r.moved.number r.to.known.number (entry_moved now a r cookie k))
 moved-lived now a r cookie =
-    let left = λ (one : Bool) (k : Kept). cond one k (name_left now r.from.known.number a.from.name (links_left r) k) in
+    let left = λ (one : Bool) (k : StoreMeaning). cond one k (name_left now r.from.known.number a.from.name
+    (links_left r) k) in
     let given = name_given now r.to.known.number (cond (is_one_directory r) (Some a.from.name) None)
     (record { name = a.to.name; number = r.moved.number; cookie = cookie }) (links_given r) in
     lived-both (entry_moved now a r cookie) (rehomed now r.moved.number r.to.known.number)
@@ -758,18 +763,19 @@ moved-lived now a r cookie =
     (record { name = a.to.name; number = r.moved.number; cookie = cookie }) (links_given r)))
     (lived-rehomed now r.moved.number r.to.known.number)
 
-pub over-counts : (old new : DraftValue) (op : Kept → Kept) (o : Option Known) → old.writes ≡ [] → Turns old new op →
+pub over-counts : (old new : DraftValue) (op : StoreMeaning → StoreMeaning) (o : Option Known) → old.writes ≡ []
+    → Turns old new op →
     LivesAsBefore op → IfSome o (λ z. UsageLives new z.number)
 over-counts old new op None none turns lived = tt
 over-counts old new op (Some z) none turns lived = usage-there old new op none turns lived z.number
 
-module _ (d new : DraftValue) (a : RenameArguments) (r : Renaming) (cookie : ℕ) (result : Result (Unit {0}) Halt)
+module _ (d new : DraftValue) (a : RenameArguments) (r : Renaming) (cookie : ℕ) (result : Result (Unit {0}) Missing)
   where
-    abbrev given : Time → (left : Option (List ℕ)) → Kept → Kept
+    abbrev given : Time → (left : Option (List ℕ)) → StoreMeaning → StoreMeaning
     given now left = name_given now r.to.known.number left
         (record { name = a.to.name; number = r.moved.number; cookie = cookie }) (links_given r)
 
-    abbrev moved : Time → Bool → Kept → Kept
+    abbrev moved : Time → Bool → StoreMeaning → StoreMeaning
     moved now one k = given now (cond one (Some a.from.name) None)
         (cond one k (name_left now r.from.known.number a.from.name (links_left r) k))
 
@@ -795,7 +801,7 @@ module _ (d new : DraftValue) (a : RenameArguments) (r : Renaming) (cookie : ℕ
       -- one directory changes once
       pub moves-one : (old_name name : List ℕ) (links : ℕ) → old_name ≡ a.from.name → name ≡ a.to.name →
           links ≡ links_given r → is_one_directory r ≡ true →
-          ((halt : Halt) → StopsAt d (grown_at d r.to.known.number a.to.name cookie) halt → StopsAt d named halt) →
+          ((halt : Missing) → StopsAt d (grown_at d r.to.known.number a.to.name cookie) halt → StopsAt d named halt) →
           Gives d (Some old_name) name links → Moved
       moves-one old_name name links left same count one before is = subst Moves (sym one)
           (turned-after d d new (λ k. k) (λ now. given now (Some a.from.name)) result
@@ -805,11 +811,13 @@ module _ (d new : DraftValue) (a : RenameArguments) (r : Renaming) (cookie : ℕ
 
       pub moves-two : (mid : DraftValue) (name : List ℕ) (links : ℕ) → name ≡ a.to.name → links ≡ links_given r →
           is_one_directory r ≡ false →
-          ((halt : Halt) → StopsAt mid (grown_at mid r.to.known.number a.to.name cookie) halt → StopsAt d named halt) →
+          ((halt : Missing) → StopsAt mid (grown_at mid r.to.known.number a.to.name cookie) halt
+          → StopsAt d named halt) →
           Turns d mid (name_left (time_of d.ctx.moment) r.from.known.number a.from.name (links_left r)) →
           Gives mid None name links → Moved
       moves-two mid name links same count two before left is =
-          let leaves : Kept → Kept = name_left (time_of d.ctx.moment) r.from.known.number a.from.name (links_left r) in
+          let leaves : StoreMeaning → StoreMeaning = name_left (time_of d.ctx.moment) r.from.known.number a.from.name
+          (links_left r) in
           subst Moves (sym two) (turned-after d mid new leaves (λ now. given now None) result
           (StopsAt mid (grown_at mid r.to.known.number a.to.name cookie)) (StopsAt d named) before left
           (gives-as mid None name links same count is))
@@ -918,14 +926,14 @@ module _ (d : DraftValue) (a : RenameArguments) (begins : Begins (calls.Nfs (nfs
 
 -- ---- what is asked for first is known once the first handle names something
 pub first-known : {A B : Type 0} (modes other : ModesValue) (view : ViewValue) (wanted : Option Addr) (x : A)
-    (r : Result B Halt) →
+    (r : Result B Missing) →
     HaltsFirst modes view wanted (Ok x) → HaltsFirst other view wanted r
 first-known modes other view None x r first = tt
 first-known modes other view (Some a) x r first = absurd first
 
 -- ---- how it halts
 pub stops-named : {A : Type 0} (d new : DraftValue) (IsEnd : State → Result (A × State) NfsStatus → Type 0)
-    (few named : List Addr) (r : Result (Result A NfsStatus) Halt) →
+    (few named : List Addr) (r : Result (Result A NfsStatus) Missing) →
     ((a : Addr) → IsAmong few a → IsAmong named a)
     → MatchResult r (Does d new IsEnd) (StopsAt d few) → MatchResult r (Does d new IsEnd) (StopsAt d named)
 stops-named d new IsEnd few named (Ok x) names does = does

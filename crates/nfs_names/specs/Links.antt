@@ -11,7 +11,7 @@ use Rattle.nfs_machine.specs.State.{Content, Living, State}
 use Rattle.nfs_machine.specs.declared.context.Ctx.{Ctx}
 use Rattle.nfs_inodes.specs.Known.{entries_found, shell}
 use Rattle.nfs_inodes.specs.declared.found.Known.{Known}
-use Rattle.nfs_inodes.specs.declared.kinds.Directory.{Directory}
+use Rattle.nfs_inodes.specs.declared.kinds.KnownDirectory.{KnownDirectory}
 use Rattle.nfs_names.specs.Checking.{names_checked}
 
 abbrev pub IsLinkEnd : Ctx → LinkArguments → State → Result (Unit {0} × State) NfsStatus → Type 0
@@ -27,7 +27,7 @@ link_checked exports ctx name file directory rest = do
 
 -- the checks of what is known came to this: they refuse the call, or the rest decides, whatever it is
 abbrev pub LinkComesTo : List LivingExport → Ctx → List ℕ → (file directory : Known) →
-    Result Directory NfsStatus → Type 0
+    Result KnownDirectory NfsStatus → Type 0
 LinkComesTo exports ctx name file directory checked =
     (own content : Content) (rest : DirectoryEntries → Result (Unit {0} × State) NfsStatus) →
     type_of own ≡ file.attributes.kind → type_of content ≡ directory.attributes.kind →

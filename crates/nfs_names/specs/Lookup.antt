@@ -11,7 +11,7 @@ use Rattle.nfs_machine.specs.Permission.{ToSearch}
 use Rattle.nfs_machine.specs.Shown.{handle_at}
 use Rattle.nfs_machine.specs.State.{State}
 use Rattle.nfs_machine.specs.declared.context.Ctx.{Ctx}
-use Rattle.nfs_objects.specs.Stands.{Kept}
+use Rattle.nfs_objects.specs.Stands.{StoreMeaning}
 use Rattle.nfs_inodes.specs.Known.{object_at}
 use Rattle.nfs_inodes.specs.declared.found.Known.{Known}
 use Rattle.nfs_names.specs.Checking.{ChecksOf}
@@ -32,6 +32,6 @@ searched ctx name o rest = do
   _ ← permitted ctx o ToSearch
   rest entries
 
-abbrev pub found_in : Kept → Ctx → Known → List ℕ → Result Found NfsStatus
+abbrev pub found_in : StoreMeaning → Ctx → Known → List ℕ → Result Found NfsStatus
 found_in k ctx x name = searched ctx name (object_at k.state x)
     (found_under k.state ctx x.number (k.parents x.number) name)

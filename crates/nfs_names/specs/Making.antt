@@ -2,7 +2,7 @@
 use Rattle.std.specs.Prelude.{◌≡◌, ℕ, ◌+◌, ◌^◌, List, [], Option, Some, None, Result, Ok, ◌⊎◌}
 use Rattle.std.specs.Prelude.{nat_lt}
 use Rattle.std.specs.FinMap.{get}
-use Rattle.nfs_wire.specs.declared.calls.Place.{Place}
+use Rattle.nfs_wire.specs.declared.calls.DirOp.{DirOp}
 use Rattle.nfs_wire.specs.declared.replies.Made.{Made}
 use Rattle.nfs_wire.specs.declared.replies.MadeReply.{MadeReply}
 use Rattle.nfs_wire.specs.declared.replies.NfsReply.{NfsReply}
@@ -23,7 +23,7 @@ use Rattle.nfs_machine.specs.WellFormed.{WellFormed}
 use Rattle.nfs_machine.specs.declared.context.Ctx.{Ctx}
 use Rattle.nfs_objects.specs.Knows.{Possible, Turns}
 use Rattle.nfs_objects.specs.Sound.{Sound}
-use Rattle.nfs_objects.specs.Stands.{Kept}
+use Rattle.nfs_objects.specs.Stands.{StoreMeaning}
 use Rattle.nfs_objects.specs.Store.{Store}
 use Rattle.nfs_objects.specs.Values.{DraftValue}
 use Rattle.nfs_inodes.specs.Known.{content_at, listed, object_at}
@@ -50,7 +50,7 @@ there_as there.Refused ctx m = refused_there
 there_as (there.Created how) ctx m = create_existing m ctx how.now
 
 -- an end of a call that makes what is asked for
-abbrev pub IsMakeEnd : Ctx → Place → (asked : Result Wanted NfsStatus) → ThereEnd → State → MakeEnd → Type 0
+abbrev pub IsMakeEnd : Ctx → DirOp → (asked : Result Wanted NfsStatus) → ThereEnd → State → MakeEnd → Type 0
 IsMakeEnd ctx place asked there m = IsEndBy m (λ choice. make_end m ctx choice place asked (there m))
 
 -- one where the name leads to this number
@@ -98,10 +98,10 @@ made_at m ctx number = elim (get m.objects number) [
 
 -- A call answered this, and changed the draft with it: in each sound state what is kept stays sound, and this is a step
 -- of the machine, whatever procedure has this reply.
-pub record MakesReply (old new : DraftValue) (place : Place) (asked : Result Wanted NfsStatus) (there : ThereEnd)
+pub record MakesReply (old new : DraftValue) (place : DirOp) (asked : Result Wanted NfsStatus) (there : ThereEnd)
     (reply : MadeReply) : Type 0 where
-  pub op : Kept → Kept
+  pub op : StoreMeaning → StoreMeaning
   pub turns : Turns old new op
-  pub steps : (s : Store) (k : Kept) → Possible old s k → WellFormed k.state → Sound (op k) ×
+  pub steps : (s : Store) (k : StoreMeaning) → Possible old s k → WellFormed k.state → Sound (op k) ×
       (Possible new s (op k) → (reply_of : MadeReply → NfsReply) →
       MakeStep k.state old.ctx place asked (there k.state) reply_of (reply_of reply) [] (op k).state)

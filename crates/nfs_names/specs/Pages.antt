@@ -21,7 +21,7 @@ use Rattle.nfs_machine.specs.State.{Entry, State}
 use Rattle.nfs_machine.specs.WellFormed.{WellFormed}
 use Rattle.nfs_machine.specs.declared.context.Ctx.{Ctx}
 use Rattle.nfs_objects.specs.Knows.{Knows}
-use Rattle.nfs_objects.specs.Stands.{Kept}
+use Rattle.nfs_objects.specs.Stands.{StoreMeaning}
 use Rattle.nfs_objects.specs.Values.{DraftValue}
 use Rattle.nfs_inodes.specs.Known.{object_at}
 use Rattle.nfs_inodes.specs.Listing.{listed_entry}
@@ -77,7 +77,7 @@ list_checked ctx asked o rest = do
   rest entries
 
 -- the entries that are left in a directory
-abbrev pub left_in : Kept → Ctx → Known → PageAsked → Result (List Entry) NfsStatus
+abbrev pub left_in : StoreMeaning → Ctx → Known → PageAsked → Result (List Entry) NfsStatus
 left_in k ctx x asked = list_checked ctx asked (object_at k.state x)
     (λ entries. Ok (behind asked.cookie (all_entries x.number (k.parents x.number) entries.list)))
 

@@ -10,7 +10,7 @@ use Rattle.nfs_objects.specs.Attempt.{EndsCall}
 use Rattle.nfs_objects.specs.Calls.{made_by, named_by, nfs_handles}
 use Rattle.nfs_objects.specs.Values.{DraftValue}
 use Rattle.nfs_objects.specs.declared.address.Addr.{Addr}
-use Rattle.nfs_objects.specs.declared.change.Halt.{Halt}
+use Rattle.nfs_objects.specs.declared.change.Missing.{Missing}
 use Rattle.nfs_objects.specs.declared.modes.Mode.{Mode}
 use Rattle.nfs_inodes.specs.Wants.{IsWanted}
 use Rattle.nfs_inodes.specs.declared.wishes.Want.{Want}
@@ -21,7 +21,7 @@ abbrev pub MayWant : NfsCall → DraftValue → Addr × Mode → Type 0
 MayWant call d a = MayAsk d.modes (named_by (calls.Nfs call) d.view) d.view a
 
 -- the call may halt so on the view of its draft
-abbrev pub MayHalt : Call → DraftValue → Halt → Type 0
+abbrev pub MayHalt : Call → DraftValue → Missing → Type 0
 MayHalt call d halt = EndsCall call d.ctx d.view (Err halt)
 
 -- so it may for what it wants next, wherever its plan is then

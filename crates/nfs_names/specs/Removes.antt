@@ -1,7 +1,7 @@
 -- What REMOVE and RMDIR come to (RFC 1813, 3.3.12 and 3.3.13).
 use Rattle.std.specs.Prelude.{◌≡◌, ℕ, List, Option, Some, Result, Ok, Err, ok_or}
 use Rattle.nfs_wire.specs.declared.calls.NfsCall.TheVariants as nfs
-use Rattle.nfs_wire.specs.declared.calls.Place.{Place}
+use Rattle.nfs_wire.specs.declared.calls.DirOp.{DirOp}
 use Rattle.nfs_wire.specs.declared.replies.NfsReply.{NfsReply}
 use Rattle.nfs_wire.specs.declared.replies.NfsReply.TheVariants as replies
 use Rattle.nfs_wire.specs.declared.replies.RemovedReply.{RemovedReply}
@@ -20,7 +20,7 @@ use Rattle.nfs_inodes.specs.declared.found.Known.{Known}
 use Rattle.nfs_names.specs.declared.remove.Taking.{Taking}
 use Rattle.nfs_names.specs.declared.remove.Taking.TheVariants.{Remove, Rmdir}
 
-abbrev pub call_of : Taking → Place → Call
+abbrev pub call_of : Taking → DirOp → Call
 call_of Remove place = calls.Nfs (nfs.Remove place)
 call_of Rmdir place = calls.Nfs (nfs.Rmdir place)
 
@@ -38,7 +38,7 @@ abbrev pub judged : Taking → Content → Result (Unit {0}) NfsStatus
 judged Remove = not_directory
 judged Rmdir = empty_directory
 
-abbrev pub IsTakenEnd : Taking → Ctx → Place → State → Result (Unit {0} × State) NfsStatus → Type 0
+abbrev pub IsTakenEnd : Taking → Ctx → DirOp → State → Result (Unit {0} × State) NfsStatus → Type 0
 IsTakenEnd taking ctx place m end =
     take_end m ctx place (plain_name_checked status.Invalid (above taking)) (judged taking) ≡ end
 

@@ -17,7 +17,7 @@ use Rattle.nfs_machine.specs.State.{Content, Living, State}
 use Rattle.nfs_machine.specs.declared.context.Ctx.{Ctx}
 use Rattle.nfs_objects.specs.Calls.{locks_at}
 use Rattle.nfs_objects.specs.Drafts.{MayChange}
-use Rattle.nfs_objects.specs.Stands.{Kept}
+use Rattle.nfs_objects.specs.Stands.{StoreMeaning}
 use Rattle.nfs_objects.specs.Values.{DraftValue}
 use Rattle.nfs_objects.specs.declared.address.Addr.{Addr}
 use Rattle.nfs_objects.specs.declared.address.Addr.TheVariants as addresses
@@ -75,7 +75,7 @@ IsUnder m directory name found =
     IfSome found (IsKnown m)
 
 -- the handles name both directories, whose checks pass, and the names lead to these objects
-pub record IsRenaming (k : Kept) (ctx : Ctx) (a : RenameArguments) (r : Renaming) : Type 0 where
+pub record IsRenaming (k : StoreMeaning) (ctx : Ctx) (a : RenameArguments) (r : Renaming) : Type 0 where
   pub from : Names ctx a.from.directory k r.from.known
   pub to : Names ctx a.to.directory k r.to.known
   pub export : r.from.known.export ≡ r.to.known.export
@@ -130,15 +130,15 @@ names_counted x = if is_directory_type x.attributes.kind then 1 else x.attribute
 
 -- ---- the change
 -- of both directories; one directory changes once
-abbrev pub entry_moved : Time → RenameArguments → Renaming → (cookie : ℕ) → Kept → Kept
+abbrev pub entry_moved : Time → RenameArguments → Renaming → (cookie : ℕ) → StoreMeaning → StoreMeaning
 entry_moved now a r cookie k = name_given now r.to.known.number (if is_one_directory r then Some a.from.name else None)
     (record { name = a.to.name; number = r.moved.number; cookie = cookie }) (links_given r)
     (if is_one_directory r then k else name_left now r.from.known.number a.from.name (links_left r) k)
 
 -- what had the new name loses it
-abbrev pub replaced_lost : Time → Renaming → Kept → Kept
+abbrev pub replaced_lost : Time → Renaming → StoreMeaning → StoreMeaning
 replaced_lost now r k = elim r.replaced [ None ↦ k | Some o ↦ link_lost now o.number (names_counted o) k ]
 
-abbrev pub renamed : Time → RenameArguments → Renaming → (cookie : ℕ) → Kept → Kept
+abbrev pub renamed : Time → RenameArguments → Renaming → (cookie : ℕ) → StoreMeaning → StoreMeaning
 renamed now a r cookie k =
     replaced_lost now r (rehomed now r.moved.number r.to.known.number (entry_moved now a r cookie k))

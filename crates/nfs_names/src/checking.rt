@@ -3,7 +3,9 @@
 ghost use Rattle.std.specs.Prelude.{◌≡◌, IfOk};
 ghost use Rattle.nfs_names.specs.Checking.{ComesTo, names_checked};
 
-use nfs_inodes::{Directory, Known, Right, changeable, directory, permitted, plain_name_checked};
+use nfs_inodes::{
+    Known, KnownDirectory, Right, changeable, directory, permitted, plain_name_checked,
+};
 use nfs_machine::Ctx;
 use nfs_objects::LivingExport;
 use nfs_wire::NfsStatus;
@@ -17,7 +19,7 @@ pub(crate) fn changed_directory(
     exports: &[LivingExport],
     known: &Known,
     name: &[u8],
-) -> Result<Directory, NfsStatus>
+) -> Result<KnownDirectory, NfsStatus>
     ensures known { IfOk result (λ directory. directory.known ≡ known.now) }
     ensures checks { ComesTo (names_checked own above exports.now ctx.now name.now) known.now result }
 {

@@ -9,11 +9,11 @@ ghost use Rattle.nfs_names.specs.Plans.{MayHalt};
 use crate::make::{self, There, make};
 use nfs_inodes::file_wanted;
 use nfs_machine::Reply;
-use nfs_objects::{Change, Draft, Halt};
+use nfs_objects::{Change, Draft, Missing};
 use nfs_wire::{CreateArguments, NfsCall, NfsReply};
 
 /// Tries CREATE.
-pub(crate) fn attempt(mut draft: Draft<'_>, arguments: &CreateArguments) -> Result<Change, Halt>
+pub(crate) fn attempt(mut draft: Draft<'_>, arguments: &CreateArguments) -> Result<Change, Missing>
     requires { Begins (calls.Nfs (NfsCall.Create arguments.now)) draft }
     ensures ends { EndsCall (calls.Nfs (NfsCall.Create arguments.now)) draft.entry.ctx draft.entry.view result }
     ensures first { EndsFirst (calls.Nfs (NfsCall.Create arguments.now)) draft.entry.view result }
@@ -34,7 +34,7 @@ pub(crate) fn attempt(mut draft: Draft<'_>, arguments: &CreateArguments) -> Resu
 /// # Errors
 ///
 /// `Fresh` where no number is reserved, `Need` of all else, and `Memory`.
-pub(crate) fn ask(draft: &Draft<'_>, arguments: &CreateArguments) -> Result<(), Halt>
+pub(crate) fn ask(draft: &Draft<'_>, arguments: &CreateArguments) -> Result<(), Missing>
     requires { Begins (calls.Nfs (NfsCall.Create arguments.now)) draft.now }
     ensures { IfErr result (MayHalt (calls.Nfs (NfsCall.Create arguments.now)) draft.now) }
 {

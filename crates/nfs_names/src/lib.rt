@@ -29,7 +29,7 @@ mod symlink;
 
 use crate::remove::Taking;
 use nfs_machine::Ctx;
-use nfs_objects::{CHANGING, Change, Draft, Halt, Modes, Outcome, READING, View, outcome};
+use nfs_objects::{CHANGING, Change, Draft, Missing, Modes, Outcome, READING, View, outcome};
 use nfs_wire::NfsCall;
 use std::alloc::{AllocError, Global};
 
@@ -67,7 +67,12 @@ pub fn is_name_call(call: &NfsCall) -> bool
     )
 }
 
-fn ended<'a>(alloc: Global, call: &'a NfsCall, ctx: &'a Ctx, view: &'a View) -> Result<Change, Halt>
+fn ended<'a>(
+    alloc: Global,
+    call: &'a NfsCall,
+    ctx: &'a Ctx,
+    view: &'a View,
+) -> Result<Change, Missing>
     requires names { is_name_call call.now ≡ true }
     requires suits { Suits (modes_of (calls.Nfs call.now)) view.now }
     ensures ends { EndsCall (calls.Nfs call.now) ctx.now view.now result }

@@ -15,15 +15,15 @@ ghost use Rattle.nfs_names.specs.Plans.{MayHalt};
 
 use crate::checking::changed_directory;
 use nfs_inodes::{
-    Directory, Known, LINK_LIMIT, add_link, ask_given, entry, exports, named, new_cookie,
+    Known, KnownDirectory, LINK_LIMIT, add_link, ask_given, entry, exports, named, new_cookie,
     no_directory, nothing_shown, shown, wcc,
 };
 use nfs_machine::{Ctx, Reply};
-use nfs_objects::{Addr, Change, Draft, Halt, LivingExport};
+use nfs_objects::{Addr, Change, Draft, LivingExport, Missing};
 use nfs_wire::{Attributes, LinkArguments, LinkedReply, NfsCall, NfsReply, NfsStatus, Wcc};
 
 /// Tries LINK.
-pub(crate) fn attempt(draft: Draft<'_>, arguments: &LinkArguments) -> Result<Change, Halt>
+pub(crate) fn attempt(draft: Draft<'_>, arguments: &LinkArguments) -> Result<Change, Missing>
     requires { Begins (calls.Nfs (NfsCall.Link arguments.now)) draft }
     ensures ends { EndsCall (calls.Nfs (NfsCall.Link arguments.now)) draft.entry.ctx draft.entry.view result }
     ensures first { EndsFirst (calls.Nfs (NfsCall.Link arguments.now)) draft.entry.view result }
@@ -35,7 +35,11 @@ pub(crate) fn attempt(draft: Draft<'_>, arguments: &LinkArguments) -> Result<Cha
 }
 
 /// The same once the file is known.
-fn attempt_of(mut draft: Draft<'_>, file: &Known, arguments: &LinkArguments) -> Result<Change, Halt>
+fn attempt_of(
+    mut draft: Draft<'_>,
+    file: &Known,
+    arguments: &LinkArguments,
+) -> Result<Change, Missing>
     requires begins { Begins (calls.Nfs (NfsCall.Link arguments.now)) draft }
     requires file { Knows draft (λ k. Names draft.ctx arguments.now.file k file.now) }
     ensures { EndsCall (calls.Nfs (NfsCall.Link arguments.now)) draft.entry.ctx draft.entry.view result }
@@ -60,7 +64,7 @@ fn link(
     file: &Known,
     known: &Known,
     arguments: &LinkArguments,
-) -> Result<Result<(), NfsStatus>, Halt>
+) -> Result<Result<(), NfsStatus>, Missing>
     requires none { draft.old.writes ≡ [] }
     requires alone { draft.old.modes ≡ changing }
     requires file { Knows draft.old (λ k. Names draft.old.ctx arguments.now.file k file.now) }
@@ -95,7 +99,7 @@ fn link(
 /// # Errors
 ///
 /// `Need` of that, and `Memory`.
-pub(crate) fn ask(draft: &Draft<'_>, arguments: &LinkArguments) -> Result<(), Halt>
+pub(crate) fn ask(draft: &Draft<'_>, arguments: &LinkArguments) -> Result<(), Missing>
     requires { Begins (calls.Nfs (NfsCall.Link arguments.now)) draft.now }
     ensures { IfErr result (MayHalt (calls.Nfs (NfsCall.Link arguments.now)) draft.now) }
 {
@@ -114,7 +118,7 @@ fn ask_linked(
     file: &Known,
     known: &Known,
     arguments: &LinkArguments,
-) -> Result<(), Halt>
+) -> Result<(), Missing>
     requires none { draft.now.writes ≡ [] }
     requires directory { Knows draft.now (λ k. Names draft.now.ctx arguments.now.place.directory k known.now) }
     requires shown { IsShown draft.now known.now }
@@ -141,7 +145,7 @@ fn linkable(
     file: &Known,
     known: &Known,
     name: &[u8],
-) -> Result<Directory, NfsStatus>
+) -> Result<KnownDirectory, NfsStatus>
     ensures known { IfOk result (λ directory. directory.known ≡ known.now) }
     ensures checks { LinkComesTo exports.now ctx.now name.now file.now known.now result }
 {

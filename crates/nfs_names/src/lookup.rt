@@ -11,14 +11,15 @@ ghost use Rattle.nfs_names.specs.Lookup.{found_in, searched};
 ghost use Rattle.nfs_inodes.specs.Stops.{StopsAt};
 
 use nfs_inodes::{
-    Directory, Known, Right, directory, handle, leads_to, name_checked, named, object, permitted,
+    Known, KnownDirectory, Right, directory, handle, leads_to, name_checked, named, object,
+    permitted,
 };
 use nfs_machine::{Ctx, Reply};
-use nfs_objects::{Change, Draft, Halt};
-use nfs_wire::{Attributes, Found as Object, LookupReply, NfsCall, NfsReply, NfsStatus, Place};
+use nfs_objects::{Change, Draft, Missing};
+use nfs_wire::{Attributes, DirOp, Found as Object, LookupReply, NfsCall, NfsReply, NfsStatus};
 
 /// Tries LOOKUP.
-pub(crate) fn attempt(draft: Draft<'_>, place: &Place) -> Result<Change, Halt>
+pub(crate) fn attempt(draft: Draft<'_>, place: &DirOp) -> Result<Change, Missing>
     requires { Begins (calls.Nfs (NfsCall.Lookup place.now)) draft }
     ensures ends { EndsCall (calls.Nfs (NfsCall.Lookup place.now)) draft.entry.ctx draft.entry.view result }
     ensures first { EndsFirst (calls.Nfs (NfsCall.Lookup place.now)) draft.entry.view result }
@@ -33,7 +34,11 @@ pub(crate) fn attempt(draft: Draft<'_>, place: &Place) -> Result<Change, Halt>
 }
 
 /// What the name leads to in the directory, or why nothing is found.
-fn found(draft: &Draft<'_>, known: &Known, name: &[u8]) -> Result<Result<Object, NfsStatus>, Halt>
+fn found(
+    draft: &Draft<'_>,
+    known: &Known,
+    name: &[u8],
+) -> Result<Result<Object, NfsStatus>, Missing>
     requires none { draft.now.writes ≡ [] }
     requires known { Knows draft.now (λ k. IsKnown k.state known.now) }
     ensures { MatchResult result
@@ -57,7 +62,7 @@ fn found(draft: &Draft<'_>, known: &Known, name: &[u8]) -> Result<Result<Object,
 }
 
 /// The checks of LOOKUP: where they pass, the rest decides.
-fn searchable(ctx: &Ctx, known: &Known, name: &[u8]) -> Result<Directory, NfsStatus>
+fn searchable(ctx: &Ctx, known: &Known, name: &[u8]) -> Result<KnownDirectory, NfsStatus>
     ensures known { IfOk result (λ directory. directory.known ≡ known.now) }
     ensures checks { ComesTo (searched ctx.now name.now) known.now result }
 {

@@ -21,13 +21,13 @@ ghost use Rattle.nfs_names.specs.Making.{judged, there_as};
 
 use crate::over::create_over;
 use nfs_inodes::{
-    Directory, Known, Right, Wanted, ask_made, changeable, directory, entry, exports,
+    Known, KnownDirectory, Right, Wanted, ask_made, changeable, directory, entry, exports,
     given_attributes, handle, kind_checked, make_object, named, new_cookie, nothing_shown, object,
     permitted, plain_name_checked, wcc,
 };
 use nfs_machine::Ctx;
-use nfs_objects::{Draft, Halt, LivingExport};
-use nfs_wire::{CreateHow, Made, MadeReply, NfsStatus, Place};
+use nfs_objects::{Draft, LivingExport, Missing};
+use nfs_wire::{CreateHow, DirOp, Made, MadeReply, NfsStatus};
 
 /// What a call makes of a name that is there.
 #[derive(Clone, Copy)]
@@ -45,10 +45,10 @@ pub(crate) enum There<'a> {
 /// `Need`, `Fresh` and `Memory`. The draft is of no use then.
 pub(crate) fn make(
     draft: &mut Draft<'_>,
-    place: &Place,
+    place: &DirOp,
     asked: Result<Wanted<'_>, NfsStatus>,
     there: There<'_>,
-) -> Result<MadeReply, Halt>
+) -> Result<MadeReply, Missing>
     requires none { draft.old.writes ≡ [] }
     requires alone { draft.old.modes ≡ changing }
     ensures answers { MatchResult result
@@ -74,10 +74,10 @@ pub(crate) fn make(
 fn make_in(
     draft: &mut Draft<'_>,
     known: &Known,
-    place: &Place,
+    place: &DirOp,
     asked: Result<Wanted<'_>, NfsStatus>,
     there: There<'_>,
-) -> Result<Result<Made, NfsStatus>, Halt>
+) -> Result<Result<Made, NfsStatus>, Missing>
     requires none { draft.old.writes ≡ [] }
     requires alone { draft.old.modes ≡ changing }
     requires names { Knows draft.old (λ k. Names draft.old.ctx place.now.directory k known.now) }
@@ -104,7 +104,7 @@ fn make_in(
 /// A directory that may get a new name, and what is asked for under it.
 #[derive(Clone, Copy)]
 struct Accepted<'a> {
-    directory: Directory,
+    directory: KnownDirectory,
     wanted: Wanted<'a>,
 }
 
@@ -133,7 +133,7 @@ fn make_there(
     draft: &mut Draft<'_>,
     number: u64,
     there: There<'_>,
-) -> Result<Result<Made, NfsStatus>, Halt>
+) -> Result<Result<Made, NfsStatus>, Missing>
     requires none { draft.old.writes ≡ [] }
     requires alone { draft.old.modes ≡ changing }
     requires lives { IsThere draft.old.view (addresses.Inode number) }
@@ -150,10 +150,10 @@ fn make_there(
 /// A new object where nothing has the name.
 fn make_new(
     draft: &mut Draft<'_>,
-    directory: &Directory,
+    directory: &KnownDirectory,
     name: &[u8],
     wanted: &Wanted<'_>,
-) -> Result<Result<Made, NfsStatus>, Halt>
+) -> Result<Result<Made, NfsStatus>, Missing>
     requires none { draft.old.writes ≡ [] }
     requires alone { draft.old.modes ≡ changing }
     requires known { Knows draft.old (λ k. IsKnown k.state directory.now.known) }
@@ -184,9 +184,9 @@ fn make_new(
 /// `Fresh` where no number is reserved, `Need` of all else, and `Memory`.
 pub(crate) fn ask(
     draft: &Draft<'_>,
-    place: &Place,
+    place: &DirOp,
     asked: Result<Wanted<'_>, NfsStatus>,
-) -> Result<(), Halt>
+) -> Result<(), Missing>
     requires { draft.now.writes ≡ [] }
     ensures { IfErr result (StopsMaking draft.now
         (brought_by draft.now.view place.now.directory ++ added_at draft.now.view place.now)) }
@@ -201,9 +201,9 @@ pub(crate) fn ask(
 fn ask_in(
     draft: &Draft<'_>,
     known: &Known,
-    place: &Place,
+    place: &DirOp,
     asked: Result<Wanted<'_>, NfsStatus>,
-) -> Result<(), Halt>
+) -> Result<(), Missing>
     requires none { draft.now.writes ≡ [] }
     requires names { Knows draft.now (λ k. Names draft.now.ctx place.now.directory k known.now) }
     requires shown { IsShown draft.now known.now }
@@ -225,10 +225,10 @@ fn ask_in(
 /// The same where nothing has the name.
 fn ask_new(
     draft: &Draft<'_>,
-    directory: &Directory,
+    directory: &KnownDirectory,
     name: &[u8],
     wanted: &Wanted<'_>,
-) -> Result<(), Halt>
+) -> Result<(), Missing>
     requires none { draft.now.writes ≡ [] }
     requires shown { IsShown draft.now directory.now.known }
     requires lives { IsThere draft.now.view (addresses.Inode directory.now.known.number) }
@@ -245,7 +245,7 @@ fn ask_new(
 }
 
 /// The checks of what is asked for.
-fn judged(ctx: &Ctx, directory: &Directory, wanted: &Wanted<'_>) -> Result<(), NfsStatus>
+fn judged(ctx: &Ctx, directory: &KnownDirectory, wanted: &Wanted<'_>) -> Result<(), NfsStatus>
     ensures { result ≡ judged ctx.now directory.now.known.attributes.links (wanted_as wanted.now) }
 {
     kind_checked(ctx, directory.known.attributes.links, &wanted.content)?;
@@ -253,7 +253,7 @@ fn judged(ctx: &Ctx, directory: &Directory, wanted: &Wanted<'_>) -> Result<(), N
 }
 
 /// What is told of what lives at a number: its handle and its attributes (RFC 1813, 3.3.8: post_op_fh3).
-pub(crate) fn made(draft: &Draft<'_>, number: u64) -> Result<Made, Halt>
+pub(crate) fn made(draft: &Draft<'_>, number: u64) -> Result<Made, Missing>
     ensures made { MatchResult result
         (λ made. Knows draft.now (λ k. made ≡ made_at k.state draft.now.ctx number))
         (StopsAt draft.now (addresses_of draft.now.view number)) }

@@ -15,9 +15,11 @@ ghost use Rattle.nfs_inodes.specs.Stops.{StopsAt, counted_at};
 ghost use Rattle.nfs_names.specs.Creates.{IsOverEnd, file_over, size_checked};
 
 use crate::make::made;
-use nfs_inodes::{File, Known, Right, SIZE_LIMIT, is_verifier, object, permitted, regular, resize};
+use nfs_inodes::{
+    Known, KnownFile, Right, SIZE_LIMIT, is_verifier, object, permitted, regular, resize,
+};
 use nfs_machine::Ctx;
-use nfs_objects::{Draft, Halt};
+use nfs_objects::{Draft, Missing};
 use nfs_wire::{CreateHow, Made, NfsStatus};
 
 /// CREATE where the name leads to this number.
@@ -25,7 +27,7 @@ pub(crate) fn create_over(
     draft: &mut Draft<'_>,
     number: u64,
     how: &CreateHow,
-) -> Result<Result<Made, NfsStatus>, Halt>
+) -> Result<Result<Made, NfsStatus>, Missing>
     requires none { draft.old.writes ≡ [] }
     requires alone { draft.old.modes ≡ changing }
     requires lives { IsThere draft.old.view (addresses.Inode number) }
@@ -77,7 +79,7 @@ fn size_allowed(ctx: &Ctx, file: &Known, size: u64) -> Result<(), NfsStatus>
 }
 
 /// Cuts the file off, or fills it up, where a size is given.
-fn give_size(draft: &mut Draft<'_>, file: &File, size: Option<u64>) -> Result<(), Halt>
+fn give_size(draft: &mut Draft<'_>, file: &KnownFile, size: Option<u64>) -> Result<(), Missing>
     requires none { draft.old.writes ≡ [] }
     requires alone { draft.old.modes ≡ changing }
     requires shown { IsShown draft.old file.now.known }

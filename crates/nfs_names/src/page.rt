@@ -14,11 +14,11 @@ ghost use Rattle.nfs_names.specs.Pages.{result_size, sizes_fit};
 ghost use Rattle.nfs_inodes.specs.Stops.{StopsAt};
 
 use nfs_inodes::{
-    Directory, EntriesLeft, Known, Listed, Right, TRANSFER_LIMIT, directory, entries_left,
-    permitted, verifier,
+    EntriesLeft, Known, KnownDirectory, ListedEntry, Right, TRANSFER_LIMIT, directory,
+    entries_left, permitted, verifier,
 };
 use nfs_machine::Ctx;
-use nfs_objects::{Draft, Halt};
+use nfs_objects::{Draft, Missing};
 use nfs_wire::{NfsStatus, Verifier};
 use std::alloc::{AllocError, Global};
 
@@ -60,7 +60,7 @@ pub struct Sizes {
 /// A page: the first entries of those that are left.
 #[derive(Drop)]
 pub struct Front<'d> {
-    pub entries: Vec<Listed<'d>>,
+    pub entries: Vec<ListedEntry<'d>>,
     /// Whether these are all.
     pub eof: bool,
 }
@@ -70,7 +70,7 @@ pub(crate) fn page_in<'d>(
     draft: &'d Draft<'_>,
     known: &Known,
     asked: &PageAsked,
-) -> Result<Result<Front<'d>, NfsStatus>, Halt>
+) -> Result<Result<Front<'d>, NfsStatus>, Missing>
     requires none { draft.now.writes ≡ [] }
     requires known { Knows draft.now (λ k. IsKnown k.state known.now) }
     ensures page { MatchResult result
@@ -88,7 +88,11 @@ pub(crate) fn page_in<'d>(
 }
 
 /// The checks of READDIR and READDIRPLUS: where they pass, the rest decides.
-pub(crate) fn listable(ctx: &Ctx, known: &Known, asked: &PageAsked) -> Result<Directory, NfsStatus>
+pub(crate) fn listable(
+    ctx: &Ctx,
+    known: &Known,
+    asked: &PageAsked,
+) -> Result<KnownDirectory, NfsStatus>
     ensures known { IfOk result (λ directory. directory.known ≡ known.now) }
     ensures checks { ComesTo (list_checked ctx.now asked.now) known.now result }
 {
@@ -132,7 +136,7 @@ fn longest_page<'d>(
 }
 
 /// The page of these entries, which ends in front of the one that did not fit.
-fn cut(entries: Vec<Listed<'_>>) -> Result<Front<'_>, NfsStatus>
+fn cut(entries: Vec<ListedEntry<'_>>) -> Result<Front<'_>, NfsStatus>
     ensures { page_found result ≡ page_cut (map listed_entry entries.entry.items) }
 {
     if entries.is_empty() {
@@ -172,7 +176,7 @@ impl Budget {
     }
 
     /// The sizes with one entry more.
-    fn with_entry(&self, sizes: &Sizes, entry: &Listed<'_>) -> Sizes
+    fn with_entry(&self, sizes: &Sizes, entry: &ListedEntry<'_>) -> Sizes
         requires fit { sizes_fit self.now sizes.now ≡ true }
         requires names { sizes.now.names ≤ sizes.now.whole }
         ensures whole { result.whole ≡ sizes.now.whole + result_size self.now (listed_entry entry.now) }
@@ -191,7 +195,7 @@ impl Budget {
 }
 
 /// The bytes of an entry's number, name and cookie.
-fn entry_size(entry: &Listed<'_>) -> u64
+fn entry_size(entry: &ListedEntry<'_>) -> u64
     ensures size { result ≡ entry_size (listed_entry entry.now) }
     ensures small { result < 2 ^ 63 + 32 }
 {

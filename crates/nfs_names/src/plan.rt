@@ -28,8 +28,8 @@ use nfs_inodes::wishes::{
 };
 use nfs_inodes::{above, named};
 use nfs_machine::{Call, Ctx, Handle};
-use nfs_objects::{Addr, Draft, Halt, Leaf, Modes, View};
-use nfs_wire::{NfsCall, Place};
+use nfs_objects::{Addr, Draft, Leaf, Missing, Modes, View};
+use nfs_wire::{DirOp, NfsCall};
 use std::alloc::Global;
 
 /// How far a call is in its plan: what it wants next, if it lacks that.
@@ -65,7 +65,7 @@ pub enum Plan {
 }
 
 /// What is wanted, and where the plan is once it is taken. None where the plan is over, as far as the view tells.
-type Next = Option<(Want, Plan)>;
+type NextWant = Option<(Want, Plan)>;
 
 /// The plan of a call that takes what its first handle names.
 pub fn behind_first(call: &NfsCall) -> Plan {
@@ -76,7 +76,7 @@ pub fn behind_first(call: &NfsCall) -> Plan {
 }
 
 /// What a call that is there in its plan wants next.
-pub fn next(alloc: Global, call: &Call, ctx: &Ctx, view: &View, plan: Plan) -> Next
+pub fn next(alloc: Global, call: &Call, ctx: &Ctx, view: &View, plan: Plan) -> NextWant
     requires { Suits (modes_of call.now) view.now }
     ensures { IfSome result (λ next. IsWanted (modes_of call.now) (named_by call.now view.now)
         (new_numbers call.now view.now) view.now next.0) }
@@ -89,7 +89,7 @@ pub fn next(alloc: Global, call: &Call, ctx: &Ctx, view: &View, plan: Plan) -> N
 }
 
 /// The same of its draft.
-fn go_on(draft: &Draft<'_>, call: &NfsCall, plan: Plan) -> Next
+fn go_on(draft: &Draft<'_>, call: &NfsCall, plan: Plan) -> NextWant
     requires { Begins (calls.Nfs call.now) draft.now }
     ensures { MayGoOn call.now draft.now result }
 {
@@ -109,7 +109,7 @@ fn go_on(draft: &Draft<'_>, call: &NfsCall, plan: Plan) -> Next
 }
 
 /// What the second handle names, and what is behind that.
-fn second(draft: &Draft<'_>, call: &NfsCall) -> Next
+fn second(draft: &Draft<'_>, call: &NfsCall) -> NextWant
     requires { Begins (calls.Nfs call.now) draft.now }
     ensures { MayGoOn call.now draft.now result }
 {
@@ -124,7 +124,7 @@ fn second_wish(draft: &Draft<'_>, call: &NfsCall) -> Option<Wish>
     ensures { IfSome result (MayWant call.now draft.now) }
 {
     let number = second_number(call)?;
-    draft.lacked(Addr::Inode(number))
+    draft.missing(Addr::Inode(number))
 }
 
 /// The number that the second handle of a call names, if it has one.
@@ -147,7 +147,7 @@ fn second_handle(call: &NfsCall) -> Option<&Bytes>
 }
 
 /// The part of the old name, and what is behind that.
-fn old_part(draft: &Draft<'_>, call: &NfsCall) -> Next
+fn old_part(draft: &Draft<'_>, call: &NfsCall) -> NextWant
     requires { Begins (calls.Nfs call.now) draft.now }
     ensures { MayGoOn call.now draft.now result }
 {
@@ -158,7 +158,7 @@ fn old_part(draft: &Draft<'_>, call: &NfsCall) -> Next
 }
 
 /// The part of the new name, and what is behind that.
-fn new_part(draft: &Draft<'_>, call: &NfsCall) -> Next
+fn new_part(draft: &Draft<'_>, call: &NfsCall) -> NextWant
     requires { Begins (calls.Nfs call.now) draft.now }
     ensures { MayGoOn call.now draft.now result }
 {
@@ -169,7 +169,7 @@ fn new_part(draft: &Draft<'_>, call: &NfsCall) -> Next
 }
 
 /// What a name leads to, and what is behind that.
-fn object(draft: &Draft<'_>, call: &NfsCall) -> Next
+fn object(draft: &Draft<'_>, call: &NfsCall) -> NextWant
     requires { Begins (calls.Nfs call.now) draft.now }
     ensures { MayGoOn call.now draft.now result }
 {
@@ -180,7 +180,7 @@ fn object(draft: &Draft<'_>, call: &NfsCall) -> Next
 }
 
 /// What the old name leads to, and what is behind that.
-fn old_object(draft: &Draft<'_>, call: &NfsCall, place: &Place) -> Next
+fn old_object(draft: &Draft<'_>, call: &NfsCall, place: &DirOp) -> NextWant
     requires { Begins (calls.Nfs call.now) draft.now }
     ensures { MayGoOn call.now draft.now result }
 {
@@ -195,7 +195,7 @@ fn old_object(draft: &Draft<'_>, call: &NfsCall, place: &Place) -> Next
 }
 
 /// The parent of a directory, where LOOKUP asks for it.
-fn parent(draft: &Draft<'_>, call: &NfsCall) -> Next
+fn parent(draft: &Draft<'_>, call: &NfsCall) -> NextWant
     requires { Begins (calls.Nfs call.now) draft.now }
     ensures { MayGoOn call.now draft.now result }
 {
@@ -207,7 +207,7 @@ fn parent(draft: &Draft<'_>, call: &NfsCall) -> Next
 }
 
 /// What the new name leads to, where CREATE may answer it, and what is behind that.
-fn new_object(draft: &Draft<'_>, call: &NfsCall) -> Next
+fn new_object(draft: &Draft<'_>, call: &NfsCall) -> NextWant
     requires { Begins (calls.Nfs call.now) draft.now }
     ensures { MayGoOn call.now draft.now result }
 {
@@ -221,7 +221,7 @@ fn new_object(draft: &Draft<'_>, call: &NfsCall) -> Next
 }
 
 /// What RENAME replaces, and what is behind that: the way up from its target; and the rest of other calls.
-fn replaced(draft: &Draft<'_>, call: &NfsCall, moved: u64) -> Next
+fn replaced(draft: &Draft<'_>, call: &NfsCall, moved: u64) -> NextWant
     requires { Begins (calls.Nfs call.now) draft.now }
     ensures { MayGoOn call.now draft.now result }
 {
@@ -236,7 +236,7 @@ fn replaced(draft: &Draft<'_>, call: &NfsCall, moved: u64) -> Next
 }
 
 /// What is above a directory, where RENAME moves a directory that is another, and what is behind that.
-fn way_up(draft: &Draft<'_>, call: &NfsCall, moved: u64, number: u64) -> Next
+fn way_up(draft: &Draft<'_>, call: &NfsCall, moved: u64, number: u64) -> NextWant
     requires { Begins (calls.Nfs call.now) draft.now }
     ensures { MayGoOn call.now draft.now result }
 {
@@ -254,13 +254,13 @@ fn way_up(draft: &Draft<'_>, call: &NfsCall, moved: u64, number: u64) -> Next
 
 /// What else a call has to hold before it changes anything, where its checks pass; and what is behind that, if some of
 /// it was taken already.
-fn rest(draft: &Draft<'_>, call: &NfsCall, begun: bool) -> Next
+fn rest(draft: &Draft<'_>, call: &NfsCall, begun: bool) -> NextWant
     requires { Begins (calls.Nfs call.now) draft.now }
     ensures { MayGoOn call.now draft.now result }
 {
     match ask(draft, call) {
-        Err(Halt::Need(asked)) => Some((Want::Addresses(asked), behind_rest(call))),
-        Err(Halt::Fresh(count)) => Some((Want::Numbers(count), Plan::Rest)),
+        Err(Missing::Need(asked)) => Some((Want::Addresses(asked), behind_rest(call))),
+        Err(Missing::Fresh(count)) => Some((Want::Numbers(count), Plan::Rest)),
         Ok(()) if begun => data(draft, call),
         _ => None,
     }
@@ -276,7 +276,7 @@ fn behind_rest(call: &NfsCall) -> Plan {
 }
 
 /// The data of a file that goes with its last name.
-fn data(draft: &Draft<'_>, call: &NfsCall) -> Next
+fn data(draft: &Draft<'_>, call: &NfsCall) -> NextWant
     requires { Begins (calls.Nfs call.now) draft.now }
     ensures { MayGoOn call.now draft.now result }
 {
@@ -286,7 +286,7 @@ fn data(draft: &Draft<'_>, call: &NfsCall) -> Next
 }
 
 /// Asks for what else a call has to hold before it changes anything, where its checks pass.
-fn ask(draft: &Draft<'_>, call: &NfsCall) -> Result<(), Halt>
+fn ask(draft: &Draft<'_>, call: &NfsCall) -> Result<(), Missing>
     requires { Begins (calls.Nfs call.now) draft.now }
     ensures { IfErr result (MayHalt (calls.Nfs call.now) draft.now) }
 {
@@ -304,7 +304,7 @@ fn ask(draft: &Draft<'_>, call: &NfsCall) -> Result<(), Halt>
 }
 
 /// The first pages that a call lists, where its checks pass.
-fn listing(draft: &Draft<'_>, call: &NfsCall) -> Next
+fn listing(draft: &Draft<'_>, call: &NfsCall) -> NextWant
     requires { Begins (calls.Nfs call.now) draft.now }
     ensures { MayGoOn call.now draft.now result }
 {
@@ -320,7 +320,7 @@ fn listing(draft: &Draft<'_>, call: &NfsCall) -> Next
 }
 
 /// The next pages that a call lists.
-fn next_pages(draft: &Draft<'_>, call: &NfsCall, left: PagesLeft) -> Next
+fn next_pages(draft: &Draft<'_>, call: &NfsCall, left: PagesLeft) -> NextWant
     requires { Begins (calls.Nfs call.now) draft.now }
     ensures { MayGoOn call.now draft.now result }
 {
@@ -341,7 +341,7 @@ fn listed(call: &NfsCall) -> Option<(&Bytes, PageAsked)> {
 }
 
 /// The part that a name is in, if it is there.
-fn part_of(draft: &Draft<'_>, place: Option<&Place>) -> Option<Wish>
+fn part_of(draft: &Draft<'_>, place: Option<&DirOp>) -> Option<Wish>
     requires { draft.now.writes ≡ [] }
     ensures { IfSome result (MayWish draft.now) }
 {
@@ -354,7 +354,7 @@ fn part_of(draft: &Draft<'_>, place: Option<&Place>) -> Option<Wish>
 }
 
 /// What a name leads to, as far as the draft shows it.
-fn leaf_at(draft: &Draft<'_>, place: &Place) -> Option<Leaf>
+fn leaf_at(draft: &Draft<'_>, place: &DirOp) -> Option<Leaf>
     requires { draft.now.writes ≡ [] }
     ensures { IfSome result (λ leaf. IsThere draft.now.view (addresses.Inode leaf.number)) }
 {
@@ -362,7 +362,7 @@ fn leaf_at(draft: &Draft<'_>, place: &Place) -> Option<Leaf>
 }
 
 /// What stands where a name leads to, as far as the draft shows that.
-fn object_at(draft: &Draft<'_>, place: &Place) -> Option<Wish>
+fn object_at(draft: &Draft<'_>, place: &DirOp) -> Option<Wish>
     requires { draft.now.writes ≡ [] }
     ensures { IfSome result (MayWish draft.now) }
 {
@@ -377,7 +377,7 @@ fn number_of(handle: &Bytes) -> Option<u64> {
 }
 
 /// The name that a call looks up or takes away.
-fn old_name(call: &NfsCall) -> Option<&Place> {
+fn old_name(call: &NfsCall) -> Option<&DirOp> {
     match call {
         NfsCall::Lookup(place) | NfsCall::Remove(place) | NfsCall::Rmdir(place) => Some(place),
         NfsCall::Rename(arguments) => Some(&arguments.from),
@@ -386,7 +386,7 @@ fn old_name(call: &NfsCall) -> Option<&Place> {
 }
 
 /// The name that a call adds.
-fn new_name(call: &NfsCall) -> Option<&Place> {
+fn new_name(call: &NfsCall) -> Option<&DirOp> {
     match call {
         NfsCall::Create(arguments) => Some(&arguments.place),
         NfsCall::Mkdir(arguments) => Some(&arguments.place),
@@ -399,7 +399,7 @@ fn new_name(call: &NfsCall) -> Option<&Place> {
 }
 
 /// The name that a call takes from a file.
-fn lost_name(call: &NfsCall) -> Option<&Place> {
+fn lost_name(call: &NfsCall) -> Option<&DirOp> {
     match call {
         NfsCall::Remove(place) => Some(place),
         NfsCall::Rename(arguments) => Some(&arguments.to),

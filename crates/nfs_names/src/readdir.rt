@@ -12,9 +12,9 @@ ghost use Rattle.nfs_names.specs.Pages.{Lists, names_asked, names_page};
 ghost use Rattle.nfs_inodes.specs.Stops.{StopsAt};
 
 use crate::page::{Budget, PageAsked, page_in};
-use nfs_inodes::{Known, Listed, named, verifier};
+use nfs_inodes::{Known, ListedEntry, named, verifier};
 use nfs_machine::Reply;
-use nfs_objects::{Change, Draft, Halt};
+use nfs_objects::{Change, Draft, Missing};
 use nfs_wire::{
     Attributes, Names, NfsCall, NfsReply, NfsStatus, Page, PageEntry, ReaddirArguments,
     ReaddirReply,
@@ -22,7 +22,7 @@ use nfs_wire::{
 use std::alloc::{AllocError, Global};
 
 /// Tries READDIR.
-pub(crate) fn attempt(draft: Draft<'_>, arguments: &ReaddirArguments) -> Result<Change, Halt>
+pub(crate) fn attempt(draft: Draft<'_>, arguments: &ReaddirArguments) -> Result<Change, Missing>
     requires { Begins (calls.Nfs (NfsCall.Readdir arguments.now)) draft }
     ensures ends { EndsCall (calls.Nfs (NfsCall.Readdir arguments.now)) draft.entry.ctx draft.entry.view result }
     ensures first { EndsFirst (calls.Nfs (NfsCall.Readdir arguments.now)) draft.entry.view result }
@@ -51,7 +51,7 @@ fn listed(
     draft: &Draft<'_>,
     known: &Known,
     asked: &PageAsked,
-) -> Result<Result<Page, NfsStatus>, Halt>
+) -> Result<Result<Page, NfsStatus>, Missing>
     requires none { draft.now.writes ≡ [] }
     requires known { Knows draft.now (λ k. IsKnown k.state known.now) }
     ensures { MatchResult result
@@ -69,7 +69,7 @@ fn listed(
 }
 
 /// The entries of a page, as READDIR lists them.
-fn names(alloc: Global, entries: &[Listed<'_>]) -> Result<Names, AllocError>
+fn names(alloc: Global, entries: &[ListedEntry<'_>]) -> Result<Names, AllocError>
     ensures { IfOk result (λ names. names ≡ map page_entry (map listed_entry entries.now)) }
 {
     let mut names = Vec::with_capacity(alloc, entries.len())?;
@@ -80,7 +80,7 @@ fn names(alloc: Global, entries: &[Listed<'_>]) -> Result<Names, AllocError>
 }
 
 /// An entry as READDIR lists it.
-pub(crate) fn page_entry(entry: &Listed<'_>) -> Result<PageEntry, AllocError>
+pub(crate) fn page_entry(entry: &ListedEntry<'_>) -> Result<PageEntry, AllocError>
     ensures { IfOk result (λ shown. shown ≡ page_entry (listed_entry entry.now)) }
 {
     Ok(PageEntry {

@@ -15,16 +15,16 @@ ghost use Rattle.nfs_inodes.specs.Stops.{StopsAt};
 
 use crate::page::{Budget, PageAsked, page_in};
 use crate::readdir::page_entry;
-use nfs_inodes::{Known, Listed, handle, named, object, read_objects, verifier};
+use nfs_inodes::{Known, ListedEntry, handle, named, object, read_objects, verifier};
 use nfs_machine::Reply;
-use nfs_objects::{Addr, Change, Draft, Halt};
+use nfs_objects::{Addr, Change, Draft, Missing};
 use nfs_wire::{
     Attributes, FullEntry, FullNames, NfsCall, NfsReply, NfsStatus, PagePlus, ReaddirplusArguments,
     ReaddirplusReply,
 };
 
 /// Tries READDIRPLUS.
-pub(crate) fn attempt(draft: Draft<'_>, arguments: &ReaddirplusArguments) -> Result<Change, Halt>
+pub(crate) fn attempt(draft: Draft<'_>, arguments: &ReaddirplusArguments) -> Result<Change, Missing>
     requires { Begins (calls.Nfs (NfsCall.Readdirplus arguments.now)) draft }
     ensures ends { EndsCall (calls.Nfs (NfsCall.Readdirplus arguments.now)) draft.entry.ctx draft.entry.view result }
     ensures first { EndsFirst (calls.Nfs (NfsCall.Readdirplus arguments.now)) draft.entry.view result }
@@ -53,7 +53,7 @@ fn listed(
     draft: &Draft<'_>,
     known: &Known,
     asked: &PageAsked,
-) -> Result<Result<PagePlus, NfsStatus>, Halt>
+) -> Result<Result<PagePlus, NfsStatus>, Missing>
     requires none { draft.now.writes ≡ [] }
     requires known { Knows draft.now (λ k. IsKnown k.state known.now) }
     ensures { MatchResult result
@@ -74,7 +74,7 @@ fn listed(
 }
 
 /// The entries of a page, as READDIRPLUS lists them.
-fn entries(draft: &Draft<'_>, list: &[Listed<'_>]) -> Result<FullNames, Halt>
+fn entries(draft: &Draft<'_>, list: &[ListedEntry<'_>]) -> Result<FullNames, Missing>
     requires none { draft.now.writes ≡ [] }
     requires lives { EachLives draft.now.view (map listed_entry list.now) }
     ensures { MatchResult result
@@ -90,7 +90,7 @@ fn entries(draft: &Draft<'_>, list: &[Listed<'_>]) -> Result<FullNames, Halt>
 }
 
 /// An entry as READDIRPLUS lists it.
-fn full_entry(draft: &Draft<'_>, entry: &Listed<'_>) -> Result<FullEntry, Halt>
+fn full_entry(draft: &Draft<'_>, entry: &ListedEntry<'_>) -> Result<FullEntry, Missing>
     requires { IsThere draft.now.view (Addr.Inode entry.now.number) }
     ensures { MatchResult result
         (λ shown. Knows draft.now (λ k. full_entry k.state draft.now.ctx (listed_entry entry.now) ≡ shown))

@@ -15,12 +15,12 @@ ghost use Rattle.nfs_names.specs.Removes.{IsTakable, IsTakenEnd, above, call_of,
 
 use crate::checking::changed_directory;
 use nfs_inodes::{
-    Directory, Known, ask_lost, directory, entry, exports, is_empty, named, no_directory,
+    Known, KnownDirectory, ask_lost, directory, entry, exports, is_empty, named, no_directory,
     nothing_shown, object, take_name, wcc,
 };
 use nfs_machine::Reply;
-use nfs_objects::{Addr, Change, Draft, Halt};
-use nfs_wire::{NfsReply, NfsStatus, Place, RemovedReply, Wcc};
+use nfs_objects::{Addr, Change, Draft, Missing};
+use nfs_wire::{DirOp, NfsReply, NfsStatus, RemovedReply, Wcc};
 
 /// How a name is taken away.
 #[derive(Clone, Copy)]
@@ -32,7 +32,11 @@ pub(crate) enum Taking {
 }
 
 /// Tries REMOVE or RMDIR.
-pub(crate) fn attempt(mut draft: Draft<'_>, taking: Taking, place: &Place) -> Result<Change, Halt>
+pub(crate) fn attempt(
+    mut draft: Draft<'_>,
+    taking: Taking,
+    place: &DirOp,
+) -> Result<Change, Missing>
     requires { Begins (call_of taking place.now) draft }
     ensures ends { EndsCall (call_of taking place.now) draft.entry.ctx draft.entry.view result }
     ensures first { EndsFirst (call_of taking place.now) draft.entry.view result }
@@ -52,8 +56,8 @@ fn take(
     draft: &mut Draft<'_>,
     taking: Taking,
     known: &Known,
-    place: &Place,
-) -> Result<Result<(), NfsStatus>, Halt>
+    place: &DirOp,
+) -> Result<Result<(), NfsStatus>, Missing>
     requires none { draft.old.writes ≡ [] }
     requires alone { draft.old.modes ≡ changing }
     requires names { Knows draft.old (λ k. Names draft.old.ctx place.now.directory k known.now) }
@@ -89,7 +93,7 @@ fn take(
 /// # Errors
 ///
 /// `Need` of that, and `Memory`.
-pub(crate) fn ask(draft: &Draft<'_>, taking: Taking, place: &Place) -> Result<(), Halt>
+pub(crate) fn ask(draft: &Draft<'_>, taking: Taking, place: &DirOp) -> Result<(), Missing>
     requires { Begins (call_of taking place.now) draft.now }
     ensures { IfErr result (MayHalt (call_of taking place.now) draft.now) }
 {
@@ -100,7 +104,7 @@ pub(crate) fn ask(draft: &Draft<'_>, taking: Taking, place: &Place) -> Result<()
 }
 
 /// The same in the directory that the handle names.
-fn ask_taken(draft: &Draft<'_>, taking: Taking, known: &Known, place: &Place) -> Result<(), Halt>
+fn ask_taken(draft: &Draft<'_>, taking: Taking, known: &Known, place: &DirOp) -> Result<(), Missing>
     requires none { draft.now.writes ≡ [] }
     requires names { Knows draft.now (λ k. Names draft.now.ctx place.now.directory k known.now) }
     requires number { HasNumber place.now.directory known.now.number }
@@ -134,9 +138,9 @@ fn above(taking: Taking) -> NfsStatus
 fn takable(
     draft: &Draft<'_>,
     taking: Taking,
-    directory: &Directory,
+    directory: &KnownDirectory,
     name: &[u8],
-) -> Result<Result<Known, NfsStatus>, Halt>
+) -> Result<Result<Known, NfsStatus>, Missing>
     requires none { draft.now.writes ≡ [] }
     requires known { Knows draft.now (λ k. IsKnown k.state directory.now.known) }
     ensures found { MatchResult result
@@ -159,7 +163,11 @@ fn takable(
 }
 
 /// Whether an object may be taken away.
-fn judged(draft: &Draft<'_>, taking: Taking, object: &Known) -> Result<Result<(), NfsStatus>, Halt>
+fn judged(
+    draft: &Draft<'_>,
+    taking: Taking,
+    object: &Known,
+) -> Result<Result<(), NfsStatus>, Missing>
     requires known { Knows draft.now (λ k. IsKnown k.state object.now) }
     ensures { MatchResult result
         (λ verdict. Knows draft.now (λ k. judged taking (content_at k.state object.now.number) ≡ verdict))
@@ -172,7 +180,7 @@ fn judged(draft: &Draft<'_>, taking: Taking, object: &Known) -> Result<Result<()
 }
 
 /// Whether an object is a directory that has no entry.
-fn empty_directory(draft: &Draft<'_>, object: &Known) -> Result<Result<(), NfsStatus>, Halt>
+fn empty_directory(draft: &Draft<'_>, object: &Known) -> Result<Result<(), NfsStatus>, Missing>
     requires known { Knows draft.now (λ k. IsKnown k.state object.now) }
     ensures { MatchResult result
         (λ verdict. Knows draft.now (λ k. empty_directory (content_at k.state object.now.number) ≡ verdict))

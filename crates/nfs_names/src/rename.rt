@@ -29,26 +29,26 @@ ghost use Rattle.nfs_names.specs.Renames.{entry_moved, is_one_directory, links_g
 ghost use Rattle.nfs_names.specs.Renames.{names_counted, rename_checked, renamed, replaced_lost, replaces_directory};
 
 use nfs_inodes::{
-    Directory, Known, LINK_LIMIT, Right, ask_given, ask_left, ask_lost, changeable, directory,
+    Known, KnownDirectory, LINK_LIMIT, Right, ask_given, ask_left, ask_lost, changeable, directory,
     entry, exports, give_name, is_empty, is_within, leave, lose_link, named, new_cookie,
     nothing_shown, object, permitted, plain_name_checked, rehome, wcc,
 };
 use nfs_machine::{Ctx, Reply};
-use nfs_objects::{Change, Draft, Halt, LivingExport, Mode};
+use nfs_objects::{Change, Draft, LivingExport, Missing, Mode};
 use nfs_wire::{FileType, NfsCall, NfsReply, NfsStatus, RenameArguments, RenamedReply, Wcc};
 
 /// The directories of the two names.
 #[derive(Clone, Copy)]
 struct Places {
-    from: Directory,
-    to: Directory,
+    from: KnownDirectory,
+    to: KnownDirectory,
 }
 
 /// The directories of the two names, the object that the old one leads to, and the one that has the new name before.
 #[derive(Clone, Copy)]
 struct Renaming {
-    from: Directory,
-    to: Directory,
+    from: KnownDirectory,
+    to: KnownDirectory,
     moved: Known,
     replaced: Option<Known>,
 }
@@ -58,7 +58,7 @@ pub(crate) fn attempt(
     draft: Draft<'_>,
     reads: usize,
     arguments: &RenameArguments,
-) -> Result<Change, Halt>
+) -> Result<Change, Missing>
     requires begins { Begins (calls.Nfs (NfsCall.Rename arguments.now)) draft }
     requires reads { length draft.view.entries ≤ reads }
     ensures ends { EndsCall (calls.Nfs (NfsCall.Rename arguments.now)) draft.entry.ctx draft.entry.view result }
@@ -76,7 +76,7 @@ fn attempt_from(
     reads: usize,
     from: &Known,
     arguments: &RenameArguments,
-) -> Result<Change, Halt>
+) -> Result<Change, Missing>
     requires reads { length draft.view.entries ≤ reads }
     requires begins { Begins (calls.Nfs (NfsCall.Rename arguments.now)) draft }
     requires names { Knows draft (λ k. Names draft.ctx arguments.now.from.directory k from.now) }
@@ -105,7 +105,7 @@ fn rename(
     from: &Known,
     to: &Known,
     arguments: &RenameArguments,
-) -> Result<Result<(), NfsStatus>, Halt>
+) -> Result<Result<(), NfsStatus>, Missing>
     requires reads { length draft.old.view.entries ≤ reads }
     requires begins { Begins (calls.Nfs (NfsCall.Rename arguments.now)) draft.old }
     requires from { Knows draft.old (λ k. Names draft.old.ctx arguments.now.from.directory k from.now) }
@@ -173,9 +173,9 @@ fn movable(
 /// The object that a name leads to in a directory, if any.
 fn object_under(
     draft: &Draft<'_>,
-    directory: &Directory,
+    directory: &KnownDirectory,
     name: &[u8],
-) -> Result<Option<Known>, Halt>
+) -> Result<Option<Known>, Missing>
     requires none { draft.now.writes ≡ [] }
     requires known { Knows draft.now (λ k. IsKnown k.state directory.now.known) }
     ensures finds { MatchResult result
@@ -196,7 +196,7 @@ fn rename_found(
     reads: usize,
     renaming: &Renaming,
     arguments: &RenameArguments,
-) -> Result<Result<(), NfsStatus>, Halt>
+) -> Result<Result<(), NfsStatus>, Missing>
     requires reads { length draft.old.view.entries ≤ reads }
     requires none { draft.old.writes ≡ [] }
     requires alone { MayRename draft.old renaming.now }
@@ -231,7 +231,7 @@ fn rename_found(
 /// # Errors
 ///
 /// `Need` of that, and `Memory`.
-pub(crate) fn ask(draft: &Draft<'_>, arguments: &RenameArguments) -> Result<(), Halt>
+pub(crate) fn ask(draft: &Draft<'_>, arguments: &RenameArguments) -> Result<(), Missing>
     requires { Begins (calls.Nfs (NfsCall.Rename arguments.now)) draft.now }
     ensures { IfErr result (MayHalt (calls.Nfs (NfsCall.Rename arguments.now)) draft.now) }
 {
@@ -250,7 +250,7 @@ fn ask_renamed(
     from: &Known,
     to: &Known,
     arguments: &RenameArguments,
-) -> Result<(), Halt>
+) -> Result<(), Missing>
     requires none { draft.now.writes ≡ [] }
     requires from { Knows draft.now (λ k. Names draft.now.ctx arguments.now.from.directory k from.now) }
     requires to { Knows draft.now (λ k. Names draft.now.ctx arguments.now.to.directory k to.now) }
@@ -279,7 +279,7 @@ fn ask_found(
     draft: &Draft<'_>,
     renaming: &Renaming,
     arguments: &RenameArguments,
-) -> Result<(), Halt>
+) -> Result<(), Missing>
     requires none { draft.now.writes ≡ [] }
     requires shown { BothShown draft.now renaming.now.from.known renaming.now.to.known }
     requires finds { Knows draft.now (λ k. IsRenaming k draft.now.ctx arguments.now renaming.now) }
@@ -302,7 +302,7 @@ fn ask_moved(
     renaming: &Renaming,
     arguments: &RenameArguments,
     cookie: u64,
-) -> Result<(), Halt>
+) -> Result<(), Missing>
     requires none { draft.now.writes ≡ [] }
     requires shown { BothShown draft.now renaming.now.from.known renaming.now.to.known }
     requires from { IsThere draft.now.view (addresses.Inode renaming.now.from.known.number) }
@@ -339,7 +339,7 @@ fn is_directory(known: &Known) -> bool
 
 /// Whether what has the new name may be replaced: a directory with no entry by a directory, and anything else by what
 /// is no directory.
-fn is_replaceable(draft: &Draft<'_>, renaming: &Renaming) -> Result<bool, Halt>
+fn is_replaceable(draft: &Draft<'_>, renaming: &Renaming) -> Result<bool, Missing>
     requires none { draft.now.writes ≡ [] }
     requires moved { Knows draft.now (λ k. IsKnown k.state renaming.now.moved) }
     requires replaced { Knows draft.now (λ k. IfSome renaming.now.replaced (IsKnown k.state)) }
@@ -362,7 +362,7 @@ fn is_replaceable(draft: &Draft<'_>, renaming: &Renaming) -> Result<bool, Halt>
 }
 
 /// Whether a directory would go into itself, or below.
-fn goes_into_itself(draft: &Draft<'_>, reads: usize, renaming: &Renaming) -> Result<bool, Halt>
+fn goes_into_itself(draft: &Draft<'_>, reads: usize, renaming: &Renaming) -> Result<bool, Missing>
     requires reads { length draft.now.view.entries ≤ reads }
     requires none { draft.now.writes ≡ [] }
     requires moved { Knows draft.now (λ k. IsKnown k.state renaming.now.moved) }
@@ -397,7 +397,7 @@ fn move_name(
     renaming: &Renaming,
     arguments: &RenameArguments,
     cookie: u64,
-) -> Result<(), Halt>
+) -> Result<(), Missing>
     requires none { draft.old.writes ≡ [] }
     requires alone { MayRename draft.old renaming.now }
     requires shown { BothShown draft.old renaming.now.from.known renaming.now.to.known }
@@ -420,7 +420,7 @@ fn move_entry(
     renaming: &Renaming,
     arguments: &RenameArguments,
     cookie: u64,
-) -> Result<(), Halt>
+) -> Result<(), Missing>
     requires none { draft.old.writes ≡ [] }
     requires alone { MayRename draft.old renaming.now }
     requires shown { BothShown draft.old renaming.now.from.known renaming.now.to.known }
@@ -453,7 +453,7 @@ fn move_entry(
 }
 
 /// Takes the new name from what had it.
-fn lose_replaced(draft: &mut Draft<'_>, renaming: &Renaming) -> Result<(), Halt>
+fn lose_replaced(draft: &mut Draft<'_>, renaming: &Renaming) -> Result<(), Missing>
     requires alone { IfSome renaming.now.replaced (λ o. MayChange draft.old (addresses.Inode o.number)) }
     requires locks { draft.old.modes.locks ≡ Mode.Exclusive }
     requires lives { IfSome renaming.now.replaced (λ o. IsThere draft.old.view (addresses.Inode o.number)) }

@@ -10,7 +10,7 @@ use Rattle.std.specs.List.{AllByRecursion, count_by}
 use Rattle.std.specs.Option.{is_none}
 use Rattle.nfs_wire.specs.declared.calls.NfsCall.{NfsCall}
 use Rattle.nfs_wire.specs.declared.calls.NfsCall.TheVariants as nfs
-use Rattle.nfs_wire.specs.declared.calls.Place.{Place}
+use Rattle.nfs_wire.specs.declared.calls.DirOp.{DirOp}
 use Rattle.side_wire.specs.declared.nlm.NlmCall.{NlmCall}
 use Rattle.side_wire.specs.declared.nlm.NlmCall.TheVariants as nlm
 use Rattle.nfs_machine.specs.Handles.{handle_of}
@@ -39,7 +39,7 @@ use Rattle.nfs_objects.specs.Stands.{export_table_of}
 use Rattle.nfs_objects.specs.Fits.{Fits, vacant}
 use Rattle.nfs_objects.specs.Modes.{led_at, modes_of, number_at, number_in, part_address}
 use Rattle.nfs_objects.specs.Sound.{Sound}
-use Rattle.nfs_objects.specs.Stands.{Kept, Represents, header_of}
+use Rattle.nfs_objects.specs.Stands.{StoreMeaning, Represents, header_of}
 use Rattle.nfs_objects.specs.Store.{Store}
 use Rattle.nfs_objects.specs.Values.{Seen, ViewValue, is_addr, seen_at, shown_at}
 use Rattle.nfs_objects.specs.declared.address.Addr.{Addr}
@@ -329,11 +329,11 @@ next-stay es more n name a = by (shown_at es (addresses.Inode n)) refl
         subst (λ x. IsAmong (places_of n name x) a) (sym (shown-before es more (addresses.Inode n) o is))
         (subst (λ x. IsAmong (places_of n name x) a) is among)
 
-abbrev added_of : List Seen → Place → Option Handle → List Addr
+abbrev added_of : List Seen → DirOp → Option Handle → List Addr
 added_of es place h =
     elim h [ None ↦ [] | Some x ↦ places_of x.fileid place.name (shown_at es (addresses.Inode x.fileid)) ]
 
-place-stay : (es more : List Seen) (place : Place) (a : Addr)
+place-stay : (es more : List Seen) (place : DirOp) (a : Addr)
     → IsAmong (added_of es place (handle_of place.directory)) a →
     IsAmong (added_of (es ++ more) place (handle_of place.directory)) a
 place-stay es more place a =
@@ -410,7 +410,7 @@ led-stay view more numbers n name number led = by (shown_at view.entries (addres
 abbrev locks_led : Option ℕ → List Addr
 locks_led led = elim led as (λ (x : Option ℕ). List Addr) [ None ↦ [] | Some number ↦ locks_at number ]
 
-abbrev under_of : ViewValue → Place → Option Handle → List Addr
+abbrev under_of : ViewValue → DirOp → Option Handle → List Addr
 under_of view place h =
     elim h as (λ (x : Option Handle). List Addr) [ None ↦ [] | Some x ↦ locks_led (led_at view x.fileid place.name) ]
 
@@ -426,7 +426,7 @@ bucket-stay view more numbers n name a among = by (led_at view n name) refl
         subst (λ x. IsAmong (locks_led x) a) (sym (led-stay view more numbers n name number is))
         (subst (λ x. IsAmong (locks_led x) a) is among)
 
-under-stay : (view : ViewValue) (more : List Seen) (numbers : List Reserved) (place : Place) (a : Addr) →
+under-stay : (view : ViewValue) (more : List Seen) (numbers : List Reserved) (place : DirOp) (a : Addr) →
     IsAmong (locks_under view place) a →
     IsAmong (locks_under (record { entries = view.entries ++ more; reserved = numbers }) place) a
 under-stay view more numbers place a =
@@ -601,7 +601,7 @@ in-all P [] a all in_it = absurd in_it
 in-all P (x ∷ xs) a all (inl same) = subst P same all.0
 in-all P (x ∷ xs) a all (inr rest) = in-all P xs a all.1 rest
 
-module _ (call : Call) (ctx : Ctx) (s : Store) (k : Kept) (stands : Represents s k) (sound : Sound k)
+module _ (call : Call) (ctx : Ctx) (s : Store) (k : StoreMeaning) (stands : Represents s k) (sound : Sound k)
     (formed : WellFormed k.state) (all : List Addr) where
   -- what the call names on this view is among these
   abbrev pub Names : ViewValue → Type 0
@@ -766,7 +766,7 @@ data-few (nfs.Rename a) = omega arith
 data-few (nfs.Link a) = omega arith
 
 -- of a name that comes two at most
-added-of-few : (es : List Seen) (place : Place) (h : Option Handle) → length (added_of es place h) ≤ 2
+added-of-few : (es : List Seen) (place : DirOp) (h : Option Handle) → length (added_of es place h) ≤ 2
 added-of-few es place None = omega arith
 added-of-few es place (Some h) = by (shown_at es (addresses.Inode h.fileid))
   where
@@ -803,7 +803,7 @@ added-few view (nfs.Pathconf a) = omega arith
 added-few view (nfs.Commit a) = omega arith
 
 -- of a name that goes one at most
-under-few : (view : ViewValue) (place : Place) → length (locks_under view place) ≤ 1
+under-few : (view : ViewValue) (place : DirOp) → length (locks_under view place) ≤ 1
 under-few view place =
     elim (handle_of place.directory) as (λ h. length (under_of view place h) ≤ 1) [
       | None ↦ omega arith

@@ -7,7 +7,7 @@ use Rattle.std.specs.Prelude.{nat_lt, replicate, slice_index_or, zero, suc, []}
 use Rattle.std.specs.Cmp.{unsigned_Decides}
 use Rattle.nfs_machine.specs.State.{Entry}
 use Rattle.nfs_objects.specs.Directories.{led_in_part, no_entries, width_in, width_of}
-use Rattle.nfs_objects.specs.Stands.{HasEntries, HoldsEntries, IsPart, Kept, StandDirectories, StandEntries}
+use Rattle.nfs_objects.specs.Stands.{HasEntries, HoldsEntries, IsPart, StoreMeaning, StandDirectories, StandEntries}
 use Rattle.nfs_objects.specs.Stands.{entries_at, entry_map_of, inode_in}
 use Rattle.nfs_objects.specs.Store.{Store, put_at, with_write}
 use Rattle.nfs_objects.specs.Unfiled.{StandDirectoriesBut}
@@ -36,7 +36,7 @@ module _ (s t : Store) (n : ℕ) (pages : (page : ℕ) → t.at (addresses.Page 
   holds-frame None entries holds =
       (λ page. pages page ∙ holds.0 page, λ bucket part. parts bucket part ∙ holds.1 bucket part)
 
-  pub stand-frame : (k l : Kept) → t.at (addresses.Inode n) ≡ s.at (addresses.Inode n)
+  pub stand-frame : (k l : StoreMeaning) → t.at (addresses.Inode n) ≡ s.at (addresses.Inode n)
       → l.state.exports ≡ k.state.exports → entries_at l.state n ≡ entries_at k.state n
       → StandEntries s k n → StandEntries t l n
   stand-frame k l inode exports entries stand = record {
@@ -47,7 +47,7 @@ module _ (s t : Store) (n : ℕ) (pages : (page : ℕ) → t.at (addresses.Page 
   }
 
 -- all directories stay, where their inodes, pages and parts do, and the state has the same exports and objects
-pub directories-stay : (s t : Store) (k l : Kept)
+pub directories-stay : (s t : Store) (k l : StoreMeaning)
     → ((n page : ℕ) → t.at (addresses.Page n page) ≡ s.at (addresses.Page n page))
     → ((n bucket part : ℕ) → t.at (addresses.Part n bucket part) ≡ s.at (addresses.Part n bucket part))
     → ((n : ℕ) → t.at (addresses.Inode n) ≡ s.at (addresses.Inode n)) → l.state.exports ≡ k.state.exports
@@ -55,7 +55,8 @@ pub directories-stay : (s t : Store) (k l : Kept)
 directories-stay s t k l pages parts inodes exports entries stand =
     λ n. stand-frame s t n (pages n) (parts n) k l (inodes n) exports (entries n) (stand n)
 
-pub directories-but : (number : ℕ) (s : Store) (k : Kept) → StandDirectories s k → StandDirectoriesBut number s k
+pub directories-but : (number : ℕ) (s : Store) (k : StoreMeaning) → StandDirectories s k
+    → StandDirectoriesBut number s k
 directories-but number s k stand = λ n other. stand n
 
 -- ---- no entry
@@ -79,14 +80,14 @@ no-entries s n key none = record {
     zeros (suc count) (suc place) = zeros count place
 
 -- ---- an inode is put, or taken away, and the directory there is as its pages and parts are
-module _ (s : Store) (k : Kept) (number : ℕ) (o : Option Object) (last : ℕ → ℕ)
+module _ (s : Store) (k : StoreMeaning) (number : ℕ) (o : Option Object) (last : ℕ → ℕ)
     (others : StandDirectoriesBut number s k) (entries : List Entry)
     (holds : HoldsEntries s number (entry_map_of o) entries) where
   -- the store with this at the number
   abbrev after : Store
   after = record { at = put_at s.at (addresses.Inode number) o; last = last }
 
-  pub directories-put : (l : Kept) → l.state.exports ≡ k.state.exports
+  pub directories-put : (l : StoreMeaning) → l.state.exports ≡ k.state.exports
       → ((n : ℕ) → (number == n) ≡ false → entries_at l.state n ≡ entries_at k.state n)
       → (IsSome (inode_in l.state.exports o) → entries ≡ entries_at l.state number)
       → StandDirectories after l
@@ -109,7 +110,7 @@ module _ (s : Store) (k : Kept) (number : ℕ) (o : Option Object) (last : ℕ �
           (stay n is) (others n is)
 
 -- ---- writes to the pages and parts of one directory
-module _ (number : ℕ) (s : Store) (k : Kept) (but : StandDirectoriesBut number s k) where
+module _ (number : ℕ) (s : Store) (k : StoreMeaning) (but : StandDirectoriesBut number s k) where
   pub page-but : (page : ℕ) (o : Option Object)
       → StandDirectoriesBut number (with_write s (addresses.Page number page) o) k
   page-but page o n other =

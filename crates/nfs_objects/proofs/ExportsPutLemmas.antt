@@ -22,7 +22,7 @@ use Rattle.nfs_objects.specs.ExportTables.{ExportTableValue}
 use Rattle.nfs_objects.specs.FileMaps.{IsContent}
 use Rattle.nfs_objects.specs.Replaced.{state_with, with_table}
 use Rattle.nfs_objects.specs.Stands.{IsPendingIn, IsPlaced, StandLocks, bucket_there, exported_file, file_there}
-use Rattle.nfs_objects.specs.Stands.{StandDirectories, StandFiles, entry_map_of, stored_in, Kept, Represents}
+use Rattle.nfs_objects.specs.Stands.{StandDirectories, StandFiles, entry_map_of, stored_in, StoreMeaning, Represents}
 use Rattle.nfs_objects.specs.Stands.{StandObjects, StandUsages, counts, inode_in, inode_of, links_kept, parent_kept}
 use Rattle.nfs_objects.specs.Stands.{lives_in, living_in, living_of_inode}
 use Rattle.nfs_objects.specs.Store.{Store, with_write}
@@ -47,7 +47,7 @@ inode-is (Some (objects.Usage u)) i is = cc
 inode-is (Some (objects.Locks bucket)) i is = cc
 inode-is (Some (objects.Inode j)) i is = (let same : j ≡ i = cc in ap (λ x. Some (objects.Inode x)) same)
 
-module _ (s : Store) (k : Kept) (table : ExportTableValue) (stands : Represents s k)
+module _ (s : Store) (k : StoreMeaning) (table : ExportTableValue) (stands : Represents s k)
     (lived : (e : ℕ) → lives_in table.exports e ≡ true
     → (lives_in k.state.exports e ≡ true) ⊎ (k.state.last_export < e))
     (grown : k.state.last_export ≤ table.last)

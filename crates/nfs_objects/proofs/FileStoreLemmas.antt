@@ -13,7 +13,8 @@ use Rattle.nfs_machine.specs.State as machine
 use Rattle.nfs_objects.proofs.DirectoryStoreLemmas.{directories-but}
 use Rattle.nfs_objects.specs.Bits.{has}
 use Rattle.nfs_objects.specs.FileMaps.{FileMapValue, IsContent}
-use Rattle.nfs_objects.specs.Stands.{HasBlocks, IsMapped, IsStored, Kept, Represents, StandFiles, bytes_at, file_bytes}
+use Rattle.nfs_objects.specs.Stands.{HasBlocks, IsMapped, IsStored, StoreMeaning, Represents, StandFiles, bytes_at}
+use Rattle.nfs_objects.specs.Stands.{file_bytes}
 use Rattle.nfs_objects.specs.Stands.{content_of, inode_in, inode_there, living_alone, living_of_inode, map_in, map_of}
 use Rattle.nfs_objects.specs.Stands.{pages_of}
 use Rattle.nfs_objects.specs.Stands.{Beside, HoldsEntries, beside_at, directory_entries, entry_map_in, filled}
@@ -111,7 +112,8 @@ size-with beside contents.Socket counted = refl
 size-with beside contents.Fifo counted = refl
 
 -- so it is with the bytes of what stands there
-pub size-stands : (s : Store) (k : Kept) (n : ℕ) (i : Inode) → Represents s k → inode_there s k.state.exports n ≡ Some i
+pub size-stands : (s : Store) (k : StoreMeaning) (n : ℕ) (i : Inode) → Represents s k
+    → inode_there s k.state.exports n ≡ Some i
     → size_of (filled (beside_at k.state n) (content_of i.content)) ≡ size_of (content_of i.content)
 size-stands s k n i stands there =
     size-with (beside_at k.state n) i.content (λ map is. (stands.files.bytes n i map there is).counted)
@@ -128,7 +130,7 @@ abbrev pub living_beside : Option Living → Beside
 living_beside o = record { bytes = living_bytes o; entries = living_entries o }
 
 -- what a store has of files, and what the state has
-abbrev files_in : Store → Kept → (ℕ → Option Object) × (ℕ → ℕ → Option Object) × (ℕ → ℕ → Option Object) ×
+abbrev files_in : Store → StoreMeaning → (ℕ → Option Object) × (ℕ → ℕ → Option Object) × (ℕ → ℕ → Option Object) ×
     List LivingExport × FinMap nat_cmp Living
 files_in s k = (
   λ n. s.at (addresses.Inode n),
@@ -138,7 +140,7 @@ files_in s k = (
   k.state.objects,
 )
 
-pub files-stay : (s t : Store) (k l : Kept) → files_in t l ≡ files_in s k → StandFiles s k → StandFiles t l
+pub files-stay : (s t : Store) (k l : StoreMeaning) → files_in t l ≡ files_in s k → StandFiles s k → StandFiles t l
 files-stay s t k l same stand = record {
   blocks = λ n. record {
     maps = λ p. subst (λ x. IsMapped (has (pages_of (x.0 n)) p) (x.1 n p)) (sym same) ((stand.blocks n).maps p);
@@ -151,13 +153,13 @@ files-stay s t k l same stand = record {
       (stand.bytes n i map (ap (λ x. inode_in x.3 (x.0 n)) (sym same) ∙ there) is);
 }
 
-pub files-but : (number : ℕ) (s : Store) (k : Kept) → StandFiles s k → StandFilesBut number s k
+pub files-but : (number : ℕ) (s : Store) (k : StoreMeaning) → StandFiles s k → StandFilesBut number s k
 files-but number s k stand = record {
   blocks = λ n other. stand.blocks n;
   bytes = λ n i map other there is. stand.bytes n i map there is;
 }
 
-pub stands-but : (number : ℕ) (s : Store) (k : Kept) → Represents s k → RepresentsBut number s k
+pub stands-but : (number : ℕ) (s : Store) (k : StoreMeaning) → Represents s k → RepresentsBut number s k
 stands-but number s k stands = record {
   tables = stands.tables;
   objects = stands.objects;
@@ -185,7 +187,8 @@ here-or-there P number here there n = by (number == n) refl
     by true is = subst P ((unsigned_Decides number n).0 is) here
     by false is = there n is
 
-module _ (s : Store) (k : Kept) (number : ℕ) (o : Option Object) (last : ℕ → ℕ) (others : StandFilesBut number s k)
+module _ (s : Store) (k : StoreMeaning) (number : ℕ) (o : Option Object) (last : ℕ
+    → ℕ) (others : StandFilesBut number s k)
     (filed : HasBlocks s number (pages_of o)) where
   -- the store with this at the number
   abbrev after : Store
@@ -200,7 +203,7 @@ module _ (s : Store) (k : Kept) (number : ℕ) (o : Option Object) (last : ℕ �
   own : (number == number) ≡ true
   own = (unsigned_Decides number number).1 refl
 
-  pub files-put : (l : Kept) → l.state.exports ≡ k.state.exports
+  pub files-put : (l : StoreMeaning) → l.state.exports ≡ k.state.exports
       → ((n : ℕ) → (number == n) ≡ false → bytes_at l.state n ≡ bytes_at k.state n)
       → ((i : Inode) → inode_in l.state.exports o ≡ Some i → HasContent s number (bytes_at l.state number) i)
       → StandFiles after l

@@ -22,13 +22,13 @@ use Rattle.nfs_objects.specs.Calls.{locks_lost, locks_named, nlm_handles}
 use Rattle.nfs_objects.specs.Calls.{usages_of}
 use Rattle.nfs_objects.specs.Knows.{Turns}
 use Rattle.nfs_objects.specs.Modes.{held_mode}
-use Rattle.nfs_objects.specs.Stands.{Kept}
+use Rattle.nfs_objects.specs.Stands.{StoreMeaning}
 use Rattle.nfs_objects.specs.Sums.{group_of}
 use Rattle.nfs_objects.specs.Values.{DraftValue, ModesValue, ViewValue, seen_at}
 use Rattle.nfs_objects.specs.declared.address.Addr.{Addr}
 use Rattle.nfs_objects.specs.declared.address.Addr.TheVariants as addresses
-use Rattle.nfs_objects.specs.declared.change.Halt.{Halt}
-use Rattle.nfs_objects.specs.declared.change.Halt.TheVariants.{Need, Fresh, Memory}
+use Rattle.nfs_objects.specs.declared.change.Missing.{Missing}
+use Rattle.nfs_objects.specs.declared.change.Missing.TheVariants.{Need, Fresh, Memory}
 use Rattle.nfs_objects.specs.declared.modes.Mode.{Mode}
 
 -- one address that is asked for
@@ -44,7 +44,7 @@ asks-one modes named view a asked unseen is bounded =
 
 -- ---- how a call stops
 -- an address that the draft lacks stops the call that names it, or where something stands
-pub lacks-stops : (d : DraftValue) (named : List Addr) (numbers : ℕ) (a : Addr) (halt : Halt) → Lacks d a halt →
+pub lacks-stops : (d : DraftValue) (named : List Addr) (numbers : ℕ) (a : Addr) (halt : Missing) → Lacks d a halt →
     IsAmong named a ⊎ IsThere d.view a → StopsCall d.modes named numbers d.view halt
 lacks-stops d named numbers a (Need asked) l bounded = asks-one d.modes named d.view a asked.items
     (unknown-unseen d a l.unknown) l.asked bounded
@@ -52,18 +52,19 @@ lacks-stops d named numbers a (Fresh count) l bounded = absurd l.asked
 lacks-stops d named numbers a Memory l bounded = tt
 
 -- and so do numbers that are wanted
-pub numbers-stop : (d : DraftValue) (named : List Addr) (numbers : ℕ) (halt : Halt) → WantsNumbers d numbers halt →
+pub numbers-stop : (d : DraftValue) (named : List Addr) (numbers : ℕ) (halt : Missing) → WantsNumbers d numbers halt →
     StopsCall d.modes named numbers d.view halt
 numbers-stop d named numbers (Fresh count) wants = wants
 numbers-stop d named numbers (Need asked) wants = absurd wants
 numbers-stop d named numbers Memory wants = absurd wants
 
-pub fresh-stops : (d : DraftValue) (named : List Addr) (halt : Halt) → WantsNumber d halt →
+pub fresh-stops : (d : DraftValue) (named : List Addr) (halt : Missing) → WantsNumber d halt →
     StopsCall d.modes named 1 d.view halt
 fresh-stops d named halt wants = numbers-stop d named 1 halt wants
 
 -- what stops the call with a changed draft stops it
-pub turned-stops : (d new : DraftValue) (op : Kept → Kept) (named : List Addr) (numbers : ℕ) (halt : Halt) →
+pub turned-stops : (d new : DraftValue) (op : StoreMeaning → StoreMeaning) (named : List Addr) (numbers : ℕ)
+    (halt : Missing) →
     Turns d new op → StopsCall new.modes named numbers new.view halt → StopsCall d.modes named numbers d.view halt
 turned-stops d new op named numbers halt turns stops =
     subst (λ modes. StopsCall modes named numbers d.view halt) turns.modes
@@ -98,7 +99,7 @@ asks-wider modes few named view asked covers asks = record {
 }
 
 -- what asks for some of these addresses stops a call that names them, or where something stands
-pub stops-within : (modes : ModesValue) (few named : List Addr) (numbers : ℕ) (view : ViewValue) (halt : Halt) →
+pub stops-within : (modes : ModesValue) (few named : List Addr) (numbers : ℕ) (view : ViewValue) (halt : Missing) →
     Covers named view few → StopsCall modes few numbers view halt → StopsCall modes named numbers view halt
 stops-within modes few named numbers view (Need asked) covers stops =
     asks-wider modes few named view asked.items covers stops
@@ -106,7 +107,7 @@ stops-within modes few named numbers view (Fresh count) covers stops = stops
 stops-within modes few named numbers view Memory covers stops = tt
 
 -- and what asks for no number stops it, however many it wants
-pub stops-wider : (modes : ModesValue) (few named : List Addr) (numbers : ℕ) (view : ViewValue) (halt : Halt) →
+pub stops-wider : (modes : ModesValue) (few named : List Addr) (numbers : ℕ) (view : ViewValue) (halt : Missing) →
     Covers named view few → StopsCall modes few 0 view halt → StopsCall modes named numbers view halt
 stops-wider modes few named numbers view (Need asked) covers stops =
     asks-wider modes few named view asked.items covers stops

@@ -8,7 +8,7 @@ use Rattle.std.proofs.Common.{cond, sym, ◌∙◌, ap, subst, inl, inr}
 use Rattle.std.proofs.lemmas.Bool.{and_parts}
 use Rattle.std.specs.Cmp.{unsigned_Decides}
 use Rattle.nfs_wire.specs.declared.calls.NfsCall.TheVariants as nfs
-use Rattle.nfs_wire.specs.declared.calls.Place.{Place}
+use Rattle.nfs_wire.specs.declared.calls.DirOp.{DirOp}
 use Rattle.nfs_wire.specs.declared.calls.RenameArguments.{RenameArguments}
 use Rattle.nfs_machine.proofs.ModesLemmas.{all-joined}
 use Rattle.nfs_machine.specs.Handles.{handle_of}
@@ -49,13 +49,13 @@ covers-shared Exclusive = refl
 
 -- ---- a place
 -- what is_apart says of what stands at the directory's number
-abbrev beside_of : ViewValue → Place → (number fileid : ℕ) → Option (Option Object) → Bool
+abbrev beside_of : ViewValue → DirOp → (number fileid : ℕ) → Option (Option Object) → Bool
 beside_of view place n fileid o = elim o [
   | None ↦ false
   | Some object ↦ not (fileid == n) && is_elsewhere view (part_address fileid object place.name) place.name n
 ]
 
-abbrev at-handle : ViewValue → Place → ℕ → Option Handle → Bool
+abbrev at-handle : ViewValue → DirOp → ℕ → Option Handle → Bool
 at-handle view place n o = elim o [
   | None ↦ false
   | Some h ↦ beside_of view place n h.fileid (shown_at view.entries (addresses.Inode h.fileid))
@@ -98,7 +98,7 @@ module _ (view : ViewValue) (more : List Seen) (reserved : List Reserved) where
           (subst (λ x. elsewhere_of x name n ≡ true) is e)
 
   -- what lies apart from a place does so still
-  apart-wider : (place : Place) (n : ℕ) → is_apart view place n ≡ true → is_apart wider place n ≡ true
+  apart-wider : (place : DirOp) (n : ℕ) → is_apart view place n ≡ true → is_apart wider place n ≡ true
   apart-wider place n =
       elim (handle_of place.directory) as
       (λ (o : Option Handle). at-handle view place n o ≡ true → at-handle wider place n o ≡ true) [
@@ -209,7 +209,7 @@ module _ (d : DraftValue) (a : RenameArguments)
       at-place n (ap (λ b. is_apart d.view a.from n && b) within ∙ and-false (is_apart d.view a.from n))
 
 -- the directory of a name is not apart from its place, and neither is what the name leads to there
-module _ (view : ViewValue) (place : Place) (h : Handle) (names : handle_of place.directory ≡ Some h) where
+module _ (view : ViewValue) (place : DirOp) (h : Handle) (names : handle_of place.directory ≡ Some h) where
   pub place-itself : (n : ℕ) → h.fileid ≡ n → is_apart view place n ≡ false
   place-itself n same =
       subst (λ (o : Option Handle). at-handle view place n o ≡ false) (sym names)
@@ -287,7 +287,7 @@ grows-suitably call ctx view (Done change) (Read entries) attempts gives suits =
 grows-suitably call ctx view (Done change) (Given numbers) attempts gives suits = absurd gives
 
 -- ---- what RENAME holds
-lies-within : (view : ViewValue) (place : Place) (n : ℕ) → LiesAt view place n → is_apart view place n ≡ false
+lies-within : (view : ViewValue) (place : DirOp) (n : ℕ) → LiesAt view place n → is_apart view place n ≡ false
 lies-within view place n lies = elim lies.lies [
   | inl same ↦ place-itself view place lies.handle lies.names n same
   | inr led ↦ place-named view place lies.handle lies.names n led
@@ -315,7 +315,7 @@ not-seen es m n some none =
 abbrev object-shown : Option Seen → Option (Option Object)
 object-shown s = option_map (λ (e : Seen). e.object) s
 
-unseen-apart : (view : ViewValue) (place : Place) (n : ℕ) → ShowsPlace view place →
+unseen-apart : (view : ViewValue) (place : DirOp) (n : ℕ) → ShowsPlace view place →
     seen_at view.entries (addresses.Inode n) ≡ None → is_apart view place n ≡ true
 unseen-apart view place n shows none =
     subst (λ (o : Option Handle). at-handle view place n o ≡ true) (sym shows.names)

@@ -6,7 +6,7 @@ use Rattle.nfs_objects.proofs.LocksStandLemmas.{files-same, locks-stay}
 use Rattle.nfs_objects.proofs.SeenLemmas.{writes-append}
 use Rattle.nfs_objects.specs.Bits.{has}
 use Rattle.nfs_objects.specs.FileMaps.{IsContent}
-use Rattle.nfs_objects.specs.Stands.{IsMapped, IsStored, Kept, bytes_at, map_of}
+use Rattle.nfs_objects.specs.Stands.{IsMapped, IsStored, StoreMeaning, bytes_at, map_of}
 use Rattle.nfs_objects.specs.Stands.{pages_of, stored_in}
 use Rattle.nfs_objects.specs.Store.{Store, with_write, with_writes}
 use Rattle.nfs_objects.specs.Unfiled.{Enters, Lays, RepresentsBut}
@@ -15,7 +15,7 @@ use Rattle.nfs_objects.specs.declared.address.Addr.{Addr}
 use Rattle.nfs_objects.specs.declared.address.Addr.TheVariants as addresses
 use Rattle.nfs_objects.specs.declared.object.Object.{Object}
 
-module _ (number : ℕ) (s : Store) (k : Kept) (but : RepresentsBut number s k) where
+module _ (number : ℕ) (s : Store) (k : StoreMeaning) (but : RepresentsBut number s k) where
   pub map-laid : (page : ℕ) (o : Option Object) → RepresentsBut number (with_write s (addresses.Map number page) o) k
   map-laid page o = record {
     tables = record {
@@ -88,7 +88,7 @@ module _ (number : ℕ) (s : Store) (k : Kept) (but : RepresentsBut number s k) 
           (with_write s (addresses.Block number index) o).at (addresses.Block n b) ≡ s.at (addresses.Block n b)
       same n other b = ap (λ t. cond (t && (index == b)) o (s.at (addresses.Block n b))) other
 
-module _ (number : ℕ) (s : Store) (k : Kept) (but : RepresentsBut number s k) where
+module _ (number : ℕ) (s : Store) (k : StoreMeaning) (but : RepresentsBut number s k) where
   pub page-laid : (page : ℕ) (o : Option Object) → RepresentsBut number (with_write s (addresses.Page number page) o) k
   page-laid page o = record {
     tables = record {

@@ -15,7 +15,7 @@ use Rattle.nfs_objects.specs.Knows.{Does, Turns, Possible, ending}
 use Rattle.nfs_objects.specs.Modes.{held_mode}
 use Rattle.nfs_objects.specs.Promise.{Given, Held, IsPromised}
 use Rattle.nfs_objects.specs.Sound.{Sound}
-use Rattle.nfs_objects.specs.Stands.{Kept, Represents}
+use Rattle.nfs_objects.specs.Stands.{StoreMeaning, Represents}
 use Rattle.nfs_objects.specs.Store.{Store, with_writes}
 use Rattle.nfs_objects.specs.Values.{DraftValue, done_value}
 use Rattle.nfs_objects.specs.declared.address.Addr.{Addr}
@@ -26,7 +26,7 @@ pub turns-none : (d : DraftValue) → Turns d d (λ k. k)
 turns-none d = record { ctx = refl; view = refl; modes = refl; messages = refl; turns = λ s k fits stands. stands }
 
 -- one change after another
-pub turns-both : (a b c : DraftValue) (f g : Kept → Kept) → Turns a b f → Turns b c g →
+pub turns-both : (a b c : DraftValue) (f g : StoreMeaning → StoreMeaning) → Turns a b f → Turns b c g →
     Turns a c (λ k. g (f k))
 turns-both a b c f g x y = record {
   ctx = y.ctx ∙ x.ctx;
@@ -37,14 +37,15 @@ turns-both a b c f g x y = record {
 }
 
 -- what may be changed may be changed still
-pub turned-change : (old new : DraftValue) (op : Kept → Kept) → Turns old new op → (a : Addr) →
+pub turned-change : (old new : DraftValue) (op : StoreMeaning → StoreMeaning) → Turns old new op → (a : Addr) →
     MayChange old a → MayChange new a
 turned-change old new op turns a may =
     subst (λ modes. held_mode modes new.view a ≡ Exclusive) (sym turns.modes)
     (subst (λ view. held_mode old.modes view a ≡ Exclusive) (sym turns.view) may)
 
 -- the store that was possible before is so afterwards
-pub possible-after : (old new : DraftValue) (op : Kept → Kept) → Turns old new op → (s : Store) (k : Kept) →
+pub possible-after : (old new : DraftValue) (op : StoreMeaning → StoreMeaning) → Turns old new op
+    → (s : Store) (k : StoreMeaning) →
     Possible old s k → Sound (op k) → Possible new s (op k)
 possible-after old new op turns s k w sound = record {
   fits = subst (λ v. Fits v s) (sym turns.view) w.fits;
@@ -54,7 +55,7 @@ possible-after old new op turns s k w sound = record {
 
 -- a refusal changes nothing
 pub does-nothing : {A : Type 0} (d : DraftValue) (IsEnd : State → Result (A × State) NfsStatus → Type 0)
-    (e : NfsStatus) → ((s : Store) (k : Kept) → Possible d s k → IsEnd k.state (Err e)) → Does d d IsEnd (Err e)
+    (e : NfsStatus) → ((s : Store) (k : StoreMeaning) → Possible d s k → IsEnd k.state (Err e)) → Does d d IsEnd (Err e)
 does-nothing d IsEnd e ends = record {
   op = λ k. k;
   turns = turns-none d;
@@ -65,7 +66,7 @@ does-nothing d IsEnd e ends = record {
 
 -- an end of one kind that is one of another
 pub does-as : {A : Type 0} (old new : DraftValue) (P Q : State → Result (A × State) NfsStatus → Type 0)
-    (result : Result A NfsStatus) → ((s : Store) (k : Kept) → Possible old s k →
+    (result : Result A NfsStatus) → ((s : Store) (k : StoreMeaning) → Possible old s k →
     (end : Result (A × State) NfsStatus) → P k.state end → Q k.state end) → Does old new P result
     → Does old new Q result
 does-as old new P Q result means does = record {
@@ -76,9 +77,9 @@ does-as old new P Q result means does = record {
   stays = does.stays;
 }
 
-module _ (old d : DraftValue) (op : Kept → Kept) (none : old.writes ≡ []) (quiet : old.messages ≡ [])
+module _ (old d : DraftValue) (op : StoreMeaning → StoreMeaning) (none : old.writes ≡ []) (quiet : old.messages ≡ [])
     (turns : Turns old d op) where
-  possible-before : (s : Store) (k : Kept) → Fits old.view s → Represents s k → Sound k → Possible old s k
+  possible-before : (s : Store) (k : StoreMeaning) → Fits old.view s → Represents s k → Sound k → Possible old s k
   possible-before s k fits stands sound = record {
     fits = fits;
     stands =
@@ -88,7 +89,7 @@ module _ (old d : DraftValue) (op : Kept → Kept) (none : old.writes ≡ []) (q
 
   -- in each sound state what is kept stays sound, and then the reply is a step
   abbrev pub Steps : Call → Reply → Type 0
-  Steps call reply = (s : Store) (k : Kept) → Possible old s k → WellFormed k.state
+  Steps call reply = (s : Store) (k : StoreMeaning) → Possible old s k → WellFormed k.state
       → Sound (op k) × (Possible d s (op k) → Step k.state old.ctx call reply [] (op k).state)
 
   pub promised : (call : Call) (reply : Reply) → Held d.view d.writes → Given d.view d.writes → Steps call reply
@@ -116,7 +117,7 @@ module _ (old d : DraftValue) (op : Kept → Kept) (none : old.writes ≡ []) (q
 -- a call that changes nothing
 pub promised-unchanged : (d : DraftValue) → d.writes ≡ [] → d.messages ≡ [] →
     (call : Call) (reply : Reply) → Held d.view d.writes → Given d.view d.writes
-    → ((s : Store) (k : Kept) → Possible d s k → WellFormed k.state → Step k.state d.ctx call reply [] k.state)
+    → ((s : Store) (k : StoreMeaning) → Possible d s k → WellFormed k.state → Step k.state d.ctx call reply [] k.state)
     → IsPromised (done_value call d.ctx d.view (record { writes = d.writes; messages = d.messages; reply = reply }))
 promised-unchanged d none quiet call reply held given step =
     promised d d (λ k. k) none quiet (turns-none d) call reply held given
@@ -132,7 +133,7 @@ module _ {A : Type 0} (old d : DraftValue) (none : old.writes ≡ []) (quiet : o
     (does : Does old d IsEnd result) where
   -- the reply is a step where, for each end of the machine, what is shown after it makes it one
   pub promised-does : (call : Call) (reply : Reply) → Held d.view d.writes → Given d.view d.writes
-      → ((s : Store) (k : Kept) (new : State) → Possible old s k → Possible d s (does.op k) →
+      → ((s : Store) (k : StoreMeaning) (new : State) → Possible old s k → Possible d s (does.op k) →
       new ≡ (does.op k).state → new ≡ state_after k.state (ending result (does.op k).state)
       → IsEnd k.state (ending result (does.op k).state) → Step k.state old.ctx call reply [] new)
       →

@@ -5,7 +5,8 @@ use Rattle.std.specs.FinMap.{get}
 use Rattle.nfs_machine.specs.Exports.{LivingExport}
 use Rattle.nfs_machine.specs.State.{Living}
 use Rattle.nfs_objects.specs.Asks.{IsThere}
-use Rattle.nfs_objects.specs.Stands.{Beside, Kept, Represents, beside_at, inode_in, inode_of, lives_in, living_in}
+use Rattle.nfs_objects.specs.Stands.{Beside, StoreMeaning, Represents, beside_at, inode_in, inode_of, lives_in}
+use Rattle.nfs_objects.specs.Stands.{living_in}
 use Rattle.nfs_objects.specs.Stands.{living_of_inode}
 use Rattle.nfs_objects.specs.Store.{Store}
 use Rattle.nfs_objects.specs.Values.{ViewValue}
@@ -75,7 +76,7 @@ module _ (exports : List LivingExport) where
       by (Some i) is = ap (λ b. cond b (Some i) None) (live i is)
 
 -- the export of what lives does
-pub exported-there : (s : Store) (k : Kept) (n : ℕ) (o : Living) → Represents s k →
+pub exported-there : (s : Store) (k : StoreMeaning) (n : ℕ) (o : Living) → Represents s k →
     get k.state.objects n ≡ Some o → lives_in k.state.exports o.export ≡ true
 exported-there s k n o stands at =
     let found = living-stands k.state.exports (beside_at k.state n) (s.at (addresses.Inode n)) o
@@ -83,7 +84,7 @@ exported-there s k n o stands at =
     subst (λ (x : Living). lives_in k.state.exports x.export ≡ true) found.is found.there.lives
 
 -- something stands where an object lives
-pub object-stands : (s : Store) (k : Kept) (n : ℕ) (o : Living) → Represents s k →
+pub object-stands : (s : Store) (k : StoreMeaning) (n : ℕ) (o : Living) → Represents s k →
     get k.state.objects n ≡ Some o → IsSome (s.at (addresses.Inode n))
 object-stands s k n o stands at =
     let found = living-stands k.state.exports (beside_at k.state n) (s.at (addresses.Inode n)) o

@@ -37,7 +37,8 @@ use Rattle.nfs_objects.specs.declared.object.Content.TheVariants as contents
 use Rattle.nfs_objects.specs.Edits.{edited, freed, recounted, set_at, with_living, with_mounts, with_new}
 use Rattle.nfs_objects.specs.Fits.{Fits}
 use Rattle.nfs_objects.specs.Knows.{ShowsExport, Turns, TurnsWhere}
-use Rattle.nfs_objects.specs.Stands.{IsFitting, Kept, Represents, counts, inode_in, inode_there, links_kept, lives_in}
+use Rattle.nfs_objects.specs.Stands.{IsFitting, StoreMeaning, Represents, counts, inode_in, inode_there, links_kept}
+use Rattle.nfs_objects.specs.Stands.{lives_in}
 use Rattle.nfs_objects.specs.Stands.{HasBlocks, IsMapped, IsStored, StandFiles, bytes_at, file_bytes, content_of}
 use Rattle.nfs_objects.specs.Stands.{file_of, living_in}
 use Rattle.nfs_objects.specs.Stands.{map_in, map_of, living_alone, pages_of, stored_in}
@@ -112,7 +113,7 @@ kept-put f at kept number o value is was n =
     [ true ↦ sym is | false ↦ was n ]
 
 -- what an inode keeps, where its export lives
-module _ (k : Kept) (s : Store) (n : ℕ) (i : Inode) (lives : lives_in k.state.exports i.export ≡ true)
+module _ (k : StoreMeaning) (s : Store) (n : ℕ) (i : Inode) (lives : lives_in k.state.exports i.export ≡ true)
     (stands : RepresentsBut n s k) where
   links-put : (q : ℕ) → set_at k.links n i.links q ≡ links_kept
       (inode_in k.state.exports (put_at s.at (addresses.Inode n) (Some (objects.Inode i)) (addresses.Inode q)))
@@ -176,7 +177,7 @@ tables-stay s t m n same stand = record {
   mounts = ap (λ x. x.4) same ∙ stand.mounts ∙ ap (λ x. mounts_of x.1) (sym same);
 }
 
-abbrev objects_in : Store → Kept → (ℕ → Option Object) × (ℕ → ℕ) × List LivingExport × FinMap nat_cmp Living ×
+abbrev objects_in : Store → StoreMeaning → (ℕ → Option Object) × (ℕ → ℕ) × List LivingExport × FinMap nat_cmp Living ×
     (ℕ → ℕ) × (ℕ → ℕ) × (ℕ → ℕ → Bool) × ℕ
 objects_in s k = (
   λ n. s.at (addresses.Inode n),
@@ -189,7 +190,8 @@ objects_in s k = (
   k.state.last_export,
 )
 
-objects-stay : (s t : Store) (k l : Kept) → objects_in t l ≡ objects_in s k → StandObjects s k → StandObjects t l
+objects-stay : (s t : Store) (k l : StoreMeaning) → objects_in t l ≡ objects_in s k → StandObjects s k
+    → StandObjects t l
 objects-stay s t k l same stand = record {
   objects = λ n.
       ap (λ x. get x.3 n) same ∙ stand.objects n ∙ ap (λ x. living_in x.2 (living_beside (get x.3 n)) (x.0 n))
@@ -220,10 +222,10 @@ numbered-put m at number new numbered here n i is =
     ] is
 
 -- the files of the store where an inode was put
-put-files : (s : Store) (k : Kept) (n : ℕ) (i : Inode) (beside : Beside) (last : ℕ → ℕ) → RepresentsBut n s k
+put-files : (s : Store) (k : StoreMeaning) (n : ℕ) (i : Inode) (beside : Beside) (last : ℕ → ℕ) → RepresentsBut n s k
     → HasBlocks s n (pages_of (Some (objects.Inode i))) → HasContent s n beside.bytes i
     → lives_in k.state.exports i.export ≡ true
-    → (l : Kept) → l.state.exports ≡ k.state.exports
+    → (l : StoreMeaning) → l.state.exports ≡ k.state.exports
     → l.state.objects ≡ insert k.state.objects n (living_of_inode beside i)
     → StandFiles (record { at = put_at s.at (addresses.Inode n) (Some (objects.Inode i)); last = last }) l
 put-files s k n i beside last stands filed content lives l exports living =
@@ -245,8 +247,9 @@ put-files s k n i beside last stands filed content lives l exports living =
     one e = cc
 
 -- the directories of the store where an inode was put
-put-directories : (s : Store) (k : Kept) (n : ℕ) (i : Inode) (beside : Beside) (last : ℕ → ℕ) → RepresentsBut n s k
-    → HasListing s n beside.entries i → (l : Kept) → l.state.exports ≡ k.state.exports
+put-directories : (s : Store) (k : StoreMeaning) (n : ℕ) (i : Inode) (beside : Beside) (last : ℕ → ℕ)
+    → RepresentsBut n s k
+    → HasListing s n beside.entries i → (l : StoreMeaning) → l.state.exports ≡ k.state.exports
     → l.state.objects ≡ insert k.state.objects n (living_of_inode beside i)
     → StandDirectories (record { at = put_at s.at (addresses.Inode n) (Some (objects.Inode i)); last = last }) l
 put-directories s k n i beside last stands listing l exports living =
@@ -269,7 +272,7 @@ put-directories s k n i beside last stands listing l exports living =
     held contents.Fifo holds = holds
 
 -- an inode is put, where what stands beside it is as it says, and is this
-pub put-stands : (s : Store) (k : Kept) (n : ℕ) (i : Inode) (beside : Beside) → RepresentsBut n s k
+pub put-stands : (s : Store) (k : StoreMeaning) (n : ℕ) (i : Inode) (beside : Beside) → RepresentsBut n s k
     → HasBlocks s n (pages_of (Some (objects.Inode i))) → HasContent s n beside.bytes i
     → HasListing s n beside.entries i → i.generation ≤ s.last n
     → IsFitting n i → lives_in k.state.exports i.export ≡ true → KeepsFile s n i
@@ -304,7 +307,7 @@ get-removed : (living : FinMap nat_cmp Living) (number n : ℕ) →
 get-removed living number n = differs-remove living number n ∙ ap (λ b. cond b None (get living n))
     (nat_eq_equiv.symm n number)
 
-pub free-stands : (s : Store) (k : Kept) (n : ℕ) → RepresentsBut n s k → HasBlocks s n no_bits →
+pub free-stands : (s : Store) (k : StoreMeaning) (n : ℕ) → RepresentsBut n s k → HasBlocks s n no_bits →
     HoldsEntries s n None [] → file_in (bucket_there s (n % bucket_count)) n ≡ None →
     Represents (with_write s (addresses.Inode n) None) (freed k n)
 free-stands s k n stands filed emptied unlocked = record {
@@ -358,7 +361,7 @@ below_max g a b = elim (leb_tells g a) [
     max-lt x y z h k = omega (arith, h, k)
 
 -- no block stands where no inode does
-nothing-stored : (s : Store) (k : Kept) (n : ℕ) → Represents s k → s.at (addresses.Inode n) ≡ None →
+nothing-stored : (s : Store) (k : StoreMeaning) (n : ℕ) → Represents s k → s.at (addresses.Inode n) ≡ None →
     (i : ℕ) → stored_in (s.at (addresses.Block n i)) ≡ []
 nothing-stored s k n stands vacant i =
     let mapped : IsMapped false (s.at (addresses.Map n (i / 512))) =
@@ -389,7 +392,7 @@ new-content s n i none map is = by i.content is
     by contents.Fifo is = cc
 
 -- no page and no part stands where no inode does
-nothing-listed : (s : Store) (k : Kept) (n : ℕ) → Represents s k → s.at (addresses.Inode n) ≡ None →
+nothing-listed : (s : Store) (k : StoreMeaning) (n : ℕ) → Represents s k → s.at (addresses.Inode n) ≡ None →
     HoldsEntries s n None []
 nothing-listed s k n stands vacant = by (stands.directories n)
   where
@@ -416,7 +419,7 @@ new-listing s n i none bare = by i.content bare
     by contents.Socket bare = none
     by contents.Fifo bare = none
 
-pub new-stands : (s : Store) (k : Kept) (n : ℕ) (i : Inode) → Represents s k → s.at (addresses.Inode n) ≡ None
+pub new-stands : (s : Store) (k : StoreMeaning) (n : ℕ) (i : Inode) → Represents s k → s.at (addresses.Inode n) ≡ None
     → pages_of (Some (objects.Inode i)) ≡ no_bits → IfSome (entry_map_in i.content) (λ m. m ≡ no_entries m.key) →
     IsFitting n i → lives_in k.state.exports i.export ≡ true
     → Represents (with_write s (addresses.Inode n) (Some (objects.Inode i)))
@@ -477,7 +480,7 @@ new-stands s k n i stands vacant none bare fits lives = subst (λ (o : Living).
         [ true ↦ le-max_left (s.last q) i.generation | false ↦ omega arith ]
 
 -- other mounts
-pub mounts-stand : (s : Store) (k : Kept) (table : List MountBody) → Represents s k
+pub mounts-stand : (s : Store) (k : StoreMeaning) (table : List MountBody) → Represents s k
     → Represents (with_write s addresses.Mounts (Some (objects.Mounts table))) (with_mounts k table)
 mounts-stand s k table stands = record {
   tables = record {
@@ -507,10 +510,10 @@ locks_with m locks shares waiting granted spent = record m {
 }
 
 -- what files have of locks in a bucket is put, and all else stays
-module _ (s : Store) (k : Kept) (locks : FinMap nat_cmp (List Lock)) (shares : FinMap nat_cmp (List Share))
+module _ (s : Store) (k : StoreMeaning) (locks : FinMap nat_cmp (List Lock)) (shares : FinMap nat_cmp (List Share))
     (waiting : FinMap nat_cmp (List Request)) (granted : FinMap nat_cmp PendingGrant) (spent : ℕ → Bool)
     (stands : Represents s k) where
-  abbrev locked : Kept
+  abbrev locked : StoreMeaning
   locked = record k { state = locks_with k.state locks shares waiting granted spent }
 
   pub locks-put : (index : ℕ) (o : Option Object) → StandLocks (with_write s (addresses.Locks index) o) locked.state →
@@ -550,13 +553,13 @@ usage-stored u =
     ] refl
 
 -- what a group's objects use
-module _ (s : Store) (k : Kept) (e n : ℕ) (before after written : Usage)
+module _ (s : Store) (k : StoreMeaning) (e n : ℕ) (before after written : Usage)
     (is : counts k.state e ≡ true → written ≡ exchanged before after (k.usage e (group_of n)))
     (stands : Represents s k) where
   abbrev share : Usage → ℕ → Usage
   share u = in_export e u
 
-  abbrev now : Kept
+  abbrev now : StoreMeaning
   now = recounted n (share before) (share after) k
 
   usage-put : (p q : ℕ) → counts k.state p ≡ true
@@ -598,8 +601,8 @@ module _ (s : Store) (k : Kept) (e n : ℕ) (before after written : Usage)
   }
 
 module _ (d : DraftValue) where
-  pub turns-written : (a : Addr) (o : Option Object) (op : Kept → Kept)
-      → ((s : Store) (k : Kept) → Fits d.view s → Represents (with_writes s d.writes) k →
+  pub turns-written : (a : Addr) (o : Option Object) (op : StoreMeaning → StoreMeaning)
+      → ((s : Store) (k : StoreMeaning) → Fits d.view s → Represents (with_writes s d.writes) k →
       Represents (with_write (with_writes s d.writes) a o) (op k))
       → Turns d (with_written d a o) op
   turns-written a o op f = record {
@@ -612,8 +615,9 @@ module _ (d : DraftValue) where
   }
 
   -- the same where this is so of what the store stands for
-  pub turns-where-written : (IsSo : Kept → Type 0) (a : Addr) (o : Option Object) (op : Kept → Kept)
-      → ((s : Store) (k : Kept) → Fits d.view s → Represents (with_writes s d.writes) k → IsSo k →
+  pub turns-where-written : (IsSo : StoreMeaning → Type 0) (a : Addr) (o : Option Object) (op : StoreMeaning
+      → StoreMeaning)
+      → ((s : Store) (k : StoreMeaning) → Fits d.view s → Represents (with_writes s d.writes) k → IsSo k →
       Represents (with_write (with_writes s d.writes) a o) (op k))
       → TurnsWhere IsSo d (with_written d a o) op
   turns-where-written IsSo a o op f = record {
@@ -634,7 +638,7 @@ module _ (d : DraftValue) where
 
   -- what stands for a group of a living export is what is known of it
   pub usage-known : (e g : ℕ) (u : Usage) → option_map usage_of (known_at d (addresses.Usage e g)) ≡ Some u
-      → (s : Store) (k : Kept) → Fits d.view s → Represents (with_writes s d.writes) k
+      → (s : Store) (k : StoreMeaning) → Fits d.view s → Represents (with_writes s d.writes) k
       → counts k.state e ≡ true → k.usage e g ≡ u
   usage-known e g u known s k fits stands lives =
       by (known_at d (addresses.Usage e g)) refl known
@@ -672,7 +676,7 @@ module _ (d : DraftValue) where
         subst (λ u. Represents (with_writes s d.writes) (record k { usage = u })) (stays k) stands;
   }
     where
-      at : (k : Kept) (p q : ℕ) → exchanged_at n (in_export e before) (in_export e after) k.usage p
+      at : (k : StoreMeaning) (p q : ℕ) → exchanged_at n (in_export e before) (in_export e after) k.usage p
           q ≡ k.usage p q
       at k p q =
           elim (group_of n == q) as (λ b.
@@ -685,11 +689,11 @@ module _ (d : DraftValue) where
             | false ↦ refl
           ]
 
-      stays : (k : Kept) → k.usage ≡ exchanged_at n (in_export e before) (in_export e after) k.usage
+      stays : (k : StoreMeaning) → k.usage ≡ exchanged_at n (in_export e before) (in_export e after) k.usage
       stays k = λ i p q. sym (at k p q) i
 
 -- where an inode is put in the place of another with the same map, the file there is as it was
-pub filed-same : (s : Store) (k : Kept) (n : ℕ) (i j : Inode) → Represents s k
+pub filed-same : (s : Store) (k : StoreMeaning) (n : ℕ) (i j : Inode) → Represents s k
     → s.at (addresses.Inode n) ≡ Some (objects.Inode i) → map_in j.content ≡ map_in i.content
     → HasBlocks s n (pages_of (Some (objects.Inode j)))
 filed-same s k n i j stands at same = record {
@@ -700,7 +704,7 @@ filed-same s k n i j stands at same = record {
 }
 
 -- and where it has the same map of its entries, so is the directory there
-pub listing-same : (s : Store) (k : Kept) (n : ℕ) (i j : Inode) → Represents s k
+pub listing-same : (s : Store) (k : StoreMeaning) (n : ℕ) (i j : Inode) → Represents s k
     → s.at (addresses.Inode n) ≡ Some (objects.Inode i) → inode_there s k.state.exports n ≡ Some i
     → entry_map_in j.content ≡ entry_map_in i.content → HasListing s n (entries_at k.state n) j
 listing-same s k n i j stands at there same = by (stands.directories n)
@@ -711,7 +715,7 @@ listing-same s k n i j stands at there same = by (stands.directories n)
         subst (HoldsEntries s n (entry_map_in j.content)) own (subst (λ m. HoldsEntries s n m stand.entries) (sym same)
         (subst (λ o. HoldsEntries s n (entry_map_of o) stand.entries) at stand.holds))
 
-pub content-same : (s : Store) (k : Kept) (n : ℕ) (i j : Inode) → Represents s k
+pub content-same : (s : Store) (k : StoreMeaning) (n : ℕ) (i j : Inode) → Represents s k
     → inode_there s k.state.exports n ≡ Some i → map_in j.content ≡ map_in i.content
     → HasContent s n (bytes_at k.state n) j
 content-same s k n i j stands there same = λ map is. stands.files.bytes n i map there (sym same ∙ is)
@@ -721,8 +725,8 @@ module _ (d : DraftValue) (n : ℕ) where
   abbrev next : Option Object → DraftValue
   next o = with_written d (addresses.Inode n) o
 
-  turns-next : (o : Option Object) (op : Kept → Kept)
-      → ((s : Store) (k : Kept) → Fits d.view s → Represents (with_writes s d.writes) k →
+  turns-next : (o : Option Object) (op : StoreMeaning → StoreMeaning)
+      → ((s : Store) (k : StoreMeaning) → Fits d.view s → Represents (with_writes s d.writes) k →
       Represents (with_write (with_writes s d.writes) (addresses.Inode n) o) (op k)) → Turns d (next o) op
   turns-next = turns-written d (addresses.Inode n)
 
@@ -764,7 +768,8 @@ module _ (d : DraftValue) (n : ℕ) where
       ∙ ap (λ l. with_living k n (living_of_inode beside j) l (k.parents n)) (ap links counted ∙ sym linked)
       ∙ ap (λ p. with_living k n (living_of_inode beside j) j.links p) (below ∙ sym under) in
       subst
-      (λ (x : Kept). Represents (with_write (with_writes s d.writes) (addresses.Inode n) (Some (objects.Inode j)))
+      (λ (x : StoreMeaning). Represents (with_write (with_writes s d.writes) (addresses.Inode n)
+      (Some (objects.Inode j)))
       x) (sym same) put)
 
   -- what is no file and no directory goes
@@ -780,7 +785,7 @@ module _ (d : DraftValue) (n : ℕ) where
       }) (emptied (with_writes s d.writes) k (ap entry_map_of at ∙ unlisted) (stands.directories n))
       (none-listed (with_writes s d.writes) k.state n i stands.locks at other))
     where
-      emptied : (t : Store) (k : Kept) → entry_map_of (t.at (addresses.Inode n)) ≡ None → StandEntries t k n →
+      emptied : (t : Store) (k : StoreMeaning) → entry_map_of (t.at (addresses.Inode n)) ≡ None → StandEntries t k n →
           HoldsEntries t n None []
       emptied t k none stand =
           let holds : HoldsEntries t n None stand.entries =
@@ -791,7 +796,7 @@ module _ (d : DraftValue) (n : ℕ) where
       no-pages o is = ap (λ f. elim f [ None ↦ no_bits | Some map ↦ map.pages ]) is
 
   -- a new inode, once the draft was changed so; the exports stayed, and its own lived before
-  pub new-turns : (old : DraftValue) (f : Kept → Kept) → Turns old d f → ((k : Kept) →
+  pub new-turns : (old : DraftValue) (f : StoreMeaning → StoreMeaning) → Turns old d f → ((k : StoreMeaning) →
       (f k).state.exports ≡ k.state.exports) → (i : Inode) → known_at d (addresses.Inode n) ≡ Some None
       → pages_of (Some (objects.Inode i)) ≡ no_bits → IfSome (entry_map_in i.content) (λ m. m ≡ no_entries m.key)
       → IsFitting n i → ShowsExport old i.export

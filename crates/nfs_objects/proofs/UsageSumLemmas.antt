@@ -15,7 +15,7 @@ use Rattle.nfs_objects.proofs.TallyLemmas.{part, same-without, split-total, tota
 use Rattle.nfs_objects.specs.Edits.{counted_anew}
 use Rattle.nfs_objects.specs.Knows.{Possible, Turns}
 use Rattle.nfs_objects.specs.Sound.{Sound}
-use Rattle.nfs_objects.specs.Stands.{Kept, Represents, beside_at, inode_in, inode_there}
+use Rattle.nfs_objects.specs.Stands.{StoreMeaning, Represents, beside_at, inode_in, inode_there}
 use Rattle.nfs_objects.specs.Store.{Store}
 use Rattle.nfs_objects.specs.Sums.{exchanged, group_of, is_counted, is_none, is_same_usage, moved, no_usage}
 use Rattle.nfs_objects.specs.Sums.{one_using, shares_of, stored_usage, usage_in}
@@ -30,7 +30,7 @@ use Rattle.nfs_objects.specs.declared.usage.Usage.{Usage}
 abbrev pub AllFit : State → Type 0
 AllFit m = (n : ℕ) (o : Living) → get m.objects n ≡ Some o → (n < 2 ^ 64) × (size_of o.content < 2 ^ 63)
 
-pub all-fit : (s : Store) (k : Kept) → Represents s k → AllFit k.state
+pub all-fit : (s : Store) (k : StoreMeaning) → Represents s k → AllFit k.state
 all-fit s k stands n o at =
     let found = living-stands k.state.exports (beside_at k.state n) (s.at (addresses.Inode n)) o
     (sym (stands.objects.objects n) ∙ at) in
@@ -41,7 +41,8 @@ all-fit s k stands n o at =
     (stands.objects.fits n found.inode found.there.stands))
 
 -- so after a change too
-pub turned-fit : (old new : DraftValue) (op : Kept → Kept) → Turns old new op → (s : Store) (k : Kept) →
+pub turned-fit : (old new : DraftValue) (op : StoreMeaning → StoreMeaning) → Turns old new op
+    → (s : Store) (k : StoreMeaning) →
     Possible old s k → AllFit (op k).state
 turned-fit old new op turns s k w = all-fit _ (op k) (turns.turns s k w.fits w.stands)
 
@@ -131,7 +132,7 @@ exchange-is before after u v used objects was is had has small few =
     within : (u b a r v : ℕ) → u ≡ r + b → v ≡ r + a → v < 2 ^ 128 → min (u - b + a) (2 ^ 128 - 1) ≡ v
     within u b a r v was is small = omega (arith, was, is, small)
 
-module _ (k new : Kept) (n : ℕ)
+module _ (k new : StoreMeaning) (n : ℕ)
     (others : (q : ℕ) → (n == q) ≡ false → get new.state.objects q ≡ get k.state.objects q) where
   rest-same : remove new.state.objects n ≡ remove k.state.objects n
   rest-same = same-without k.state.objects new.state.objects n others
@@ -206,7 +207,7 @@ module _ (k new : Kept) (n : ℕ)
       ] refl
 
 -- ---- the group of what lives has a usage
-pub usage-lives : (s : Store) (k : Kept) (n : ℕ) (o : Living) → Represents s k → Sound k →
+pub usage-lives : (s : Store) (k : StoreMeaning) (n : ℕ) (o : Living) → Represents s k → Sound k →
     get k.state.objects n ≡ Some o → IsSome (s.at (addresses.Usage o.export (group_of n)))
 usage-lives s k n o stands sound at =
     subst (λ (x : Option Object). IsSome x)

@@ -7,19 +7,19 @@ use Rattle.nfs_objects.specs.Calls.{IsAmong}
 use Rattle.nfs_objects.specs.Fits.{Fits, NumbersApart}
 use Rattle.nfs_objects.specs.Modes.{held_mode}
 use Rattle.nfs_objects.specs.Sound.{Sound}
-use Rattle.nfs_objects.specs.Stands.{Kept, Represents}
+use Rattle.nfs_objects.specs.Stands.{StoreMeaning, Represents}
 use Rattle.nfs_objects.specs.Store.{Store}
 use Rattle.nfs_objects.specs.Values.{DraftValue, ModesValue, ViewValue, is_addr, known_at, seen_at}
 use Rattle.nfs_objects.specs.declared.address.Addr.{Addr}
 use Rattle.nfs_objects.specs.declared.address.Addr.TheVariants as addresses
-use Rattle.nfs_objects.specs.declared.change.Halt.{Halt}
-use Rattle.nfs_objects.specs.declared.change.Halt.TheVariants.{Need, Fresh, Memory}
+use Rattle.nfs_objects.specs.declared.change.Missing.{Missing}
+use Rattle.nfs_objects.specs.declared.change.Missing.TheVariants.{Need, Fresh, Memory}
 use Rattle.nfs_objects.specs.declared.modes.Mode.{Mode}
 use Rattle.nfs_objects.specs.declared.view.Reserved.{Reserved}
 
 -- something stands at the address in every sound store that the view fits
 abbrev pub IsThere : ViewValue → Addr → Type 0
-IsThere view a = (s : Store) (k : Kept) → Fits view s → Represents s k → Sound k → WellFormed k.state →
+IsThere view a = (s : Store) (k : StoreMeaning) → Fits view s → Represents s k → Sound k → WellFormed k.state →
     IsSome (s.at a)
 
 -- An address may be asked for, in this mode: the view has it in no mode, so there is no upgrade; what the call may
@@ -41,13 +41,13 @@ pub record Asks (modes : ModesValue) (named : List Addr) (view : ViewValue) (ask
   pub each : AllByRecursion (MayAsk modes named view) asked
 
 -- this address alone is asked for, in this mode; or there is no memory to ask
-abbrev pub IsNeed : Addr → Mode → Halt → Type 0
+abbrev pub IsNeed : Addr → Mode → Missing → Type 0
 IsNeed a mode (Need asked) = asked.items ≡ (a, mode) ∷ []
 IsNeed a mode Memory = Unit {0}
 IsNeed a mode halt = ⊥
 
 -- the draft does not know the address, and it is asked for
-pub record Lacks (d : DraftValue) (a : Addr) (halt : Halt) : Type 0 where
+pub record Lacks (d : DraftValue) (a : Addr) (halt : Missing) : Type 0 where
   pub unknown : known_at d a ≡ None
   pub asked : IsNeed a (held_mode d.modes d.view a) halt
 
@@ -70,10 +70,10 @@ pub record AsksNumbers (numbers : ℕ) (view : ViewValue) (count : ℕ) : Type 0
   pub whole : count ≡ numbers
 
 -- so many numbers are asked for, since none may be given
-abbrev pub WantsNumbers : DraftValue → (numbers : ℕ) → Halt → Type 0
+abbrev pub WantsNumbers : DraftValue → (numbers : ℕ) → Missing → Type 0
 WantsNumbers d numbers (Fresh count) = AsksNumbers numbers d.view count
 WantsNumbers d numbers halt = ⊥
 
 -- a number is
-abbrev pub WantsNumber : DraftValue → Halt → Type 0
+abbrev pub WantsNumber : DraftValue → Missing → Type 0
 WantsNumber d halt = WantsNumbers d 1 halt

@@ -11,8 +11,8 @@ use Rattle.nfs_objects.specs.Values.{ModesValue, ViewValue, change_value, done_v
 use Rattle.nfs_objects.specs.declared.address.Addr.{Addr}
 use Rattle.nfs_objects.specs.declared.address.Addr.TheVariants as addresses
 use Rattle.nfs_objects.specs.declared.change.Change.{Change}
-use Rattle.nfs_objects.specs.declared.change.Halt.{Halt}
-use Rattle.nfs_objects.specs.declared.change.Halt.TheVariants as halts
+use Rattle.nfs_objects.specs.declared.change.Missing.{Missing}
+use Rattle.nfs_objects.specs.declared.change.Missing.TheVariants as halts
 use Rattle.nfs_objects.specs.declared.change.Outcome.{Outcome}
 use Rattle.nfs_objects.specs.declared.change.Outcome.TheVariants.{Need, Fresh, Done}
 use Rattle.nfs_objects.specs.declared.modes.Mode.{Mode}
@@ -62,20 +62,20 @@ AsksFirst call view outcome = elim (first_wanted call view) [
 -- ---- the same of what an attempt comes to before it is an outcome
 -- A call that is not done asks for addresses, which it names or where something stands; or for its new numbers, so
 -- many; or there is no memory.
-abbrev pub StopsCall : ModesValue → (named : List Addr) → (numbers : ℕ) → ViewValue → Halt → Type 0
+abbrev pub StopsCall : ModesValue → (named : List Addr) → (numbers : ℕ) → ViewValue → Missing → Type 0
 StopsCall modes named numbers view (halts.Need asked) = Asks modes named view asked.items
 StopsCall modes named numbers view (halts.Fresh count) = AsksNumbers numbers view count
 StopsCall modes named numbers view halts.Memory = Unit {0}
 
-abbrev pub EndsCall : Call → Ctx → ViewValue → Result Change Halt → Type 0
+abbrev pub EndsCall : Call → Ctx → ViewValue → Result Change Missing → Type 0
 EndsCall call ctx view (Ok change) = IsPromised (done_value call ctx view (change_value change))
 EndsCall call ctx view (Err halt) = StopsCall (modes_of call) (named_by call view) (new_numbers call view) view halt
 
 -- this is asked for, if anything is wanted first
-abbrev pub HaltsFirst : {A : Type 0} → ModesValue → ViewValue → Option Addr → Result A Halt → Type 0
+abbrev pub HaltsFirst : {A : Type 0} → ModesValue → ViewValue → Option Addr → Result A Missing → Type 0
 HaltsFirst modes view None result = Unit {0}
 HaltsFirst modes view (Some a) (Ok x) = ⊥
 HaltsFirst modes view (Some a) (Err halt) = IsNeed a (held_mode modes view a) halt
 
-abbrev pub EndsFirst : Call → ViewValue → Result Change Halt → Type 0
+abbrev pub EndsFirst : Call → ViewValue → Result Change Missing → Type 0
 EndsFirst call view result = HaltsFirst (modes_of call) view (first_wanted call view) result

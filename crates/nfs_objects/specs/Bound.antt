@@ -10,7 +10,7 @@ use Rattle.nfs_objects.specs.Attempt.{Attempts}
 use Rattle.nfs_objects.specs.Calls.{IsAmong, named_by, new_numbers}
 use Rattle.nfs_objects.specs.Fits.{Fits, vacant}
 use Rattle.nfs_objects.specs.Sound.{Sound}
-use Rattle.nfs_objects.specs.Stands.{Kept, Represents}
+use Rattle.nfs_objects.specs.Stands.{StoreMeaning, Represents}
 use Rattle.nfs_objects.specs.Store.{Store}
 use Rattle.nfs_objects.specs.Values.{Seen, ViewValue}
 use Rattle.nfs_objects.specs.declared.address.Addr.{Addr}
@@ -67,7 +67,7 @@ asked_count s (Done change) = 0
 -- In every sound store that the view fits, whatever was given, the view and all that is asked for next lie among the
 -- addresses of the store, those that the call names, and those of its new numbers.
 abbrev pub AsksFew : Type 0
-AsksFew = (call : Call) (ctx : Ctx) (rounds : List Round) (outcome : Outcome) (s : Store) (k : Kept) →
+AsksFew = (call : Call) (ctx : Ctx) (rounds : List Round) (outcome : Outcome) (s : Store) (k : StoreMeaning) →
     Grows call ctx rounds → Attempts call ctx (view_after rounds) outcome →
     Fits (view_after rounds) s → Represents s k → Sound k → WellFormed k.state →
     empty_count s (held (view_after rounds).entries) + asked_count s outcome ≤

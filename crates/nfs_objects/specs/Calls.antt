@@ -4,7 +4,7 @@ use Rattle.std.specs.Prelude.{◌⊎◌, ◌/◌, ◌%◌, ◌==◌, Option, if�
 use Rattle.std.specs.Int.{w64, from_be_bytes}
 use Rattle.nfs_wire.specs.declared.calls.NfsCall.{NfsCall}
 use Rattle.nfs_wire.specs.declared.calls.NfsCall.TheVariants as nfs
-use Rattle.nfs_wire.specs.declared.calls.Place.{Place}
+use Rattle.nfs_wire.specs.declared.calls.DirOp.{DirOp}
 use Rattle.side_wire.specs.declared.mount.MountCall.TheVariants as mount
 use Rattle.side_wire.specs.declared.nlm.NlmCall.{NlmCall}
 use Rattle.side_wire.specs.declared.nlm.NlmCall.TheVariants as nlm
@@ -145,7 +145,7 @@ next_places view directory name = elim (header_shown view directory) [
 ]
 
 -- the same of the name that a call brings
-abbrev pub added_at : ViewValue → Place → List Addr
+abbrev pub added_at : ViewValue → DirOp → List Addr
 added_at view place = in_file place.directory (λ directory. next_places view directory place.name)
 
 -- the addresses to which the name goes that a call of NFS may add
@@ -164,7 +164,7 @@ abbrev pub locks_at : (number : ℕ) → List Addr
 locks_at number = addresses.Locks (number % bucket_count) ∷ []
 
 -- that of what a name leads to, once the view shows it
-abbrev pub locks_under : ViewValue → Place → List Addr
+abbrev pub locks_under : ViewValue → DirOp → List Addr
 locks_under view place = in_file place.directory
     (λ directory. elim (led_at view directory place.name) [ None ↦ [] | Some number ↦ locks_at number ])
 

@@ -4,7 +4,7 @@ use Rattle.std.specs.List.{AllByRecursion}
 use Rattle.std.specs.declared.alloc.Global.{Global}
 use Rattle.std.specs.declared.vec.Vec.{Vec}
 use Rattle.nfs_wire.specs.declared.calls.NfsCall.TheVariants as nfs
-use Rattle.nfs_wire.specs.declared.calls.Place.{Place}
+use Rattle.nfs_wire.specs.declared.calls.DirOp.{DirOp}
 use Rattle.nfs_wire.specs.declared.calls.RenameArguments.{RenameArguments}
 use Rattle.nfs_machine.specs.Handles.{handle_of}
 use Rattle.nfs_machine.specs.declared.calls.Call.{Call}
@@ -35,7 +35,7 @@ GrowsSuitably = (call : Call) (ctx : Ctx) (view : ViewValue) (outcome : Outcome)
 
 -- ---- RENAME
 -- what is at this number is the directory of a name, or what the name leads to there
-pub record LiesAt (view : ViewValue) (place : Place) (number : ℕ) : Type 0 where
+pub record LiesAt (view : ViewValue) (place : DirOp) (number : ℕ) : Type 0 where
   pub handle : Handle
   pub names : handle_of place.directory ≡ Some handle
   pub lies : (handle.fileid ≡ number) ⊎ (led_at view handle.fileid place.name ≡ Some number)
@@ -47,7 +47,7 @@ RenamesHoldTheirs = (a : RenameArguments) (view : ViewValue) (n : ℕ) →
     held_mode (modes_of (calls.Nfs (nfs.Rename a))) view (addresses.Inode n) ≡ Exclusive
 
 -- the view has the directory of a name, the part that the name is in, and what the name leads to there
-pub record ShowsPlace (view : ViewValue) (place : Place) : Type 0 where
+pub record ShowsPlace (view : ViewValue) (place : DirOp) : Type 0 where
   pub handle : Handle
   pub names : handle_of place.directory ≡ Some handle
   pub directory : IsSome (seen_at view.entries (addresses.Inode handle.fileid))

@@ -5,7 +5,7 @@ use Rattle.std.specs.List.{AllByRecursion}
 use Rattle.std.specs.Option.{option_map_or}
 use Rattle.nfs_wire.specs.declared.calls.NfsCall.{NfsCall}
 use Rattle.nfs_wire.specs.declared.calls.NfsCall.TheVariants as nfs
-use Rattle.nfs_wire.specs.declared.calls.Place.{Place}
+use Rattle.nfs_wire.specs.declared.calls.DirOp.{DirOp}
 use Rattle.nfs_wire.specs.declared.calls.RenameArguments.{RenameArguments}
 use Rattle.side_wire.specs.declared.nlm.NlmCall.{NlmCall}
 use Rattle.side_wire.specs.declared.nlm.NlmCall.TheVariants as nlm
@@ -65,7 +65,7 @@ is_elsewhere view (Some a) name n = elim (shown_at view.entries a) [
 ]
 
 -- the view shows what a name leads to, and neither that nor the directory of the name is at this number
-abbrev pub is_apart : ViewValue → Place → (number : ℕ) → Bool
+abbrev pub is_apart : ViewValue → DirOp → (number : ℕ) → Bool
 is_apart view place n = elim (handle_of place.directory) [
   | None ↦ false
   | Some h ↦ elim (shown_at view.entries (addresses.Inode h.fileid)) [

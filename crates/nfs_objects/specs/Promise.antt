@@ -5,7 +5,7 @@ use Rattle.nfs_machine.specs.Step.{Step}
 use Rattle.nfs_machine.specs.WellFormed.{WellFormed}
 use Rattle.nfs_objects.specs.Fits.{Fits}
 use Rattle.nfs_objects.specs.Sound.{Sound}
-use Rattle.nfs_objects.specs.Stands.{Kept, Represents}
+use Rattle.nfs_objects.specs.Stands.{StoreMeaning, Represents}
 use Rattle.nfs_objects.specs.Store.{Store, with_writes}
 use Rattle.nfs_objects.specs.Values.{DoneValue, ViewValue, held_at, shown_at}
 use Rattle.nfs_objects.specs.declared.address.Addr.{Addr}
@@ -42,8 +42,8 @@ abbrev pub Given : ViewValue → List (Addr × Option Object) → Type 0
 Given view writes = AllByRecursion (λ (w : Addr × Option Object). IsGiven view w.0 w.1) writes
 
 -- at this store, which stands for this, the end is a step of the machine, and all is sound after it
-pub record IsStep (d : DoneValue) (s : Store) (k : Kept) : Type 0 where
-  pub new : Kept
+pub record IsStep (d : DoneValue) (s : Store) (k : StoreMeaning) : Type 0 where
+  pub new : StoreMeaning
   pub step : Step k.state d.ctx d.call d.change.reply d.change.messages new.state
   pub stands : Represents (with_writes s d.change.writes) new
   pub sound : Sound new
@@ -52,7 +52,7 @@ pub record IsStep (d : DoneValue) (s : Store) (k : Kept) : Type 0 where
 -- the promise of a call's end, which the type of `nfs_engine`'s `Finished` keeps
 pub record IsPromised (d : DoneValue) : Type 0 where
   -- whatever the store, if it is sound, and the view fits it
-  pub kept : (s : Store) (k : Kept) → Fits d.view s → Represents s k → Sound k → WellFormed k.state →
+  pub kept : (s : Store) (k : StoreMeaning) → Fits d.view s → Represents s k → Sound k → WellFormed k.state →
       IsStep d s k
   pub held : Held d.view d.change.writes
   pub given : Given d.view d.change.writes

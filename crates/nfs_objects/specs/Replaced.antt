@@ -5,7 +5,7 @@ use Rattle.nfs_machine.specs.FileLists.{grants_but}
 use Rattle.nfs_machine.specs.Replacing.{of_living, staying}
 use Rattle.nfs_machine.specs.State.{PendingGrant, State}
 use Rattle.nfs_objects.specs.ExportTables.{ExportTableValue}
-use Rattle.nfs_objects.specs.Stands.{Kept, counts}
+use Rattle.nfs_objects.specs.Stands.{StoreMeaning, counts}
 use Rattle.nfs_objects.specs.Sums.{no_usage}
 
 -- these exports, and what stays where they live
@@ -22,7 +22,7 @@ state_with m table =
       granted = grants_but (λ (g : PendingGrant). is_none (get objects g.file)) m.granted;
     }
 
-abbrev pub with_table : Kept → ExportTableValue → Kept
+abbrev pub with_table : StoreMeaning → ExportTableValue → StoreMeaning
 with_table k table =
     let after = state_with k.state table in
     record {

@@ -208,7 +208,7 @@ exports_of o = (export_table_of o).exports
 
 -- what the machine is in, and what inodes keep beside: of each object the count of its links, of each directory its
 -- parent
-pub record Kept : Type 0 where
+pub record StoreMeaning : Type 0 where
   pub state : State
   pub links : ℕ → ℕ
   pub parents : ℕ → ℕ
@@ -250,7 +250,7 @@ pub record StandTables (s : Store) (m : State) : Type 0 where
 -- What is at each number lives if its export does, with its links and its parent; the bytes of files and the entries of
 -- directories are parts of their own. Spent are the generations of each number up to the last, that of what stands
 -- there among them.
-pub record StandObjects (s : Store) (k : Kept) : Type 0 where
+pub record StandObjects (s : Store) (k : StoreMeaning) : Type 0 where
   pub objects : (n : ℕ) → get k.state.objects n ≡ stands_alive s k.state.exports (beside_at k.state n) n
   pub links : (n : ℕ) → k.links n ≡ links_kept (inode_there s k.state.exports n)
   pub parents : (n : ℕ) → k.parents n ≡ parent_kept (inode_there s k.state.exports n)
@@ -279,7 +279,7 @@ pub record HasBlocks (s : Store) (file : ℕ) (pages : Bits) : Type 0 where
 
 -- At each number stand just the blocks of the file that stands there, if any does. Those of a file that lives have the
 -- machine's bytes.
-pub record StandFiles (s : Store) (k : Kept) : Type 0 where
+pub record StandFiles (s : Store) (k : StoreMeaning) : Type 0 where
   pub blocks : (n : ℕ) → HasBlocks s n (pages_of (s.at (addresses.Inode n)))
   pub bytes : (n : ℕ) (i : Inode) (map : FileMapValue) → inode_there s k.state.exports n ≡ Some i →
       map_in i.content ≡ Some map →
@@ -312,12 +312,12 @@ HoldsEntries s n None entries = ((page : ℕ) → s.at (addresses.Page n page) �
 
 -- At a number stand just the pages and parts of some entries of the directory that stands there, if any does. Those of
 -- a directory that lives are the machine's.
-pub record StandEntries (s : Store) (k : Kept) (n : ℕ) : Type 0 where
+pub record StandEntries (s : Store) (k : StoreMeaning) (n : ℕ) : Type 0 where
   pub entries : List machine.Entry
   pub holds : HoldsEntries s n (entry_map_of (s.at (addresses.Inode n))) entries
   pub lives : IsSome (inode_there s k.state.exports n) → entries ≡ entries_at k.state n
 
-abbrev pub StandDirectories : Store → Kept → Type 0
+abbrev pub StandDirectories : Store → StoreMeaning → Type 0
 StandDirectories s k = (n : ℕ) → StandEntries s k n
 
 -- whether an export with this number lives, or none was ever numbered so
@@ -326,7 +326,7 @@ counts m e = lives_in m.exports e || nat_lt m.last_export e
 
 -- of each living export each group's usage stands for it, but for that of no object; of each number that no export had
 -- yet too
-pub record StandUsages (s : Store) (k : Kept) : Type 0 where
+pub record StandUsages (s : Store) (k : StoreMeaning) : Type 0 where
   pub usage : (e g : ℕ) → counts k.state e ≡ true →
       s.at (addresses.Usage e g) ≡ stored_usage (k.usage e g)
 
@@ -384,7 +384,7 @@ pub record StandLocks (s : Store) (m : State) : Type 0 where
   pub placed : (index : ℕ) → AllByRecursion (IsPlaced s index) (bucket_there s index).files
 
 -- the store stands for this
-pub record Represents (s : Store) (k : Kept) : Type 0 where
+pub record Represents (s : Store) (k : StoreMeaning) : Type 0 where
   pub tables : StandTables s k.state
   pub objects : StandObjects s k
   pub files : StandFiles s k

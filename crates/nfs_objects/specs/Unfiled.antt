@@ -4,7 +4,8 @@ use Rattle.std.specs.Prelude.{◌≡◌, ◌==◌, ℕ, List, false, Some}
 use Rattle.nfs_machine.specs.State.{Entry}
 use Rattle.nfs_objects.specs.Fits.{Fits}
 use Rattle.nfs_objects.specs.FileMaps.{FileMapValue, IsContent}
-use Rattle.nfs_objects.specs.Stands.{HasBlocks, HasEntries, Kept, StandEntries, StandLocks, StandObjects, StandTables}
+use Rattle.nfs_objects.specs.Stands.{HasBlocks, HasEntries, StoreMeaning, StandEntries, StandLocks, StandObjects}
+use Rattle.nfs_objects.specs.Stands.{StandTables}
 use Rattle.nfs_objects.specs.Stands.{StandUsages}
 use Rattle.nfs_objects.specs.Stands.{bytes_at, inode_there, map_in, pages_of, stored_in}
 use Rattle.nfs_objects.specs.Store.{Store, with_writes}
@@ -14,18 +15,18 @@ use Rattle.nfs_objects.specs.declared.entry_map.EntryMap.{EntryMap}
 use Rattle.nfs_objects.specs.declared.object.Inode.{Inode}
 
 -- what `StandFiles` says, of the files at other numbers than this one
-pub record StandFilesBut (number : ℕ) (s : Store) (k : Kept) : Type 0 where
+pub record StandFilesBut (number : ℕ) (s : Store) (k : StoreMeaning) : Type 0 where
   pub blocks : (n : ℕ) → (number == n) ≡ false → HasBlocks s n (pages_of (s.at (addresses.Inode n)))
   pub bytes : (n : ℕ) (i : Inode) (map : FileMapValue) → (number == n) ≡ false →
       inode_there s k.state.exports n ≡ Some i → map_in i.content ≡ Some map →
       IsContent map.size (λ b. stored_in (s.at (addresses.Block n b))) (bytes_at k.state n)
 
 -- what `StandDirectories` says, of the directories at other numbers than this one
-abbrev pub StandDirectoriesBut : (number : ℕ) → Store → Kept → Type 0
+abbrev pub StandDirectoriesBut : (number : ℕ) → Store → StoreMeaning → Type 0
 StandDirectoriesBut number s k = (n : ℕ) → (number == n) ≡ false → StandEntries s k n
 
 -- the store stands for this, but for what stands beside the inode at this number
-pub record RepresentsBut (number : ℕ) (s : Store) (k : Kept) : Type 0 where
+pub record RepresentsBut (number : ℕ) (s : Store) (k : StoreMeaning) : Type 0 where
   pub tables : StandTables s k.state
   pub objects : StandObjects s k
   pub files : StandFilesBut number s k
@@ -53,7 +54,7 @@ pub record Lays (number : ℕ) (old new : DraftValue) : Type 0 where
   pub view : new.view ≡ old.view
   pub modes : new.modes ≡ old.modes
   pub messages : new.messages ≡ old.messages
-  pub lays : (s : Store) (k : Kept) → RepresentsBut number (with_writes s old.writes) k →
+  pub lays : (s : Store) (k : StoreMeaning) → RepresentsBut number (with_writes s old.writes) k →
       RepresentsBut number (with_writes s new.writes) k
   pub inodes : (s : Store) (n : ℕ) →
       (with_writes s new.writes).at (addresses.Inode n) ≡ (with_writes s old.writes).at (addresses.Inode n)
@@ -66,7 +67,7 @@ pub record Enters (number : ℕ) (old new : DraftValue) : Type 0 where
   pub view : new.view ≡ old.view
   pub modes : new.modes ≡ old.modes
   pub messages : new.messages ≡ old.messages
-  pub lays : (s : Store) (k : Kept) → RepresentsBut number (with_writes s old.writes) k →
+  pub lays : (s : Store) (k : StoreMeaning) → RepresentsBut number (with_writes s old.writes) k →
       RepresentsBut number (with_writes s new.writes) k
   pub inodes : (s : Store) (n : ℕ) →
       (with_writes s new.writes).at (addresses.Inode n) ≡ (with_writes s old.writes).at (addresses.Inode n)

@@ -25,7 +25,7 @@ pub struct Change {
 
 /// Why a call is not done yet.
 #[derive(Drop)]
-pub enum Halt {
+pub enum Missing {
     /// These addresses have to be held first, in these modes.
     Need(Vec<(Addr, Mode)>),
     /// So many new numbers are wanted first.
@@ -45,24 +45,24 @@ pub enum Outcome {
     Done(Change),
 }
 
-impl From<AllocError> for Halt {
+impl From<AllocError> for Missing {
     ghost use Rattle.std.specs.Prelude.{◌≡◌};
-    ghost use Rattle.nfs_objects.specs.declared.change.Halt.TheVariants.{Memory};
+    ghost use Rattle.nfs_objects.specs.declared.change.Missing.TheVariants.{Memory};
 
     ghost from_gives = { λ _ halt. halt ≡ Memory };
 
-    fn from(_error: AllocError) -> Halt {
-        Halt::Memory
+    fn from(_error: AllocError) -> Missing {
+        Missing::Memory
     }
 }
 
-impl<T: Drop> From<AllocFailed<T>> for Halt {
+impl<T: Drop> From<AllocFailed<T>> for Missing {
     ghost use Rattle.std.specs.Prelude.{◌≡◌};
-    ghost use Rattle.nfs_objects.specs.declared.change.Halt.TheVariants.{Memory};
+    ghost use Rattle.nfs_objects.specs.declared.change.Missing.TheVariants.{Memory};
 
     ghost from_gives = { λ _ halt. halt ≡ Memory };
 
-    fn from(_error: AllocFailed<T>) -> Halt {
-        Halt::Memory
+    fn from(_error: AllocFailed<T>) -> Missing {
+        Missing::Memory
     }
 }

@@ -18,11 +18,11 @@ struct Numbers {
 /// How many names are in each bucket of a directory; 2^32 - 1 says no more than that it is many. They are never
 /// changed: clones share them, and one name more or less makes others.
 #[derive(Drop)]
-pub struct Counts {
+pub struct NameCounts {
     numbers: Arc<Numbers>,
 }
 
-impl Model for Counts {
+impl Model for NameCounts {
     ghost use Rattle.std.specs.Prelude.{ℕ, List};
     ghost use Rattle.std.specs.Arc.{arc_value};
 
@@ -31,22 +31,22 @@ impl Model for Counts {
     ghost view = { λ c. (arc_value c.numbers).buckets };
 }
 
-impl Counts {
+impl NameCounts {
     /// No name in any bucket.
     ///
     /// # Errors
     ///
     /// There is no memory for them.
-    pub fn none(alloc: Global) -> Result<Counts, AllocError>
+    pub fn none(alloc: Global) -> Result<NameCounts, AllocError>
         ensures { IfOk result (λ counts. counts ≡ replicate 64 0) }
     {
-        Counts::of(alloc, Numbers { buckets: [0; 64] })
+        NameCounts::of(alloc, Numbers { buckets: [0; 64] })
     }
 
-    fn of(alloc: Global, numbers: Numbers) -> Result<Counts, AllocError>
+    fn of(alloc: Global, numbers: Numbers) -> Result<NameCounts, AllocError>
         ensures { IfOk result (λ counts. counts ≡ numbers.buckets) }
     {
-        Ok(Counts {
+        Ok(NameCounts {
             numbers: Arc::new(alloc, numbers)?,
         })
     }
@@ -92,13 +92,13 @@ impl Counts {
     /// # Errors
     ///
     /// There is no memory for them.
-    pub fn with_one_more(&self, alloc: Global, bucket: u8) -> Result<Counts, AllocError>
+    pub fn with_one_more(&self, alloc: Global, bucket: u8) -> Result<NameCounts, AllocError>
         requires { bucket < 64 }
         ensures { IfOk result (λ counts. counts ≡ with_count self.now bucket (counted_up (count_in self.now bucket))) }
     {
         let mut numbers = *self.numbers;
         numbers.buckets[usize::from(bucket)] = counted_up(self.count(bucket));
-        Counts::of(alloc, numbers)
+        NameCounts::of(alloc, numbers)
     }
 
     /// The same with one name less in a bucket.
@@ -106,14 +106,14 @@ impl Counts {
     /// # Errors
     ///
     /// There is no memory for them.
-    pub fn with_one_less(&self, alloc: Global, bucket: u8) -> Result<Counts, AllocError>
+    pub fn with_one_less(&self, alloc: Global, bucket: u8) -> Result<NameCounts, AllocError>
         requires { bucket < 64 }
         ensures { IfOk result
             (λ counts. counts ≡ with_count self.now bucket (counted_down (count_in self.now bucket))) }
     {
         let mut numbers = *self.numbers;
         numbers.buckets[usize::from(bucket)] = counted_down(self.count(bucket));
-        Counts::of(alloc, numbers)
+        NameCounts::of(alloc, numbers)
     }
 }
 
@@ -135,17 +135,17 @@ fn counted_down(count: u32) -> u32
     }
 }
 
-impl Clone for Counts {
+impl Clone for NameCounts {
     ghost is_clone = { λ counts copy. copy ≡ counts };
 
-    fn clone(&self) -> Result<Counts, AllocError> {
-        Ok(Counts {
+    fn clone(&self) -> Result<NameCounts, AllocError> {
+        Ok(NameCounts {
             numbers: Arc::try_clone(&self.numbers)?,
         })
     }
 }
 
-impl PartialEq for Counts {
+impl PartialEq for NameCounts {
     ghost use Rattle.std.specs.Bool.{Decides};
     ghost use Rattle.std.specs.Cmp.{decided, partial_equiv_from_equiv};
     ghost use Rattle.nfs_machine.specs.Bytes.{same_bytes};
@@ -155,7 +155,7 @@ impl PartialEq for Counts {
 
     ghost laws = { partial_equiv_from_equiv (decided same_bytes bytes_decides) };
 
-    fn eq(&self, other: &Counts) -> bool
+    fn eq(&self, other: &NameCounts) -> bool
         ensures test { result ≡ same_bytes self.now other.now }
         ensures same { Decides result (self.now ≡ other.now) }
     {
@@ -163,7 +163,7 @@ impl PartialEq for Counts {
     }
 }
 
-impl Eq for Counts {
+impl Eq for NameCounts {
     ghost use Rattle.std.specs.Cmp.{decided};
     ghost use Rattle.nfs_machine.specs.Bytes.{same_bytes};
     ghost use Rattle.std.specs.Cmp.Lexicographic.{bytes_decides};

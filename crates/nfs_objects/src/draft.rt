@@ -20,7 +20,7 @@ ghost use Rattle.nfs_objects.specs.Values.{written_at};
 
 use crate::address::{Addr, is_same};
 use crate::bits::Bits;
-use crate::change::{Change, Halt, Write};
+use crate::change::{Change, Missing, Write};
 use crate::directory::Entries;
 use crate::entry_map::NamePlace;
 use crate::entry_page::EntryPage;
@@ -104,7 +104,7 @@ impl<'a> Draft<'a> {
     /// # Errors
     ///
     /// `Need` of the address where it was not read, and `Memory`.
-    pub fn find(&self, address: Addr) -> Result<&Option<Arc<Object>>, Halt>
+    pub fn find(&self, address: Addr) -> Result<&Option<Arc<Object>>, Missing>
         ensures { MatchResult result
             (λ object. known_at self.now address ≡ Some (option_map arc_value object.now))
             (Lacks self.now address) }
@@ -119,7 +119,7 @@ impl<'a> Draft<'a> {
     }
 
     /// The wish for what stands at an address, where the draft does not know it.
-    pub fn lacked(&self, address: Addr) -> Option<(Addr, Mode)>
+    pub fn missing(&self, address: Addr) -> Option<(Addr, Mode)>
         ensures { MatchOption result (IsSome (known_at self.now address))
             (λ wish. (known_at self.now address ≡ None) ×
             (wish ≡ (address, held_mode self.now.modes self.now.view address))) }
@@ -158,7 +158,7 @@ impl<'a> Draft<'a> {
     /// # Errors
     ///
     /// `Need` of it where it was not read, and `Memory`.
-    pub fn export_table(&self) -> Result<Option<&ExportTable>, Halt>
+    pub fn export_table(&self) -> Result<Option<&ExportTable>, Missing>
         ensures known { MatchResult result
             (λ table. option_map export_table_of (known_at self.now Addr.Exports)
             ≡ Some (table_in (option_copied table)))
@@ -173,7 +173,7 @@ impl<'a> Draft<'a> {
     /// # Errors
     ///
     /// `Need` of it where it was not read, and `Memory`.
-    pub fn mounts(&self) -> Result<Option<&MountTable>, Halt>
+    pub fn mounts(&self) -> Result<Option<&MountTable>, Missing>
         ensures { MatchResult result
             (λ table. IsSome (known_at self.now Addr.Mounts) ×
             Knows self.now (λ k. k.state.mounts ≡ mounts_in (option_copied table)))
@@ -221,7 +221,7 @@ impl<'a> Draft<'a> {
     /// # Errors
     ///
     /// `Need` of its address where it was not read, and `Memory`.
-    pub fn map(&self, file: u64, page: u64) -> Result<Bits, Halt>
+    pub fn map(&self, file: u64, page: u64) -> Result<Bits, Missing>
         ensures { MatchResult result
             (λ bits. option_map map_of (known_at self.now (Addr.Map file page)) ≡ Some bits)
             (Lacks self.now (Addr.Map file page)) }
@@ -234,7 +234,7 @@ impl<'a> Draft<'a> {
     /// # Errors
     ///
     /// `Need` of its address where it was not read, and `Memory`.
-    pub fn block(&self, file: u64, index: u64) -> Result<Option<&Bytes>, Halt>
+    pub fn block(&self, file: u64, index: u64) -> Result<Option<&Bytes>, Missing>
         ensures { MatchResult result
             (λ block. option_map block_of (known_at self.now (Addr.Block file index)) ≡ Some (option_copied block))
             (Lacks self.now (Addr.Block file index)) }
@@ -297,7 +297,7 @@ impl<'a> Draft<'a> {
     /// # Errors
     ///
     /// `Need` of its address where it was not read, and `Memory`.
-    pub fn page(&self, directory: u64, page: u64) -> Result<Option<&EntryPage>, Halt>
+    pub fn page(&self, directory: u64, page: u64) -> Result<Option<&EntryPage>, Missing>
         ensures { MatchResult result
             (λ entries. option_map page_of (known_at self.now (Addr.Page directory page))
             ≡ Some (option_copied entries))
@@ -311,7 +311,7 @@ impl<'a> Draft<'a> {
     /// # Errors
     ///
     /// `Need` of its address where it was not read, and `Memory`.
-    pub fn part(&self, directory: u64, place: NamePlace) -> Result<Option<&Entries>, Halt>
+    pub fn part(&self, directory: u64, place: NamePlace) -> Result<Option<&Entries>, Missing>
         ensures { MatchResult result
             (λ entries. option_map part_of (known_at self.now (Addr.Part directory place.bucket place.part))
             ≡ Some (option_copied entries))
@@ -427,7 +427,7 @@ impl<'a> Draft<'a> {
     /// # Errors
     ///
     /// `Need` of its address where it was not read, and `Memory`.
-    pub fn usage(&self, export: u32, group: u8) -> Result<Usage, Halt>
+    pub fn usage(&self, export: u32, group: u8) -> Result<Usage, Missing>
         ensures { MatchResult result
             (λ usage. option_map usage_of (known_at self.now (Addr.Usage export group)) ≡ Some usage)
             (Lacks self.now (Addr.Usage export group)) }
@@ -460,7 +460,7 @@ impl<'a> Draft<'a> {
     /// # Errors
     ///
     /// `Need` of its address where it was not read, and `Memory`.
-    pub fn locks(&self, bucket: u8) -> Result<Option<&LockBucket>, Halt>
+    pub fn locks(&self, bucket: u8) -> Result<Option<&LockBucket>, Missing>
         ensures { MatchResult result
             (λ locks. option_map bucket_at (known_at self.now (Addr.Locks bucket))
             ≡ Some (bucket_in (option_copied locks)))
@@ -521,12 +521,12 @@ impl<'a> Draft<'a> {
     /// # Errors
     ///
     /// `Fresh` where there is none.
-    pub fn fresh(&self) -> Result<Reserved, Halt>
+    pub fn fresh(&self) -> Result<Reserved, Missing>
         ensures { MatchResult result (IsFirst self.now) (WantsNumber self.now) }
     {
         match self.view.fresh() {
             Some(reserved) => Ok(reserved),
-            None => Err(Halt::Fresh(1)),
+            None => Err(Missing::Fresh(1)),
         }
     }
 
@@ -535,7 +535,7 @@ impl<'a> Draft<'a> {
     /// # Errors
     ///
     /// `Fresh` where there are none.
-    pub fn fresh_all(&self, count: u32) -> Result<&'a [Reserved], Halt>
+    pub fn fresh_all(&self, count: u32) -> Result<&'a [Reserved], Missing>
         requires { (self.now.view.reserved ≡ []) ⊎ (count ≤ length self.now.view.reserved) }
         ensures numbers { MatchResult result
             (λ reserved. AreFirst self.now count reserved.now)
@@ -544,7 +544,7 @@ impl<'a> Draft<'a> {
     {
         let reserved = self.view.reserved();
         if reserved.len() < count as usize {
-            return Err(Halt::Fresh(count));
+            return Err(Missing::Fresh(count));
         }
         Ok(&reserved[..count as usize])
     }
@@ -565,12 +565,12 @@ impl<'a> Draft<'a> {
 }
 
 /// The wish for one address in this mode.
-fn lacking(alloc: Global, address: Addr, mode: Mode) -> Halt
+fn lacking(alloc: Global, address: Addr, mode: Mode) -> Missing
     ensures { IsNeed address mode result }
 {
     let mut asked = Vec::new(alloc);
     match asked.push((address, mode)) {
-        Ok(()) => Halt::Need(asked),
-        Err(_) => Halt::Memory,
+        Ok(()) => Missing::Need(asked),
+        Err(_) => Missing::Memory,
     }
 }

@@ -6,7 +6,7 @@ ghost use Rattle.nfs_objects.specs.Directories.{AreBeside, HasBesides, IsPlace, 
 ghost use Rattle.nfs_objects.specs.PageRuns.{TellsEmpty};
 
 use crate::address::Addr;
-use crate::counts::Counts;
+use crate::counts::NameCounts;
 use crate::hashing::{BUCKETS, bucket_of, part_among};
 use crate::page_list::PageList;
 use nfs_machine::NameKey;
@@ -19,7 +19,7 @@ pub struct EntryMap {
     /// A name's part follows from it. It stays as long as the directory does.
     pub key: NameKey,
     pub pages: PageList,
-    pub counts: Counts,
+    pub counts: NameCounts,
 }
 
 /// Where a name of a directory stands.
@@ -43,7 +43,7 @@ impl EntryMap {
         Ok(EntryMap {
             key,
             pages: PageList::new(alloc)?,
-            counts: Counts::none(alloc)?,
+            counts: NameCounts::none(alloc)?,
         })
     }
 

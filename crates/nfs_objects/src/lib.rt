@@ -7,32 +7,32 @@
 //! store sound.
 #![tactic(auto)]
 
-pub mod address;
-pub mod bits;
+mod address;
+mod bits;
 pub mod block;
-pub mod change;
-pub mod counts;
-pub mod directory;
-pub mod draft;
-pub mod entry_map;
-pub mod entry_page;
-pub mod exports;
-pub mod file_map;
+mod change;
+mod counts;
+mod directory;
+mod draft;
+mod entry_map;
+mod entry_page;
+mod exports;
+mod file_map;
 pub mod hashing;
 pub mod laws;
 pub mod modes;
-pub mod mounts;
+mod mounts;
 pub mod object;
-pub mod page_list;
-mod refusal;
+mod outcomes;
+mod page_list;
 pub mod usage;
-pub mod view;
+mod view;
 
 pub use address::Addr;
 pub use bits::Bits;
 pub use block::{BLOCK_SIZE, MAP_BLOCKS};
-pub use change::{Change, Halt, Outcome, Write};
-pub use counts::Counts;
+pub use change::{Change, Missing, Outcome, Write};
+pub use counts::NameCounts;
 pub use directory::{Directory, Entries, Leaf};
 pub use draft::Draft;
 pub use entry_map::{EntryMap, NamePlace};
@@ -44,7 +44,7 @@ pub use modes::{CHANGING, LOCKING, MOUNTING, Mode, Modes, READING, REPLACING};
 pub use mounts::{Leaving, MOUNT_LIMIT, Mount, MountTable, Mounts};
 pub use nfs_machine::Handle;
 pub use object::{Content, DIRECTORY_SIZE, Inode, Object};
+pub use outcomes::outcome;
 pub use page_list::{PageList, PageRun};
-pub use refusal::outcome;
 pub use usage::{GROUPS, Usage};
 pub use view::{Entry, Reserved, RoomyView, View, share};

@@ -12,7 +12,7 @@ use crate::address::Addr;
 use crate::object::{Object, header_known, part_known};
 use crate::view::View;
 use nfs_machine::{Call, Handle};
-use nfs_wire::{NfsCall, Place, RenameArguments};
+use nfs_wire::{DirOp, NfsCall, RenameArguments};
 use side_wire::{MountCall, NlmCall};
 use std::sync::Arc;
 
@@ -165,7 +165,7 @@ fn only_reads(view: &View, arguments: &RenameArguments, number: u64) -> bool
 }
 
 /// Whether a view shows what a name leads to, and neither that nor the name's directory is at a number.
-fn is_apart(view: &View, place: &Place, number: u64) -> bool
+fn is_apart(view: &View, place: &DirOp, number: u64) -> bool
     ensures { result ≡ is_apart view.now place.now number }
 {
     let Some(handle) = Handle::read(place.directory.as_slice()) else {

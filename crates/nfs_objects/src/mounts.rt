@@ -137,25 +137,25 @@ impl Mount {
 
 /// A mount to look up, with its hash. It is hashed and compared as a `Mount` is.
 #[derive(Clone, Copy)]
-struct Sought<'a> {
+struct SoughtMount<'a> {
     host: &'a [u8],
     path: &'a [u8],
     hash: u64,
     ghost hashed: { hash ≡ mount_digest host.now path.now },
 }
 
-impl<'a> Sought<'a> {
+impl<'a> SoughtMount<'a> {
     /// The host's mount of the path. All of their bytes are read.
-    fn of(host: &'a [u8], path: &'a [u8]) -> Sought<'a>
+    fn of(host: &'a [u8], path: &'a [u8]) -> SoughtMount<'a>
         ensures host { result.host.now ≡ host.now }
         ensures path { result.path.now ≡ path.now }
     {
         let hash = mount_digest(host, path);
-        Sought { host, path, hash }
+        SoughtMount { host, path, hash }
     }
 }
 
-impl<'a> PartialEq for Sought<'a> {
+impl<'a> PartialEq for SoughtMount<'a> {
     ghost use Rattle.std.specs.Cmp.{decided, on_equiv, partial_equiv_from_equiv};
     ghost use Rattle.std.specs.Ordering.{on};
     ghost use Rattle.nfs_objects.specs.MountTables.{mounted};
@@ -167,12 +167,12 @@ impl<'a> PartialEq for Sought<'a> {
     ghost laws = { partial_equiv_from_equiv
         (on_equiv (λ sought. mounted sought.host.now sought.path.now) (decided same_mount mount_decides)) };
 
-    fn eq(&self, other: &Sought<'a>) -> bool {
+    fn eq(&self, other: &SoughtMount<'a>) -> bool {
         self.host == other.host && self.path == other.path
     }
 }
 
-impl<'a> Eq for Sought<'a> {
+impl<'a> Eq for SoughtMount<'a> {
     ghost use Rattle.std.specs.Cmp.{decided, on_equiv};
     ghost use Rattle.nfs_objects.specs.MountTables.{mounted};
     ghost use Rattle.nfs_objects.specs.Same.{same_mount};
@@ -181,7 +181,7 @@ impl<'a> Eq for Sought<'a> {
     ghost laws = { on_equiv (λ sought. mounted sought.host.now sought.path.now) (decided same_mount mount_decides) };
 }
 
-impl<'a> Hash for Sought<'a> {
+impl<'a> Hash for SoughtMount<'a> {
     ghost use Rattle.std.proofs.Common.{ap};
     ghost use Rattle.nfs_objects.specs.MountTables.{mount_input, mounted};
     ghost use Rattle.nfs_objects.specs.SameLaws.{mount_decides};
@@ -196,7 +196,7 @@ impl<'a> Hash for Sought<'a> {
     }
 }
 
-impl<'a> Equivalent<Mount> for Sought<'a> {
+impl<'a> Equivalent<Mount> for SoughtMount<'a> {
     ghost use Rattle.nfs_machine.specs.MountSteps.{is_of};
     ghost use Rattle.nfs_objects.specs.MountTables.{both_alike, is_of_alike, mount_input};
 
@@ -235,11 +235,11 @@ impl<'a> Leaving<'a> {
 
 /// A part of a table: mounts in order of adding.
 #[derive(Drop)]
-struct Piece {
+struct MountPiece {
     mounts: IndexSet<Mount>,
 }
 
-impl Model for Piece {
+impl Model for MountPiece {
     ghost use Rattle.std.specs.Prelude.{List};
     ghost use Rattle.side_wire.specs.declared.mount.lists.MountBody.{MountBody};
 
@@ -248,26 +248,26 @@ impl Model for Piece {
     ghost view = { λ p. p.mounts.keys };
 }
 
-impl Piece {
+impl MountPiece {
     ghost use Rattle.nfs_machine.specs.MountSteps.{is_mounted};
     ghost use Rattle.nfs_objects.specs.MountTables.{AreDistinct, mounted};
 
     /// A piece without mounts.
-    fn new(alloc: Global) -> Piece
+    fn new(alloc: Global) -> MountPiece
         ensures { result ≡ [] }
     {
-        Piece {
+        MountPiece {
             mounts: IndexSet::new(alloc),
         }
     }
 
     /// A piece of this mount alone.
-    fn of(alloc: Global, mount: Mount) -> Result<Piece, AllocError>
+    fn of(alloc: Global, mount: Mount) -> Result<MountPiece, AllocError>
         ensures { IfOk result (λ piece. piece ≡ mount ∷ []) }
     {
         let mut mounts = IndexSet::new(alloc);
         mounts.insert(mount)?;
-        Ok(Piece { mounts })
+        Ok(MountPiece { mounts })
     }
 
     fn len(&self) -> usize
@@ -283,7 +283,7 @@ impl Piece {
         self.mounts.as_slice()
     }
 
-    fn is_listed(&self, sought: Sought<'_>) -> bool
+    fn is_listed(&self, sought: SoughtMount<'_>) -> bool
         ensures { result ≡ is_mounted self.now (mounted sought.entry.host.now sought.entry.path.now) }
     {
         self.mounts.contains(sought)
@@ -307,33 +307,33 @@ impl Piece {
             .any(|mount| leaving.has(mount))
     }
 
-    fn copied(&self) -> Result<Piece, AllocError>
+    fn copied(&self) -> Result<MountPiece, AllocError>
         ensures { IfOk result (λ piece. piece ≡ self.now) }
     {
-        Ok(Piece {
+        Ok(MountPiece {
             mounts: self.mounts.clone()?,
         })
     }
 
     /// A piece with this mount last.
-    fn with_last(&self, mount: Mount) -> Result<Piece, AllocError>
+    fn with_last(&self, mount: Mount) -> Result<MountPiece, AllocError>
         requires { is_mounted self.now mount ≡ false }
         ensures { IfOk result (λ piece. piece ≡ self.now ++ mount ∷ []) }
     {
         let mut mounts = self.mounts.clone()?;
         mounts.insert(mount)?;
-        Ok(Piece { mounts })
+        Ok(MountPiece { mounts })
     }
 
     /// A piece with the mounts of both, those of the other last.
-    fn joined_with(&self, other: &Piece) -> Result<Piece, AllocError>
+    fn joined_with(&self, other: &MountPiece) -> Result<MountPiece, AllocError>
         requires { AreDistinct (self.now ++ other.now) }
         ensures { IfOk result (λ piece. piece ≡ self.now ++ other.now) }
     {
         let mut mounts = self.mounts.clone()?;
         let mut others = other.mounts.clone()?;
         mounts.append(&mut others)?;
-        Ok(Piece { mounts })
+        Ok(MountPiece { mounts })
     }
 
     /// Whether a mount of it leaves. That of one path is found by its hash.
@@ -341,27 +341,27 @@ impl Piece {
         ensures { result ≡ list_any (leaves leaving.entry) self.now }
     {
         match leaving {
-            Leaving::Path { host, path } => self.is_listed(Sought::of(host, path)),
+            Leaving::Path { host, path } => self.is_listed(SoughtMount::of(host, path)),
             Leaving::Host(_) => self.as_slice().iter().any(|mount| leaving.has(mount)),
         }
     }
 
     /// A piece without the mounts that leave.
-    fn without(&self, leaving: Leaving<'_>) -> Result<Piece, AllocError>
+    fn without(&self, leaving: Leaving<'_>) -> Result<MountPiece, AllocError>
         ensures { IfOk result (λ piece. piece ≡ filter (λ m. not (leaves leaving.entry m)) self.now) }
     {
         let mut mounts = self.mounts.clone()?;
         mounts.retain(|mount| !leaving.has(mount));
-        Ok(Piece { mounts })
+        Ok(MountPiece { mounts })
     }
 
     /// A piece without the first so many.
-    fn without_front(&self, count: usize) -> Result<Piece, AllocError>
+    fn without_front(&self, count: usize) -> Result<MountPiece, AllocError>
         requires { count ≤ length self.now }
         ensures { IfOk result (λ piece. piece ≡ drop count self.now) }
     {
         let mut mounts = self.mounts.clone()?;
-        Ok(Piece {
+        Ok(MountPiece {
             mounts: mounts.split_off(count)?,
         })
     }
@@ -370,12 +370,12 @@ impl Piece {
 /// Mounts in pieces, in order of adding. They are never changed: copies share them, and what becomes of them shares the
 /// pieces that stay.
 #[derive(Drop)]
-struct Pieces {
-    pieces: Option<Arc<Vec<Arc<Piece>>>>,
+struct MountPieces {
+    pieces: Option<Arc<Vec<Arc<MountPiece>>>>,
     len: usize,
 }
 
-impl Model for Pieces {
+impl Model for MountPieces {
     ghost use Rattle.std.specs.Prelude.{List, map};
     ghost use Rattle.std.specs.Arc.{arc_value};
     ghost use Rattle.side_wire.specs.declared.mount.lists.MountBody.{MountBody};
@@ -388,45 +388,49 @@ impl Model for Pieces {
     ghost invariant = { λ p. AreInPieces (map arc_value (items_in p.pieces)) p.len };
 }
 
-impl Pieces {
+impl MountPieces {
     ghost use Rattle.nfs_machine.specs.MountSteps.{is_mounted};
     ghost use Rattle.nfs_objects.specs.MountTables.{AreInPieces, first_piece, mounted};
 
     /// No pieces.
-    fn new() -> Pieces
+    fn new() -> MountPieces
         ensures { result ≡ [] }
     {
-        Pieces {
+        MountPieces {
             pieces: None,
             len: 0,
         }
     }
 
     /// These pieces, which have so many mounts.
-    fn of(alloc: Global, pieces: Vec<Arc<Piece>>, len: usize) -> Result<Pieces, AllocError>
+    fn of(
+        alloc: Global,
+        pieces: Vec<Arc<MountPiece>>,
+        len: usize,
+    ) -> Result<MountPieces, AllocError>
         requires { AreInPieces (map arc_value pieces.items) len }
         ensures { IfOk result (λ made. made ≡ map arc_value pieces.items) }
     {
-        Ok(Pieces {
+        Ok(MountPieces {
             pieces: Some(Arc::new(alloc, pieces)?),
             len,
         })
     }
 
     /// The same pieces, shared.
-    fn shared(&self) -> Result<Pieces, AllocError>
+    fn shared(&self) -> Result<MountPieces, AllocError>
         ensures { IfOk result (λ copy. copy ≡ self.now) }
     {
         let Some(pieces) = &self.pieces else {
-            return Ok(Pieces::new());
+            return Ok(MountPieces::new());
         };
-        Ok(Pieces {
+        Ok(MountPieces {
             pieces: Some(Arc::try_clone(pieces)?),
             len: self.len,
         })
     }
 
-    fn as_slice(&self) -> &[Arc<Piece>]
+    fn as_slice(&self) -> &[Arc<MountPiece>]
         ensures pieces { map arc_value result.now ≡ self.now }
         ensures held { AreInPieces self.now (length (joined self.now)) }
     {
@@ -454,14 +458,14 @@ impl Pieces {
         }
     }
 
-    fn is_listed(&self, sought: Sought<'_>) -> bool
+    fn is_listed(&self, sought: SoughtMount<'_>) -> bool
         ensures { result ≡ is_mounted (joined self.now) (mounted sought.entry.host.now sought.entry.path.now) }
     {
         self.as_slice().iter().any(|piece| piece.is_listed(sought))
     }
 
     /// Whether the mount is listed behind the first so many.
-    fn is_behind(&self, count: usize, sought: Sought<'_>) -> bool
+    fn is_behind(&self, count: usize, sought: SoughtMount<'_>) -> bool
         requires { count ≤ length (first_piece self.now) }
         ensures { result ≡ is_mounted (drop count (joined self.now))
             (mounted sought.entry.host.now sought.entry.path.now) }
@@ -505,7 +509,7 @@ impl Pieces {
     }
 
     /// The pieces of the mounts behind the first so many.
-    fn pieces_behind(&self, alloc: Global, count: usize) -> Result<Vec<Arc<Piece>>, AllocError>
+    fn pieces_behind(&self, alloc: Global, count: usize) -> Result<Vec<Arc<MountPiece>>, AllocError>
         requires { count ≤ length (first_piece self.now) }
         ensures joined { IfOk result
             (λ pieces. joined (map arc_value pieces.items) ≡ drop count (joined self.now)) }
@@ -521,7 +525,7 @@ impl Pieces {
     }
 
     /// The mounts that stay. They share with these the pieces that lose none and aren't joined.
-    fn without(&self, alloc: Global, leaving: Leaving<'_>) -> Result<Pieces, AllocError>
+    fn without(&self, alloc: Global, leaving: Leaving<'_>) -> Result<MountPieces, AllocError>
         ensures { IfOk result
             (λ rest. joined rest ≡ filter (λ m. not (leaves leaving.entry m)) (joined self.now)) }
     {
@@ -533,7 +537,7 @@ impl Pieces {
             len += rest.len();
             add_piece(alloc, &mut pieces, rest)?;
         }
-        Pieces::of(alloc, pieces, len)
+        MountPieces::of(alloc, pieces, len)
     }
 }
 
@@ -543,10 +547,10 @@ impl Pieces {
 /// of the first piece are gone.
 #[derive(Drop)]
 pub struct MountTable {
-    older: Pieces,
+    older: MountPieces,
     /// How many of the first piece are no longer in the table.
     gone: usize,
-    latest: Piece,
+    latest: MountPiece,
 }
 
 impl Model for MountTable {
@@ -570,9 +574,9 @@ impl MountTable {
         ensures { result ≡ [] }
     {
         MountTable {
-            older: Pieces::new(),
+            older: MountPieces::new(),
             gone: 0,
-            latest: Piece::new(alloc),
+            latest: MountPiece::new(alloc),
         }
     }
 
@@ -602,7 +606,7 @@ impl MountTable {
     pub fn is_listed(&self, host: &[u8], path: &[u8]) -> bool
         ensures { result ≡ is_mounted self.now (mounted host.now path.now) }
     {
-        let sought = Sought::of(host, path);
+        let sought = SoughtMount::of(host, path);
         self.older.is_behind(self.gone, sought) || self.latest.is_listed(sought)
     }
 
@@ -655,7 +659,7 @@ impl MountTable {
         Ok(MountTable {
             older: self.in_pieces(alloc)?,
             gone: 0,
-            latest: Piece::of(alloc, mount)?,
+            latest: MountPiece::of(alloc, mount)?,
         })
     }
 
@@ -670,7 +674,7 @@ impl MountTable {
         Ok(MountTable {
             older: self.in_pieces(alloc)?.without(alloc, leaving)?,
             gone: 0,
-            latest: Piece::new(alloc),
+            latest: MountPiece::new(alloc),
         })
     }
 
@@ -689,18 +693,18 @@ impl MountTable {
         Ok(MountTable {
             older: self.in_pieces(alloc)?,
             gone: 1,
-            latest: Piece::new(alloc),
+            latest: MountPiece::new(alloc),
         })
     }
 
     /// All mounts in pieces.
-    fn in_pieces(&self, alloc: Global) -> Result<Pieces, AllocError>
+    fn in_pieces(&self, alloc: Global) -> Result<MountPieces, AllocError>
         ensures joined { IfOk result (λ pieces. joined pieces ≡ self.now) }
         ensures held { IfOk result (λ pieces. AreInPieces pieces (length self.now)) }
     {
         let mut pieces = self.older.pieces_behind(alloc, self.gone)?;
         add_piece(alloc, &mut pieces, Arc::new(alloc, self.latest.copied()?)?)?;
-        Pieces::of(alloc, pieces, self.len())
+        MountPieces::of(alloc, pieces, self.len())
     }
 }
 
@@ -760,8 +764,8 @@ fn has_one(mut mounts: Mounts<'_>, leaving: Leaving<'_>) -> bool
 /// Adds a piece. It is joined to the last where both fit into one, and left out where it is empty.
 fn add_piece(
     alloc: Global,
-    pieces: &mut Vec<Arc<Piece>>,
-    piece: Arc<Piece>,
+    pieces: &mut Vec<Arc<MountPiece>>,
+    piece: Arc<MountPiece>,
 ) -> Result<(), AllocError>
     requires { AreDistinct (joined (map arc_value pieces.old.items) ++ arc_value piece) }
     ensures joined { OnOk result
@@ -784,7 +788,7 @@ fn add_piece(
 }
 
 /// Whether the mounts of both fit into one piece.
-fn fit_together(piece: &Arc<Piece>, other: &Arc<Piece>) -> bool
+fn fit_together(piece: &Arc<MountPiece>, other: &Arc<MountPiece>) -> bool
     ensures { IsTrue result ↔ (length (arc_value piece.now) + length (arc_value other.now) ≤ PIECE_LIMIT) }
 {
     piece.len() + other.len() <= PIECE_LIMIT
@@ -793,8 +797,8 @@ fn fit_together(piece: &Arc<Piece>, other: &Arc<Piece>) -> bool
 /// Adds these pieces in turn.
 fn add_pieces(
     alloc: Global,
-    pieces: &mut Vec<Arc<Piece>>,
-    others: &[Arc<Piece>],
+    pieces: &mut Vec<Arc<MountPiece>>,
+    others: &[Arc<MountPiece>],
 ) -> Result<(), AllocError>
     requires { AreDistinct (joined (map arc_value pieces.old.items) ++ joined (map arc_value others.now)) }
     ensures joined { OnOk result (joined (map arc_value pieces.new.items)
@@ -811,9 +815,9 @@ fn add_pieces(
 /// The piece itself where none of its mounts leaves, and else one of those that stay.
 fn rest_of(
     alloc: Global,
-    piece: &Arc<Piece>,
+    piece: &Arc<MountPiece>,
     leaving: Leaving<'_>,
-) -> Result<Arc<Piece>, AllocError>
+) -> Result<Arc<MountPiece>, AllocError>
     ensures { IfOk result
         (λ rest. arc_value rest ≡ filter (λ m. not (leaves leaving.entry m)) (arc_value piece.now)) }
 {
@@ -824,7 +828,11 @@ fn rest_of(
 }
 
 /// The piece itself where none goes, and else one without the first so many.
-fn shortened(alloc: Global, piece: &Arc<Piece>, count: usize) -> Result<Arc<Piece>, AllocError>
+fn shortened(
+    alloc: Global,
+    piece: &Arc<MountPiece>,
+    count: usize,
+) -> Result<Arc<MountPiece>, AllocError>
     requires { count ≤ length (arc_value piece.now) }
     ensures { IfOk result (λ rest. arc_value rest ≡ drop count (arc_value piece.now)) }
 {
@@ -838,7 +846,7 @@ fn shortened(alloc: Global, piece: &Arc<Piece>, count: usize) -> Result<Arc<Piec
 #[derive(Drop)]
 pub struct Mounts<'a> {
     front: &'a [Mount],
-    pieces: &'a [Arc<Piece>],
+    pieces: &'a [Arc<MountPiece>],
     others: &'a [Mount],
 }
 

@@ -16,12 +16,12 @@ use Rattle.nfs_replies.proofs.replies.Replies.TheSendSync as replies
 use Rattle.nfs_engine.proofs.dead.Dead.TheSendSync as dead
 use Rattle.nfs_engine.proofs.objects.Objects.TheSendSync as objects
 use Rattle.nfs_engine.proofs.outbox.Outbox.TheSendSync as outbox
-use Rattle.nfs_engine.proofs.records.Records.TheSendSync as records
+use Rattle.nfs_engine.proofs.records.EraRecords.TheSendSync as records
 use Rattle.nfs_engine.proofs.running.Calls.TheSendSync as calls
 use Rattle.nfs_engine.specs.contracts.book.Book as Book
 use Rattle.nfs_engine.specs.contracts.journal.Journal as Journal
 use Rattle.nfs_pool.proofs.counting.Count.TheSendSync as counting
-use Rattle.nfs_pool.proofs.locking.Place.TheSendSync as place
+use Rattle.nfs_pool.proofs.locking.LockedShard.TheSendSync as place
 use Rattle.nfs_pool.specs.contracts.counting.Count as Count
 use Rattle.nfs_pool.specs.contracts.desk.Desk as Desk
 use Rattle.nfs_pool.specs.contracts.pool.Pool as Pool

@@ -7,10 +7,10 @@ use Rattle.nfs_engine.specs.declared.release.Then.{Then}
 use Rattle.nfs_engine.specs.declared.release.Then.TheVariants as then
 use Rattle.nfs_pool.specs.Seats.{IsReceiptOf}
 use Rattle.nfs_pool.specs.Steps.{IsGivenUp}
-use Rattle.nfs_pool.specs.declared.carrying.Ended.{Ended}
-use Rattle.nfs_pool.specs.declared.carrying.Ended.TheVariants as ends
-use Rattle.nfs_pool.specs.declared.carrying.Passed.{Passed}
-use Rattle.nfs_pool.specs.declared.carrying.Passed.TheVariants as passed
+use Rattle.nfs_pool.specs.declared.carrying.CallEnd.{CallEnd}
+use Rattle.nfs_pool.specs.declared.carrying.CallEnd.TheVariants as ends
+use Rattle.nfs_pool.specs.declared.carrying.PassEnd.{PassEnd}
+use Rattle.nfs_pool.specs.declared.carrying.PassEnd.TheVariants as passed
 
 -- ---- what a call reads
 -- nothing but its view changed
@@ -30,20 +30,20 @@ pub record IsNext (r : Arrival) (last before after : ℕ) (receipt : Receipt) : 
   pub counted : after ≡ before + 2 ^ 64
 
 -- one pass: it is executed; or in progress still, as it came
-abbrev pub ComesTo : Arrival → (last before after : ℕ) → Passed → Type 0
+abbrev pub ComesTo : Arrival → (last before after : ℕ) → PassEnd → Type 0
 ComesTo r last before after (passed.Executed receipt) = IsNext r last before after receipt
 ComesTo r last before after (passed.Again p) = (p.received ≡ r) × (after ≡ before)
 ComesTo r last before after (passed.Failed p) = (p.received ≡ r) × (after ≡ before)
 ComesTo r last before after (passed.Taken p a m) = (p.received ≡ r) × (after ≡ before)
 
 -- in progress still, as it came
-abbrev pub Retreats : Arrival → Passed → Type 0
+abbrev pub Retreats : Arrival → PassEnd → Type 0
 Retreats r (passed.Executed receipt) = ⊥
 Retreats r (passed.Again p) = p.received ≡ r
 Retreats r (passed.Failed p) = p.received ≡ r
 Retreats r (passed.Taken p a m) = p.received ≡ r
 
 -- all passes: it is executed, or given up
-abbrev pub EndsWith : Arrival → (last before after : ℕ) → Ended → Type 0
+abbrev pub EndsWith : Arrival → (last before after : ℕ) → CallEnd → Type 0
 EndsWith r last before after (ends.Executed receipt) = IsNext r last before after receipt
 EndsWith r last before after (ends.Refused refused) = IsGivenUp r refused × (after ≡ before)

@@ -12,7 +12,7 @@ use Rattle.nfs_engine.specs.Commits.{IsReceipt}
 use Rattle.nfs_engine.specs.declared.arrival.Reading.TheVariants as readings
 use Rattle.nfs_engine.specs.declared.asking.Asked.{Asked}
 use Rattle.nfs_engine.specs.declared.journal.Receipt.{Receipt}
-use Rattle.nfs_schedule.specs.declared.answer.Declined.{Declined}
+use Rattle.nfs_schedule.specs.declared.answer.RefusalReply.{RefusalReply}
 use Rattle.nfs_pool.specs.declared.sent.PoolError.{PoolError}
 use Rattle.nfs_pool.specs.declared.sent.PoolError.TheVariants.{Memory, EraFull}
 use Rattle.nfs_pool.specs.declared.sent.Sent.{Sent}
@@ -56,7 +56,7 @@ pub record Gains (a : ArrivalValue) (old new : SeatValue) : Type 0 where
   pub last : new.last ≡ receipt.number
 
 -- the answer is the refusal of what came in asks, or nothing where there was no memory for it
-pub record IsDeclined (r : Arrival) (declined : Declined) : Type 0 where
+pub record IsDeclined (r : Arrival) (declined : RefusalReply) : Type 0 where
   pub asked : Asked
   pub asks : IsAskedBy r asked
   pub received : incoming_value declined.received ≡ r

@@ -26,7 +26,7 @@ use nfs_engine::{
 };
 use nfs_objects::{Addr, Change, Mode};
 use nfs_schedule::answer::refusal;
-use nfs_schedule::{Considered, Course, Declined, NextStep, consider, next_step};
+use nfs_schedule::{Considered, Course, NextStep, RefusalReply, consider, next_step};
 use nfs_stamps::Naming;
 use std::alloc::Global;
 use std::sync::Wait;
@@ -37,7 +37,7 @@ const STRIDE: u64 = 0x9e37_79b9_7f4a_7c15;
 
 /// What a call is brought on by, and for which seat.
 #[derive(Drop)]
-struct Means<'a, R, S, G> {
+struct CallDriver<'a, R, S, G> {
     rt: &'a R,
     alloc: Global,
     steps: &'a S,
@@ -49,13 +49,13 @@ struct Means<'a, R, S, G> {
 }
 
 /// What a call that began comes to.
-enum Ended {
+enum CallEnd {
     Executed(Receipt),
     Refused(Refused),
 }
 
 /// What one pass of a call comes to, from an empty view on. It has to be spent.
-enum Passed {
+enum PassEnd {
     Executed(Receipt),
     /// It begins anew.
     Again(Pending),
@@ -83,7 +83,7 @@ pub fn run_call<L: Ledger + Naming, R: Wait, S: Steps<L>, G: Gate>(
     let Ok(()) = seat.receipts.reserve(1) else {
         return Err(PoolError::Memory(arrival));
     };
-    let means = Means {
+    let driver = CallDriver {
         rt,
         alloc,
         steps,
@@ -100,15 +100,15 @@ pub fn run_call<L: Ledger + Naming, R: Wait, S: Steps<L>, G: Gate>(
         Err(Unadmitted::EraFull(arrival)) => return Err(PoolError::EraFull(arrival)),
         Err(Unadmitted::Refused(arrival)) => return Ok(refuse(alloc, arrival)),
     };
-    match carry_out(&means, &mut seat.share, txn) {
-        Ended::Executed(receipt) => {
+    match carry_out(&driver, &mut seat.share, txn) {
+        CallEnd::Executed(receipt) => {
             seat.last = receipt.number;
             let Ok(()) = seat.receipts.push(receipt) else {
                 unreachable!();
             };
             Ok(Sent::Executed)
         }
-        Ended::Refused(refused) => {
+        CallEnd::Refused(refused) => {
             let Refused { received, asked } = refused;
             Ok(Sent::Refused(decline(alloc, received, asked)))
         }
@@ -139,7 +139,7 @@ fn leave(arrival: Arrival) -> Sent
 /// The answer to what was not admitted.
 fn refuse(alloc: Global, arrival: Arrival) -> Sent
     requires { AsksSome arrival }
-    ensures { (declined : Declined) × (result ≡ Sent.Refused declined) × IsDeclined arrival.received declined }
+    ensures { (declined : RefusalReply) × (result ≡ Sent.Refused declined) × IsDeclined arrival.received declined }
 {
     let (received, reading) = arrival.into_parts();
     match reading {
@@ -149,44 +149,44 @@ fn refuse(alloc: Global, arrival: Arrival) -> Sent
 }
 
 /// The refusal of a call.
-fn decline(alloc: Global, received: Incoming, asked: Asked) -> Declined
+fn decline(alloc: Global, received: Incoming, asked: Asked) -> RefusalReply
     requires { IsAskedBy (incoming_value received) asked }
     ensures { IsDeclined (incoming_value received) result }
 {
     let answer = refusal(alloc, &asked);
     drop(asked);
-    Declined { received, answer }
+    RefusalReply { received, answer }
 }
 
 /// Brings a call that began to its end.
 fn carry_out<L: Ledger + Naming, R: Wait, S: Steps<L>, G: Gate>(
-    means: &Means<R, S, G>,
+    driver: &CallDriver<R, S, G>,
     mine: &mut Share<L>,
     txn: Txn,
-) -> Ended
+) -> CallEnd
     requires part { mine.old.parts ≡ 1 }
-    requires shard { means.now.shard < SHARDS }
+    requires shard { driver.now.shard < SHARDS }
     requires unread { IsUnread txn }
     ensures parts { mine.new.parts ≡ mine.old.parts }
-    ensures ended { EndsWith txn.received means.now.last mine.old.amount mine.new.amount result }
+    ensures ended { EndsWith txn.received driver.now.last mine.old.amount mine.new.amount result }
 {
     let mut txn = txn;
     let mut first = true;
     let mut awaited = None;
-    'passes: for _ in means.rt.forever() {
-        match pass(means, mine, first, txn) {
-            Passed::Executed(receipt) => {
-                withdraw(means, awaited);
-                return Ended::Executed(receipt);
+    'passes: for _ in driver.rt.forever() {
+        match pass(driver, mine, first, txn) {
+            PassEnd::Executed(receipt) => {
+                withdraw(driver, awaited);
+                return CallEnd::Executed(receipt);
             }
-            Passed::Failed(pending) => {
-                withdraw(means, awaited);
-                return Ended::Refused(give_up(means, pending));
+            PassEnd::Failed(pending) => {
+                withdraw(driver, awaited);
+                return CallEnd::Refused(give_up(driver, pending));
             }
-            Passed::Again(pending) => txn = pending.again(means.alloc),
-            Passed::Taken(pending, address, mode) => {
-                awaited = wait_for(means, awaited, address, mode);
-                txn = pending.again(means.alloc);
+            PassEnd::Again(pending) => txn = pending.again(driver.alloc),
+            PassEnd::Taken(pending, address, mode) => {
+                awaited = wait_for(driver, awaited, address, mode);
+                txn = pending.again(driver.alloc);
             }
         }
         first = false;
@@ -197,7 +197,7 @@ fn carry_out<L: Ledger + Naming, R: Wait, S: Steps<L>, G: Gate>(
 /// Waits for an address that was taken. Where it is wanted alone others give way there from then on; it is handed out,
 /// and takes the place of what was waited for so before.
 fn wait_for<L: Ledger + Naming, R: Wait, S: Steps<L>, G: Gate>(
-    means: &Means<R, S, G>,
+    driver: &CallDriver<R, S, G>,
     before: Option<Addr>,
     address: Addr,
     mode: Mode,
@@ -207,93 +207,90 @@ fn wait_for<L: Ledger + Naming, R: Wait, S: Steps<L>, G: Gate>(
         Mode::Exclusive => Some(address),
     };
     if before != awaited {
-        withdraw(means, before);
+        withdraw(driver, before);
     }
-    means.steps.wait_for(means.rt, address, mode);
+    driver.steps.wait_for(driver.rt, address, mode);
     awaited
 }
 
 /// Nobody need give way any more to a call that waited for this address alone.
 fn withdraw<L: Ledger + Naming, R: Wait, S: Steps<L>, G: Gate>(
-    means: &Means<R, S, G>,
+    driver: &CallDriver<R, S, G>,
     awaited: Option<Addr>,
 ) {
     if let Some(address) = awaited {
-        means.steps.withdraw(address);
+        driver.steps.withdraw(address);
     }
 }
 
 /// Gives a call up.
 fn give_up<L: Ledger + Naming, R: Wait, S: Steps<L>, G: Gate>(
-    means: &Means<R, S, G>,
+    driver: &CallDriver<R, S, G>,
     pending: Pending,
 ) -> Refused
     ensures { IsGivenUp pending.received result }
 {
-    means.gate.before(Step::GiveUp);
-    means.steps.give_up(means.rt, pending)
+    driver.gate.before(Step::GiveUp);
+    driver.steps.give_up(driver.rt, pending)
 }
 
 /// One pass of a call that has read nothing: to its commit, or until it has to let go. In its first it gives way.
 fn pass<L: Ledger + Naming, R: Wait, S: Steps<L>, G: Gate>(
-    means: &Means<R, S, G>,
+    driver: &CallDriver<R, S, G>,
     mine: &mut Share<L>,
     first: bool,
     txn: Txn,
-) -> Passed
+) -> PassEnd
     requires part { mine.old.parts ≡ 1 }
-    requires shard { means.now.shard < SHARDS }
+    requires shard { driver.now.shard < SHARDS }
     requires unread { IsUnread txn }
     ensures parts { mine.new.parts ≡ mine.old.parts }
-    ensures comes { ComesTo txn.received means.now.last mine.old.amount mine.new.amount result }
+    ensures comes { ComesTo txn.received driver.now.last mine.old.amount mine.new.amount result }
 {
-    let mut txn = NotedTxn::new(means.alloc, txn);
-    match run(means, first, &mut txn) {
-        Ok(change) => match txn.done(means.alloc, change) {
-            Ok(finished) => commit(means, mine, finished),
-            Err(txn) => retreat(means, txn.into_txn(), Reason::Memory),
+    let mut txn = NotedTxn::new(driver.alloc, txn);
+    match run(driver, first, &mut txn) {
+        Ok(change) => match txn.done(driver.alloc, change) {
+            Ok(finished) => commit(driver, mine, finished),
+            Err(txn) => retreat(driver, txn.into_txn(), Reason::Memory),
         },
-        Err(reason) => retreat(means, txn.into_txn(), reason),
+        Err(reason) => retreat(driver, txn.into_txn(), reason),
     }
 }
 
 /// Commits a call, and lets go what it still holds.
 fn commit<L: Ledger + Naming, R: Wait, S: Steps<L>, G: Gate>(
-    means: &Means<R, S, G>,
+    driver: &CallDriver<R, S, G>,
     mine: &mut Share<L>,
     finished: NotedFinished<L>,
-) -> Passed
+) -> PassEnd
     requires part { mine.old.parts ≡ 1 }
     ensures parts { mine.new.parts ≡ mine.old.parts }
-    ensures comes { ComesTo finished.received means.now.last mine.old.amount mine.new.amount result }
+    ensures comes { ComesTo finished.received driver.now.last mine.old.amount mine.new.amount result }
 {
-    means.gate.before(Step::Commit);
+    driver.gate.before(Step::Commit);
     let (finished, notes) = finished.into_parts();
-    match means
-        .steps
-        .commit(means.rt, means.alloc, mine, means.last, finished, &notes)
-    {
-        Ok((receipt, release)) => match let_go(means, release) {
-            None => Passed::Executed(receipt),
+    match driver.steps.commit(driver.rt, driver.alloc, mine, driver.last, finished, &notes) {
+        Ok((receipt, release)) => match let_go(driver, release) {
+            None => PassEnd::Executed(receipt),
             Some(_) => unreachable!(),
         },
-        Err(Uncommitted { finished, reason }) => retreat(means, finished.into_txn(), reason),
+        Err(Uncommitted { finished, reason }) => retreat(driver, finished.into_txn(), reason),
     }
 }
 
 /// Gives a pass up: lets go all that the call holds.
 fn retreat<L: Ledger + Naming, R: Wait, S: Steps<L>, G: Gate>(
-    means: &Means<R, S, G>,
+    driver: &CallDriver<R, S, G>,
     txn: Txn,
     reason: Reason,
-) -> Passed
+) -> PassEnd
     ensures { Retreats txn.received result }
 {
-    match let_go(means, txn.abort()) {
+    match let_go(driver, txn.abort()) {
         Some(pending) => match reason {
-            Reason::Memory => Passed::Failed(pending),
-            Reason::Stale => Passed::Again(pending),
-            Reason::Taken(address, mode) => Passed::Taken(pending, address, mode),
+            Reason::Memory => PassEnd::Failed(pending),
+            Reason::Stale => PassEnd::Again(pending),
+            Reason::Taken(address, mode) => PassEnd::Taken(pending, address, mode),
         },
         None => unreachable!(),
     }
@@ -301,15 +298,15 @@ fn retreat<L: Ledger + Naming, R: Wait, S: Steps<L>, G: Gate>(
 
 /// Lets go all that a call that left still holds, shard by shard. The call, where it is still in progress.
 fn let_go<L: Ledger + Naming, R: Wait, S: Steps<L>, G: Gate>(
-    means: &Means<R, S, G>,
+    driver: &CallDriver<R, S, G>,
     release: Release,
 ) -> Option<Pending>
     ensures { LeadsOut release.after result }
 {
     let mut release = release;
-    'shards: for _ in means.rt.forever() {
-        means.gate.before(Step::Release);
-        match means.steps.release(means.rt, release) {
+    'shards: for _ in driver.rt.forever() {
+        driver.gate.before(Step::Release);
+        match driver.steps.release(driver.rt, release) {
             Next::More(left) => release = left,
             Next::Aborted(pending) => return Some(pending),
             Next::Ended => return None,
@@ -320,11 +317,11 @@ fn let_go<L: Ledger + Naming, R: Wait, S: Steps<L>, G: Gate>(
 
 /// Makes the steps of a call that has read nothing, on its course, until it is done.
 fn run<L: Ledger + Naming, R: Wait, S: Steps<L>, G: Gate>(
-    means: &Means<R, S, G>,
+    driver: &CallDriver<R, S, G>,
     first: bool,
     txn: &mut NotedTxn<L>,
 ) -> Result<Change, Reason>
-    requires shard { means.now.shard < SHARDS }
+    requires shard { driver.now.shard < SHARDS }
     requires unread { IsUnread txn.old }
     ensures call { Reads txn.old txn.new }
     ensures course { (course : Course) × IsAt course txn.new }
@@ -335,10 +332,10 @@ fn run<L: Ledger + Naming, R: Wait, S: Steps<L>, G: Gate>(
     'steps: loop {
         // Each step adds to the view, which is shorter than 2^64: so they come to an end.
         let known = txn.txn().view().len();
-        match next_step(means.alloc, txn.txn(), course) {
-            Some(step) => course = make(means, first && known == 0, txn, step)?,
-            None => match consider(means.alloc, txn.txn()) {
-                Considered::Reads(step) => course = make(means, first && known == 0, txn, step)?,
+        match next_step(driver.alloc, txn.txn(), course) {
+            Some(step) => course = make(driver, first && known == 0, txn, step)?,
+            None => match consider(driver.alloc, txn.txn()) {
+                Considered::Reads(step) => course = make(driver, first && known == 0, txn, step)?,
                 Considered::Done(change) => return Ok(change),
                 Considered::Fails => return Err(Reason::Memory),
             },
@@ -348,12 +345,12 @@ fn run<L: Ledger + Naming, R: Wait, S: Steps<L>, G: Gate>(
 
 /// Makes this step of a call, which is there then. An error leaves the call as it was.
 fn make<L: Ledger + Naming, R: Wait, S: Steps<L>, G: Gate>(
-    means: &Means<R, S, G>,
+    driver: &CallDriver<R, S, G>,
     holds_nothing: bool,
     txn: &mut NotedTxn<L>,
     step: NextStep,
 ) -> Result<Course, Reason>
-    requires shard { means.now.shard < SHARDS }
+    requires shard { driver.now.shard < SHARDS }
     requires next { IsNextStep txn.old step }
     ensures reads { Reads txn.old txn.new }
     ensures made { IfOk result (IsMade txn.old txn.new) }
@@ -361,12 +358,12 @@ fn make<L: Ledger + Naming, R: Wait, S: Steps<L>, G: Gate>(
 {
     match step {
         NextStep::Acquire(address, mode, after) => {
-            give_way(means, holds_nothing, address, mode, &after);
-            acquire(means, txn, address, mode)?;
+            give_way(driver, holds_nothing, address, mode, &after);
+            acquire(driver, txn, address, mode)?;
             Ok(after)
         }
         NextStep::Reserve(after) => {
-            reserve(means, txn)?;
+            reserve(driver, txn)?;
             Ok(after)
         }
     }
@@ -375,7 +372,7 @@ fn make<L: Ledger + Naming, R: Wait, S: Steps<L>, G: Gate>(
 /// Where a call holds nothing yet it gives way to those who wait alone for what it wants to share: this address, and
 /// the one that is foreseen.
 fn give_way<L: Ledger + Naming, R: Wait, S: Steps<L>, G: Gate>(
-    means: &Means<R, S, G>,
+    driver: &CallDriver<R, S, G>,
     holds_nothing: bool,
     address: Addr,
     mode: Mode,
@@ -385,16 +382,16 @@ fn give_way<L: Ledger + Naming, R: Wait, S: Steps<L>, G: Gate>(
         return;
     }
     if mode == Mode::Shared {
-        means.steps.give_way(means.rt, address);
+        driver.steps.give_way(driver.rt, address);
     }
-    if let Course::Foreseen(next, Mode::Shared) = after {
-        means.steps.give_way(means.rt, *next);
+    if let Course::FirstHandle(next, Mode::Shared) = after {
+        driver.steps.give_way(driver.rt, *next);
     }
 }
 
 /// Takes an address, with whatever stands there. An error leaves the call as it was.
 fn acquire<L: Ledger + Naming, R: Wait, S: Steps<L>, G: Gate>(
-    means: &Means<R, S, G>,
+    driver: &CallDriver<R, S, G>,
     txn: &mut NotedTxn<L>,
     address: Addr,
     mode: Mode,
@@ -404,10 +401,10 @@ fn acquire<L: Ledger + Naming, R: Wait, S: Steps<L>, G: Gate>(
         HasTaken txn.old txn.new (record { address = address; mode = mode; object = o })) }
     ensures kept { OnErr result (txn.new ≡ txn.old) }
 {
-    means.gate.before(Step::Acquire);
-    match means
+    driver.gate.before(Step::Acquire);
+    match driver
         .steps
-        .acquire(means.rt, means.alloc, means.gate, txn, address, mode)
+        .acquire(driver.rt, driver.alloc, driver.gate, txn, address, mode)
     {
         Ok(Got::Yes) => Ok(()),
         Ok(Got::Taken(_)) => Err(Reason::Taken(address, mode)),
@@ -417,15 +414,15 @@ fn acquire<L: Ledger + Naming, R: Wait, S: Steps<L>, G: Gate>(
 
 /// Gets a new number. An error leaves the call as it was.
 fn reserve<L: Ledger + Naming, R: Wait, S: Steps<L>, G: Gate>(
-    means: &Means<R, S, G>,
+    driver: &CallDriver<R, S, G>,
     txn: &mut NotedTxn<L>,
 ) -> Result<(), Reason>
-    requires { means.now.shard < SHARDS }
+    requires { driver.now.shard < SHARDS }
     ensures reserved { OnOk result ((r : Reserved) × (txn.new ≡ record txn.old { view = with_number txn.old.view r })) }
     ensures kept { OnErr result (txn.new ≡ txn.old) }
 {
-    means.gate.before(Step::Reserve);
-    match means.steps.reserve(means.rt, txn, means.shard) {
+    driver.gate.before(Step::Reserve);
+    match driver.steps.reserve(driver.rt, txn, driver.shard) {
         Ok(true) => Ok(()),
         Ok(false) => Err(Reason::Stale),
         Err(_) => Err(Reason::Memory),

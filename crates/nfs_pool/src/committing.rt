@@ -12,7 +12,7 @@ ghost use Rattle.nfs_engine.specs.declared.release.Then.TheVariants as then;
 ghost use Rattle.nfs_stamps.specs.Marking.{AreNotes};
 ghost use Rattle.nfs_pool.specs.Steps.{IsMadeAbove, LetGoFrom, addresses};
 
-use crate::locking::take;
+use crate::locking::lock_spinning;
 use crate::pool::Pool;
 use crate::sent::{Reason, Uncommitted};
 use nfs_engine::{Committed, Finished, SHARDS, Shard, shard_index};
@@ -56,11 +56,11 @@ impl<L: Ledger + Naming> Pool<L> {
     {
         let index = next_written(written, index);
         if index == SHARDS {
-            let mut guard = take(rt, &self.desk);
+            let mut guard = lock_spinning(rt, &self.desk);
             let desk = &mut *guard;
             return desk.commit(alloc, mine, last, finished, notes, stamp);
         }
-        let mut guard = take(rt, &self.places[index].placed);
+        let mut guard = lock_spinning(rt, &self.places[index].placed);
         let placed = &mut *guard;
         if !may_settle(&finished, &placed.shard, index) {
             return Err(Uncommitted {

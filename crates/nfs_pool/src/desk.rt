@@ -165,7 +165,7 @@ impl<L: Ledger + Naming> Desk<L> {
         ensures same { OnErr result (self.new.book ≡ self.old.book) }
     {
         // It brings that the call is what its record asks.
-        finished.is_finished();
+        finished.show_finished();
         let Some(number) = self.book.next_number() else {
             return Err(handed_back(finished, Reason::Memory));
         };
@@ -256,7 +256,7 @@ impl<L: Ledger + Naming> Desk<L> {
         ensures leaves { (receipts : ℕ) → Counts receipts all.old.amount →
             LeavesEra self.old.book self.new.book receipts result }
     {
-        self.book.run();
+        self.book.show_run();
         // It brings that there are fewer records than 2^64.
         self.book.before();
         let count = self.book.executed().len() as u64;

@@ -145,7 +145,7 @@ fn close_era<L: Ledger + Naming>(
     ensures same { OnErr result (desk.new.book ≡ desk.old.book) }
 {
     // It brings that the records are a run.
-    desk.book.run();
+    desk.book.show_run();
     let Ok(tells) = told_in_order(alloc, &seats) else {
         return Err((FinishError::Memory, seats));
     };

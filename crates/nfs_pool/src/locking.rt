@@ -1,6 +1,6 @@
-//! Locks that are waited for awake, and the places of the shards.
+//! Locks that are waited for awake, and shards under theirs.
 
-use crate::placed::Placed;
+use crate::marked_shard::MarkedShard;
 use crate::waiting::Awaited;
 use nfs_objects::{Addr, Mode};
 use nfs_stamps::Naming;
@@ -16,8 +16,8 @@ const LINE: usize = 16;
 
 /// A shard under its lock.
 #[derive(Drop)]
-pub(crate) struct Place<L: Naming> {
-    pub(crate) placed: Mutex<Placed<L>>,
+pub(crate) struct LockedShard<L: Naming> {
+    pub(crate) placed: Mutex<MarkedShard<L>>,
     /// Notified when a call lets go in the shard.
     pub(crate) released: Condvar,
     /// It keeps what calls only read off the lines that each hold writes.
@@ -28,10 +28,10 @@ pub(crate) struct Place<L: Naming> {
     _apart: [u64; LINE],
 }
 
-impl<L: Naming> Place<L> {
+impl<L: Naming> LockedShard<L> {
     /// A shard that nobody has locked.
-    pub(crate) fn new(placed: Placed<L>) -> Place<L> {
-        Place {
+    pub(crate) fn new(placed: MarkedShard<L>) -> LockedShard<L> {
+        LockedShard {
             placed: Mutex::new(placed),
             released: Condvar::new(),
             _between: [0; LINE],
@@ -41,7 +41,7 @@ impl<L: Naming> Place<L> {
     }
 
     /// Whether somebody holds an address of this shard in a mode that excludes this one. Who wants it alone is told.
-    pub(crate) fn is_taken(&self, placed: &Placed<L>, address: Addr, mode: Mode) -> bool {
+    pub(crate) fn is_taken(&self, placed: &MarkedShard<L>, address: Addr, mode: Mode) -> bool {
         let taken = placed.shard.excluder(address, mode).is_some();
         if taken && mode == Mode::Exclusive {
             self.awaited.note(address);
@@ -51,7 +51,7 @@ impl<L: Naming> Place<L> {
 }
 
 /// Takes a lock. It is looked at for a while before the thread sleeps.
-pub(crate) fn take<'a, R: Wait, T>(rt: &R, mutex: &'a Mutex<T>) -> MutexGuard<'a, T> {
+pub(crate) fn lock_spinning<'a, R: Wait, T>(rt: &R, mutex: &'a Mutex<T>) -> MutexGuard<'a, T> {
     for _look in 0..LOOKS {
         if let Some(guard) = mutex.try_lock() {
             return guard;

@@ -8,7 +8,7 @@ ghost use Rattle.nfs_engine.specs.Calls.{finished_of};
 ghost use Rattle.nfs_stamps.specs.Marking.{AreNotes};
 ghost use Rattle.nfs_pool.specs.Steps.{TakesAny};
 
-use crate::placed::Placed;
+use crate::marked_shard::MarkedShard;
 use nfs_engine::{Finished, Got, ReserveError, Txn};
 use nfs_objects::{Addr, Change, Mode, Write};
 use nfs_stamps::{Naming, Notes};
@@ -75,7 +75,7 @@ impl<L: Naming> NotedTxn<L> {
     pub(crate) fn acquire_in(
         &mut self,
         alloc: Global,
-        placed: &mut Placed<L>,
+        placed: &mut MarkedShard<L>,
         address: Addr,
         mode: Mode,
     ) -> Result<Got, AllocError>
@@ -98,7 +98,7 @@ impl<L: Naming> NotedTxn<L> {
     /// # Errors
     ///
     /// There is no memory, or no generation. The call is as it was.
-    pub(crate) fn reserve_in(&mut self, placed: &mut Placed<L>) -> Result<bool, ReserveError>
+    pub(crate) fn reserve_in(&mut self, placed: &mut MarkedShard<L>) -> Result<bool, ReserveError>
         ensures { GetsNumber self.old self.new result }
     {
         let place = self.txn.view().len();

@@ -8,8 +8,8 @@ ghost use Rattle.nfs_engine.specs.Engine.{shard_among};
 ghost use Rattle.nfs_stamps.specs.Marking.{AreMarks, Puts};
 ghost use Rattle.nfs_pool.specs.Marked.{AreMarksIn, IsSameIn, OpensMarked};
 
-use crate::locking::Place;
-use crate::placed::Placed;
+use crate::locking::LockedShard;
+use crate::marked_shard::MarkedShard;
 use nfs_engine::{Book, SHARDS, Shard};
 use nfs_objects::{Addr, Write};
 use nfs_stamps::{Log, Marks, Naming, Stamp, is_large};
@@ -85,12 +85,12 @@ pub(crate) fn lock_all<L: Naming>(
     placing: Placing,
     shards: [Shard; SHARDS],
     first: Marks<L>,
-) -> [Place<L>; SHARDS]
+) -> [LockedShard<L>; SHARDS]
     requires { AreMarksIn first (shard_among shards 0) }
 {
     let [a, b, c, d, e, f, g, h, i, j, k, l, m, n, o, p] = shards;
     [
-        Place::new(Placed::new(a, first)),
+        LockedShard::new(MarkedShard::new(a, first)),
         unmarked(alloc, placing, b),
         unmarked(alloc, placing, c),
         unmarked(alloc, placing, d),
@@ -110,6 +110,6 @@ pub(crate) fn lock_all<L: Naming>(
 }
 
 /// A shard without marks under a lock of its own.
-fn unmarked<L: Naming>(alloc: Global, placing: Placing, shard: Shard) -> Place<L> {
-    Place::new(Placed::new(shard, Marks::new(alloc, placing)))
+fn unmarked<L: Naming>(alloc: Global, placing: Placing, shard: Shard) -> LockedShard<L> {
+    LockedShard::new(MarkedShard::new(shard, Marks::new(alloc, placing)))
 }

@@ -9,7 +9,7 @@ use crate::committing::written_shards;
 use crate::counting::Count;
 use crate::desk::Desk;
 use crate::gate::Gate;
-use crate::locking::{Place, take};
+use crate::locking::{LockedShard, lock_spinning};
 use crate::noted::NotedTxn;
 use crate::opening::{lock_all, mark_opening, stamp_for};
 use crate::seat::{Seat, new_seats};
@@ -30,7 +30,7 @@ use std::sync::{Mutex, Wait};
 #[derive(Drop)]
 pub struct Pool<L: Ledger + Naming> {
     pub(crate) desk: Mutex<Desk<L>>,
-    pub(crate) places: [Place<L>; SHARDS],
+    pub(crate) places: [LockedShard<L>; SHARDS],
     pub(crate) count: Count<L>,
     /// The stamps of commits.
     pub(crate) log: Log<L>,
@@ -66,7 +66,7 @@ impl<L: Ledger + Naming> Pool<L> {
         let nothing = all.empty();
         let log = opened.named::<L>();
         // It brings that the shards together are the book's store.
-        engine.tie();
+        engine.show_tie();
         let (book, shards) = engine.into_parts();
         let (marks, first) = mark_opening(alloc, &log, &book, &shards[0]);
         let (key, placing) = (book.record_key(), book.placing());
@@ -101,20 +101,20 @@ impl<L: Ledger + Naming> Pool<L> {
 
     /// How many large objects commits have compared by value so far, since they were not known by their stamps.
     pub fn compared<R: Wait>(&self, rt: &R) -> u64 {
-        let guard = take(rt, &self.desk);
+        let guard = lock_spinning(rt, &self.desk);
         guard.compared()
     }
 
     /// At how many addresses something stands: those of the store that the book had while this held its lock. It takes
     /// no memory.
     pub fn objects<R: Wait>(&self, rt: &R) -> u64 {
-        let guard = take(rt, &self.desk);
+        let guard = lock_spinning(rt, &self.desk);
         guard.objects()
     }
 
     /// Takes the oldest message that was not yet taken. It takes no memory.
     pub fn message<R: Wait>(&self, rt: &R) -> Option<Posted> {
-        let mut guard = take(rt, &self.desk);
+        let mut guard = lock_spinning(rt, &self.desk);
         let desk = &mut *guard;
         desk.take_message()
     }
@@ -129,13 +129,13 @@ impl<L: Ledger + Naming> Steps<L> for Pool<L> {
     ) -> Result<Admission, Unadmitted> {
         match arrival.prepare(alloc, self.key) {
             Ok(Prepared::Call(candidate)) => {
-                let mut guard = take(rt, &self.desk);
+                let mut guard = lock_spinning(rt, &self.desk);
                 let desk = &mut *guard;
                 desk.admit_call(alloc, candidate)
             }
             Ok(Prepared::Early(faulted)) => Ok(Admission::Early(faulted)),
             Err(arrival) => {
-                let mut guard = take(rt, &self.desk);
+                let mut guard = lock_spinning(rt, &self.desk);
                 let desk = &mut *guard;
                 desk.admit(alloc, arrival)
             }
@@ -153,14 +153,14 @@ impl<L: Ledger + Naming> Steps<L> for Pool<L> {
     ) -> Result<Got, AllocError> {
         txn.make_room();
         let index = shard_index(address);
-        let mut guard = take(rt, &self.places[index].placed);
+        let mut guard = lock_spinning(rt, &self.places[index].placed);
         gate.inside(index);
         txn.acquire_in(alloc, &mut *guard, address, mode)
     }
 
     fn wait_for<R: Wait>(&self, rt: &R, address: Addr, mode: Mode) {
         let place = &self.places[shard_index(address)];
-        let guard = take(rt, &place.placed);
+        let guard = lock_spinning(rt, &place.placed);
         let free = place
             .released
             .wait_while(rt, guard, |placed| place.is_taken(placed, address, mode));
@@ -184,7 +184,7 @@ impl<L: Ledger + Naming> Steps<L> for Pool<L> {
         shard: usize,
     ) -> Result<bool, ReserveError> {
         txn.make_room();
-        let mut guard = take(rt, &self.places[shard].placed);
+        let mut guard = lock_spinning(rt, &self.places[shard].placed);
         txn.reserve_in(&mut *guard)
     }
 
@@ -230,7 +230,7 @@ impl<L: Ledger + Naming> Steps<L> for Pool<L> {
             return release.next();
         };
         let left = {
-            let mut guard = take(rt, &self.places[index].placed);
+            let mut guard = lock_spinning(rt, &self.places[index].placed);
             let placed = &mut *guard;
             placed.let_go(release)
         };
@@ -240,7 +240,7 @@ impl<L: Ledger + Naming> Steps<L> for Pool<L> {
     }
 
     fn give_up<R: Wait>(&self, rt: &R, pending: Pending) -> Refused {
-        let mut guard = take(rt, &self.desk);
+        let mut guard = lock_spinning(rt, &self.desk);
         let desk = &mut *guard;
         desk.give_up(pending)
     }

@@ -2,7 +2,7 @@
 
 use nfs_engine::{Arrival, Faulted, Finished, Incoming, Kept};
 use nfs_objects::{Addr, Mode};
-use nfs_schedule::Declined;
+use nfs_schedule::RefusalReply;
 
 /// How what came in was answered.
 #[derive(Drop)]
@@ -12,7 +12,7 @@ pub enum Sent {
     /// It came before, and gets the reply that is kept; its call is not executed again.
     Repeated(Kept),
     /// Its call was refused, for want of memory or of a number, and changed nothing.
-    Refused(Declined),
+    Refused(RefusalReply),
     /// It has a fault.
     Early(Faulted),
     /// It has no reply: a call that came with the same is in progress.

@@ -7,7 +7,7 @@ ghost use Rattle.nfs_engine.specs.Sweeps.{swept_at};
 ghost use Rattle.nfs_stamps.specs.Marking.{AreMarks};
 
 use crate::desk::Desk;
-use crate::locking::{Place, take};
+use crate::locking::{LockedShard, lock_spinning};
 use crate::pool::Pool;
 use nfs_engine::{SHARDS, SWEPT, Sweep, shard_index};
 use nfs_objects::{Addr, MAP_BLOCKS, Object};
@@ -27,7 +27,7 @@ const PAGES: usize = 64;
 const LOOKS: usize = 4096;
 
 /// What looking at a file comes to.
-enum Looked {
+enum SweepLook {
     /// A page of it was swept.
     Swept,
     /// Nothing of it is to be swept.
@@ -54,16 +54,16 @@ impl<L: Ledger + Naming> Pool<L> {
                 return;
             }
             match sweep_next(alloc, desk, places, gone) {
-                Looked::Swept => pages = pages.saturating_add(1),
-                Looked::Passed => {}
-                Looked::Ended => return,
+                SweepLook::Swept => pages = pages.saturating_add(1),
+                SweepLook::Passed => {}
+                SweepLook::Ended => return,
             }
         }
     }
 
     /// Whether something of dead files may be left to be swept.
     pub fn has_dead<R: Wait>(&self, rt: &R) -> bool {
-        let guard = take(rt, &self.desk);
+        let guard = lock_spinning(rt, &self.desk);
         guard.has_dead()
     }
 }
@@ -72,27 +72,27 @@ impl<L: Ledger + Naming> Pool<L> {
 fn sweep_next<L: Ledger + Naming>(
     alloc: Global,
     desk: &mut Desk<L>,
-    places: &mut [Place<L>; SHARDS],
+    places: &mut [LockedShard<L>; SHARDS],
     gone: &mut Vec<Arc<Object>>,
-) -> Looked {
+) -> SweepLook {
     let Some(number) = desk.next_dead() else {
-        return Looked::Ended;
+        return SweepLook::Ended;
     };
     match desk.sweep_of(alloc, number) {
         Ok(Some(sweep)) => {
             let index = shard_index(Addr::Inode(number));
             let placed = places[index].placed.get_mut();
             if !placed.sweep(&sweep, gone) {
-                return Looked::Ended;
+                return SweepLook::Ended;
             }
             desk.sweep(sweep);
-            Looked::Swept
+            SweepLook::Swept
         }
         Ok(None) => {
             desk.go_on();
-            Looked::Passed
+            SweepLook::Passed
         }
-        Err(_) => Looked::Ended,
+        Err(_) => SweepLook::Ended,
     }
 }
 

@@ -10,7 +10,7 @@ use Rattle.nfs_replies.specs.Keys.{digest}
 use Rattle.nfs_replies.specs.Origins.{Adds, Removes, is_among, same_origin}
 use Rattle.nfs_replies.specs.declared.digest.RecordKey.{RecordKey}
 use Rattle.nfs_replies.specs.declared.key.Keyed.{Keyed}
-use Rattle.nfs_replies.specs.declared.origins.Entry.{Entry}
+use Rattle.nfs_replies.specs.declared.origins.OriginEntry.{OriginEntry}
 use Rattle.nfs_replies.specs.declared.origins.Origin.{Origin}
 use Rattle.nfs_replies.proofs.KeyedLemmas.{same_key-bytes}
 
@@ -21,7 +21,7 @@ or_true : (x y : Bool) → y ≡ true → (x || y) ≡ true
 or_true true y is = refl
 or_true false y is = is
 
-same_itself : (e : Entry) → same_entry e e ≡ true
+same_itself : (e : OriginEntry) → same_entry e e ≡ true
 same_itself e = both (same_bytes e.host e.host) (same_key e.sent e.sent) ((bytes_decides e.host e.host).1 refl)
     (both (nat_eq e.sent.hash e.sent.hash) (same_bytes e.sent.bytes e.sent.bytes)
     (eq-eqb e.sent.hash e.sent.hash refl) ((bytes_decides e.sent.bytes e.sent.bytes).1 refl))
@@ -30,12 +30,12 @@ pub none-hashed : (key : RecordKey) → AreHashed key []
 none-hashed key e among = cc
 
 -- what a call came with, as it is in a table with this key
-abbrev pub entry_of : RecordKey → Origin → Entry
+abbrev pub entry_of : RecordKey → Origin → OriginEntry
 entry_of key origin = record { host = origin.host; sent = keyed key origin.bytes }
 
 module _ (key : RecordKey) where
   -- a table finds it where it is among those that are there
-  pub among : (o : Origin) (es : List Entry) → AreHashed key es →
+  pub among : (o : Origin) (es : List OriginEntry) → AreHashed key es →
       list_any (same_entry (entry_of key o)) es ≡ is_among (origins_of es) o
   among o [] h = refl
   among o (e ∷ es) h =
@@ -48,7 +48,7 @@ module _ (key : RecordKey) where
   -- so what is looked up with its hash under the key is found
   module _ (host bytes : List ℕ) (hash : ℕ) (text : List ℕ) (same : text ≡ bytes)
       (hashed : hash ≡ digest key bytes) where
-    abbrev came : Entry → Bool
+    abbrev came : OriginEntry → Bool
     came e = same_bytes host e.host && (nat_eq hash e.sent.hash && same_bytes text e.sent.bytes)
 
     pub came_as : came ≡ same_entry (entry_of key (record { host = host; bytes = bytes }))
@@ -57,7 +57,7 @@ module _ (key : RecordKey) where
         ∙ ap (λ t e. same_bytes host e.host && (nat_eq (digest key bytes) e.sent.hash && same_bytes t
         e.sent.bytes)) same
 
-    pub came-among : (es : List Entry) → AreHashed key es →
+    pub came-among : (es : List OriginEntry) → AreHashed key es →
         list_any came es ≡ is_among (origins_of es) (record { host = host; bytes = bytes })
     came-among es h = ap (λ test. list_any test es) came_as ∙ among (record { host = host; bytes = bytes }) es h
 
@@ -66,9 +66,9 @@ module _ (key : RecordKey) where
   same-entries o p = ap (λ b. same_bytes o.host p.host && b)
       (same_key-bytes key (keyed key o.bytes) (keyed key p.bytes) refl refl)
 
-  module _ (o : Origin) (old new : List Entry) (was : AreHashed key old) where
+  module _ (o : Origin) (old new : List OriginEntry) (was : AreHashed key old) where
     -- one is added
-    module _ (updates : (q : Entry) → list_any (same_entry q) new ≡
+    module _ (updates : (q : OriginEntry) → list_any (same_entry q) new ≡
         cond (same_entry (entry_of key o) q) true (list_any (same_entry q) old)) where
       pub added-hashed : AreHashed key new
       added-hashed q is = by (same_entry (entry_of key o) q) refl
@@ -93,7 +93,7 @@ module _ (key : RecordKey) where
           or_cond false b = refl
 
     -- one is taken out
-    module _ (updates : (q : Entry) → list_any (same_entry q) new ≡
+    module _ (updates : (q : OriginEntry) → list_any (same_entry q) new ≡
         cond (same_entry (entry_of key o) q) false (list_any (same_entry q) old)) where
       pub removed-hashed : AreHashed key new
       removed-hashed q is = by (same_entry (entry_of key o) q) refl
@@ -114,16 +114,16 @@ module _ (key : RecordKey) where
           and_cond false b = refl
 
 -- the same, of an entry whose parts are told
-module _ (key : RecordKey) (o : Origin) (sent : Keyed) (old new : List Entry) (was : AreHashed key old)
+module _ (key : RecordKey) (o : Origin) (sent : Keyed) (old new : List OriginEntry) (was : AreHashed key old)
     (bytes : sent.bytes ≡ o.bytes) (hashed : sent.hash ≡ digest key o.bytes)
-    (updates : (q : Entry) → list_any (same_entry q) new ≡
+    (updates : (q : OriginEntry) → list_any (same_entry q) new ≡
     cond (same_entry (record { host = o.host; sent = sent }) q) true (list_any (same_entry q) old)) where
   is-entry : record { host = o.host; sent = sent } ≡ entry_of key o
   is-entry = λ i. record { host = o.host; sent = record { hash = hashed i; bytes = bytes i } }
 
-  so : (q : Entry) → list_any (same_entry q) new ≡
+  so : (q : OriginEntry) → list_any (same_entry q) new ≡
       cond (same_entry (entry_of key o) q) true (list_any (same_entry q) old)
-  so q = updates q ∙ ap (λ (e : Entry). cond (same_entry e q) true (list_any (same_entry q) old)) is-entry
+  so q = updates q ∙ ap (λ (e : OriginEntry). cond (same_entry e q) true (list_any (same_entry q) old)) is-entry
 
   pub added_entries : AreHashed key new
   added_entries = added-hashed key o old new was so
@@ -132,11 +132,11 @@ module _ (key : RecordKey) (o : Origin) (sent : Keyed) (old new : List Entry) (w
   added_so = adds key o old new was so
 
 module _ (key : RecordKey) (o : Origin) (hash : ℕ) (text : List ℕ) (same : text ≡ o.bytes)
-    (hashed : hash ≡ digest key o.bytes) (old new : List Entry) (was : AreHashed key old)
-    (updates : (q : Entry) → list_any (same_entry q) new ≡
+    (hashed : hash ≡ digest key o.bytes) (old new : List OriginEntry) (was : AreHashed key old)
+    (updates : (q : OriginEntry) → list_any (same_entry q) new ≡
     cond (same_bytes o.host q.host && (nat_eq hash q.sent.hash && same_bytes text q.sent.bytes)) false
     (list_any (same_entry q) old)) where
-  without : (q : Entry) → list_any (same_entry q) new ≡
+  without : (q : OriginEntry) → list_any (same_entry q) new ≡
       cond (same_entry (entry_of key o) q) false (list_any (same_entry q) old)
   without q = updates q
       ∙ ap (λ test. cond (test q) false (list_any (same_entry q) old)) (came_as key o.host o.bytes hash text same

@@ -5,7 +5,7 @@ use Rattle.nfs_replies.specs.Keys.{digest}
 use Rattle.nfs_replies.specs.Kept.{same_bytes}
 use Rattle.nfs_replies.specs.declared.digest.RecordKey.{RecordKey}
 use Rattle.nfs_replies.specs.declared.key.Keyed.{Keyed}
-use Rattle.nfs_replies.specs.declared.origins.Entry.{Entry}
+use Rattle.nfs_replies.specs.declared.origins.OriginEntry.{OriginEntry}
 use Rattle.nfs_replies.specs.declared.origins.Origin.{Origin}
 
 -- a record as it is in a table with this key
@@ -21,16 +21,16 @@ abbrev pub IsHashed : RecordKey → Keyed → Type 0
 IsHashed key k = k.hash ≡ digest key k.bytes
 
 -- what calls came with
-abbrev pub origin_in_entry : Entry → Origin
+abbrev pub origin_in_entry : OriginEntry → Origin
 origin_in_entry entry = record { host = entry.host; bytes = entry.sent.bytes }
 
-abbrev pub origins_of : List Entry → List Origin
+abbrev pub origins_of : List OriginEntry → List Origin
 origins_of entries = map origin_in_entry entries
 
 -- two came with the same, for a table
-abbrev pub same_entry : Entry → Entry → Bool
+abbrev pub same_entry : OriginEntry → OriginEntry → Bool
 same_entry a b = same_bytes a.host b.host && same_key a.sent b.sent
 
 -- the records of all are hashed under this key
-abbrev pub AreHashed : RecordKey → List Entry → Type 0
-AreHashed key entries = (e : Entry) → list_any (same_entry e) entries ≡ true → IsHashed key e.sent
+abbrev pub AreHashed : RecordKey → List OriginEntry → Type 0
+AreHashed key entries = (e : OriginEntry) → list_any (same_entry e) entries ≡ true → IsHashed key e.sent

@@ -66,10 +66,10 @@ impl Hashed {
     }
 
     /// The same, to be looked up.
-    pub fn sought(&self) -> Sought<'_>
+    pub fn sought(&self) -> HashedRef<'_>
         ensures { result.bytes.now ≡ self.now }
     {
-        Sought {
+        HashedRef {
             bytes: &self.bytes,
             key: self.key,
             hash: self.hash,
@@ -105,20 +105,20 @@ impl Eq for Hashed {
 
 /// A record to look up, with the hash of its bytes.
 #[derive(Clone, Copy)]
-pub struct Sought<'a> {
+pub struct HashedRef<'a> {
     bytes: &'a Bytes,
     key: RecordKey,
     hash: u64,
     ghost hashed: { hash ≡ digest key bytes.now },
 }
 
-impl<'a> Sought<'a> {
+impl<'a> HashedRef<'a> {
     /// These bytes, hashed under this key. All of them are read.
-    pub fn new(key: RecordKey, bytes: &'a Bytes) -> Sought<'a>
+    pub fn new(key: RecordKey, bytes: &'a Bytes) -> HashedRef<'a>
         ensures { result.bytes.now ≡ bytes.now }
     {
         let hash = digest(key, bytes.as_slice());
-        Sought { bytes, key, hash }
+        HashedRef { bytes, key, hash }
     }
 
     /// The same in a table that has this key. The bytes are read again where it was hashed under another.

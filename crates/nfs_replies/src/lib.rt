@@ -18,12 +18,12 @@ mod capacity;
 mod digest;
 mod key;
 pub mod laws;
-pub mod origins;
+mod origins;
 mod replies;
 pub mod worked;
 
 pub use capacity::Capacity;
 pub use digest::RecordKey;
-pub use key::{Hashed, Sought};
+pub use key::{Hashed, HashedRef};
 pub use origins::{Origin, Origins};
 pub use replies::Replies;

@@ -10,7 +10,7 @@ ghost use Rattle.nfs_replies.specs.Kept.{same_bytes};
 ghost use Rattle.nfs_replies.specs.Origins.{Adds, Removes, is_among};
 
 use crate::digest::RecordKey;
-use crate::key::{Hashed, Keyed, Probe, Sought};
+use crate::key::{Hashed, HashedRef, Keyed, Probe};
 use bytes::Bytes;
 use indexmap::{Equivalent, IndexSet};
 use std::alloc::{AllocError, Global};
@@ -42,12 +42,12 @@ impl Origin {
 
 /// What a call came with, in a table: the record has its hash under the table's key.
 #[derive(Drop, PartialEq, Eq)]
-struct Entry {
+struct OriginEntry {
     host: Bytes,
     sent: Keyed,
 }
 
-impl Hash for Entry {
+impl Hash for OriginEntry {
     ghost hash_input = { λ entry. entry.host ∷ digest_input entry.sent.hash };
 
     ghost respects_eq = { λ x y same i.
@@ -61,14 +61,14 @@ impl Hash for Entry {
     }
 }
 
-/// What is looked up: a host, and a record. It is hashed and compared as an `Entry` is.
+/// What is looked up: a host, and a record. It is hashed and compared as an `OriginEntry` is.
 #[derive(Clone, Copy, PartialEq, Eq)]
-struct Came<'a> {
+struct OriginProbe<'a> {
     host: &'a Bytes,
     probe: Probe<'a>,
 }
 
-impl<'a> Hash for Came<'a> {
+impl<'a> Hash for OriginProbe<'a> {
     ghost hash_input = { λ came. came.host.now ∷ digest_input came.probe.hash };
 
     ghost respects_eq = { λ x y same i.
@@ -85,7 +85,7 @@ impl<'a> Hash for Came<'a> {
     }
 }
 
-impl<'a> Equivalent<Entry> for Came<'a> {
+impl<'a> Equivalent<OriginEntry> for OriginProbe<'a> {
     ghost equivalent = { λ came entry. same_bytes came.host.now entry.host &&
         (nat_eq came.probe.hash entry.sent.hash && same_bytes came.probe.bytes.now entry.sent.bytes) };
 
@@ -107,7 +107,7 @@ impl<'a> Equivalent<Entry> for Came<'a> {
         (nat_eq_equiv.congr came.probe.hash x.sent.hash y.sent.hash sent.0 i &&
         nat_list_eq_equiv.congr came.probe.bytes.now x.sent.bytes y.sent.bytes sent.1 i) };
 
-    fn equivalent(&self, entry: &Entry) -> bool {
+    fn equivalent(&self, entry: &OriginEntry) -> bool {
         *self.host == entry.host && self.probe.is(&entry.sent)
     }
 }
@@ -117,7 +117,7 @@ impl<'a> Equivalent<Entry> for Came<'a> {
 #[derive(Drop)]
 pub struct Origins {
     key: RecordKey,
-    set: IndexSet<Entry>,
+    set: IndexSet<OriginEntry>,
 }
 
 impl Model for Origins {
@@ -144,11 +144,11 @@ impl Origins {
     }
 
     /// Whether this record from this host is among them.
-    pub fn has(&self, host: &Bytes, sought: Sought<'_>) -> bool
+    pub fn has(&self, host: &Bytes, sought: HashedRef<'_>) -> bool
         ensures { result ≡ is_among self.now (record { host = host.now; bytes = sought.entry.bytes.now }) }
     {
         let probe = sought.probe(self.key);
-        self.set.contains(Came { host, probe })
+        self.set.contains(OriginProbe { host, probe })
     }
 
     /// Adds one.
@@ -162,7 +162,7 @@ impl Origins {
     {
         let Origin { host, bytes } = origin;
         let sent = bytes.keyed(self.key);
-        self.set.insert(Entry { host, sent })?;
+        self.set.insert(OriginEntry { host, sent })?;
         Ok(())
     }
 
@@ -172,7 +172,7 @@ impl Origins {
     {
         let probe = origin.bytes.sought().probe(self.key);
         let host = &origin.host;
-        self.set.swap_remove(Came { host, probe });
+        self.set.swap_remove(OriginProbe { host, probe });
     }
 
     /// Takes out one that is among them. Where there is no other, its bytes are not compared.

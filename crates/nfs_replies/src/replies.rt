@@ -10,7 +10,7 @@ ghost use Rattle.nfs_replies.specs.Replies.{IsAfter, kept_of, list_of};
 
 use crate::capacity::Capacity;
 use crate::digest::RecordKey;
-use crate::key::{Hashed, Keyed, Sought};
+use crate::key::{Hashed, HashedRef, Keyed};
 use bytes::Bytes;
 use lru::LruCache;
 use nfs_tables::{Placing, Table};
@@ -58,7 +58,7 @@ impl Replies {
     /// # Errors
     ///
     /// Only where a reply is kept and can't be shared; nothing changes.
-    pub fn find(&mut self, host: &Bytes, sought: Sought<'_>) -> Result<Option<Bytes>, AllocError>
+    pub fn find(&mut self, host: &Bytes, sought: HashedRef<'_>) -> Result<Option<Bytes>, AllocError>
         ensures found { IfOk result (λ reply. reply ≡ reply_for sought.entry.bytes.now (kept_of self.old host.now)) }
         ensures front { OnOk result (IsAfter (Repeated host.now sought.entry.bytes.now) self.old self.new) }
         ensures absent { reply_for sought.entry.bytes.now (kept_of self.old host.now) ≡ None → self.new ≡ self.old }
@@ -99,7 +99,7 @@ impl Replies {
     }
 
     /// The reply that is kept; the order stays.
-    fn reply(&self, host: &Bytes, sought: Sought<'_>) -> Option<&Bytes>
+    fn reply(&self, host: &Bytes, sought: HashedRef<'_>) -> Option<&Bytes>
         ensures { option_copied result ≡ reply_for sought.entry.bytes.now (kept_of self.now host.now) }
     {
         let list = self.lists.get(host)?;
@@ -107,7 +107,7 @@ impl Replies {
     }
 
     /// What is kept for a record goes to the front of its host's list.
-    fn bring_to_front(&mut self, host: &Bytes, sought: Sought<'_>)
+    fn bring_to_front(&mut self, host: &Bytes, sought: HashedRef<'_>)
         ensures { IsAfter (Repeated host.now sought.entry.bytes.now) self.old self.new }
     {
         let probe = sought.probe(self.key);

@@ -13,8 +13,8 @@ use Rattle.std.specs.Option.{option_to_list}
 use Rattle.nfs_rpc.specs.Held.{IsPlace, LeadToNext, LeadsOn, Adds}
 use Rattle.nfs_rpc.proofs.StreamLemmas.{header_begins_none, held_begins_none, held_not_too_large, not_too_large}
 use Rattle.nfs_rpc.proofs.StreamLemmas.{goes_on, exceeds_on}
-use Rattle.nfs_rpc.specs.declared.marking.Place.{Place}
-use Rattle.nfs_rpc.specs.declared.marking.Place.TheVariants.{Header, Body, Refused}
+use Rattle.nfs_rpc.specs.declared.marking.FragmentState.{FragmentState}
+use Rattle.nfs_rpc.specs.declared.marking.FragmentState.TheVariants.{Header, Body, Refused}
 use Rattle.nfs_rpc.specs.declared.marking.TheConstants.{RECORD_LIMIT}
 
 nothing_missing : (last : Bool) (body : List ℕ) → mark last + (length body + 0) ≡ mark last + length body
@@ -133,7 +133,8 @@ header_takes count number byte content bytes small few h = record {
 }
 
 -- a byte of a header
-pub header_leads : (piece left content : List ℕ) (count number byte : ℕ) (next : Option Place) → piece ≡ byte ∷ left
+pub header_leads : (piece left content : List ℕ) (count number byte : ℕ) (next : Option FragmentState)
+    → piece ≡ byte ∷ left
     → ((bytes : List ℕ) → EndsInHeader count number content bytes → LeadToNext (bytes ++ byte ∷ []) content next)
     → LeadsOn piece left content content (Header count number) next
 header_leads piece left content count number byte next cut leads = record {
@@ -145,7 +146,8 @@ header_leads piece left content count number byte next cut leads = record {
 }
 
 -- bytes of a body
-pub body_leads : (piece taken left content content' : List ℕ) (last : Bool) (missing missing' : ℕ) (next : Option Place)
+pub body_leads : (piece taken left content content' : List ℕ) (last : Bool) (missing missing' : ℕ)
+    (next : Option FragmentState)
     → piece ≡ taken ++ left → content' ≡ content ++ taken → missing ≡ length taken + missing'
     → length content + missing ≤ RECORD_LIMIT
     → ((whole bytes : List ℕ) → EndsInBody last missing' whole bytes → length whole + missing' ≤ RECORD_LIMIT
@@ -171,7 +173,8 @@ refused_leads piece content = record {
 }
 
 -- nothing was taken yet
-pub leads_nowhere : (piece content : List ℕ) (place : Place) → LeadsOn piece piece content content place (Some place)
+pub leads_nowhere : (piece content : List ℕ) (place : FragmentState)
+    → LeadsOn piece piece content content place (Some place)
 leads_nowhere piece content place = record {
   taken = [];
   more = [];
@@ -181,7 +184,8 @@ leads_nowhere piece content place = record {
 }
 
 -- one step after another
-pub leads_further : (piece left left' content content' content'' : List ℕ) (place place' : Place) (next : Option Place)
+pub leads_further : (piece left left' content content' content'' : List ℕ) (place place' : FragmentState)
+    (next : Option FragmentState)
     → LeadsOn piece left content content' place (Some place') → LeadsOn left left' content' content'' place' next
     → LeadsOn piece left' content content'' place next
 leads_further piece left left' content content' content'' place place' next first second = record {
@@ -235,7 +239,7 @@ more_records stream left left' content records before led = record {
 }
 
 -- all that is left leads into the next record
-pub last_records : (stream left content : List ℕ) (place : Place) (records : List (List ℕ))
+pub last_records : (stream left content : List ℕ) (place : FragmentState) (records : List (List ℕ))
     → IsPlace place (length content) → AreRecords stream left records
     → LeadsOn left [] [] content (Header 0 0) (Some place)
     → Holds (record { queued = records; content = content; place = place }) stream []
@@ -251,7 +255,8 @@ last_records stream left content place records sound before led =
     }
 
 -- a piece goes on where the stream stood
-pub holds_on : (queued added given : List (List ℕ)) (content content' stream piece : List ℕ) (place place' : Place)
+pub holds_on : (queued added given : List (List ℕ)) (content content' stream piece : List ℕ)
+    (place place' : FragmentState)
     → Adds piece content content' place place' added
     → Holds (record { queued = queued; content = content; place = place }) stream given
     → Holds (record { queued = queued ++ added; content = content'; place = place' }) (stream ++ piece) given
@@ -265,7 +270,7 @@ holds_on queued added given content content' stream piece place place' adds h =
     }
 
 -- nothing is added while the record goes on
-pub adds_none : (piece content content' : List ℕ) (place place' : Place) → IsPlace place' (length content')
+pub adds_none : (piece content content' : List ℕ) (place place' : FragmentState) → IsPlace place' (length content')
     → LeadsOn piece [] content content' place (Some place') → Adds piece content content' place place' []
 adds_none piece content content' place place' sound led bytes held =
     let held' : LeadTo (bytes ++ piece) content' place' = let P : List ℕ
@@ -274,7 +279,8 @@ adds_none piece content content' place place' sound led bytes held =
     (bytes ++ piece, (refl, held_begins_none place' content' (bytes ++ piece) sound held'), held')
 
 -- a record that is whole, and those behind it
-pub adds_records : (piece left content content' content'' : List ℕ) (place place' : Place) (others : List (List ℕ))
+pub adds_records : (piece left content content' content'' : List ℕ) (place place' : FragmentState)
+    (others : List (List ℕ))
     → LeadsOn piece left content content' place None
     → Holds (record { queued = others; content = content''; place = place' }) left []
     → Adds piece content content'' place place' (content' ∷ others)
@@ -292,7 +298,7 @@ adds_records piece left content content' content'' place place' others led later
 )
 
 -- the next record is given
-pub gives_next : (found : Option (List ℕ)) (queued queued' : List (List ℕ)) (content : List ℕ) (place : Place)
+pub gives_next : (found : Option (List ℕ)) (queued queued' : List (List ℕ)) (content : List ℕ) (place : FragmentState)
     → queued ≡ option_to_list found ++ queued'
     → IfSome found (λ r. (stream : List ℕ) (given : List (List ℕ))
     → Holds (record { queued = queued; content = content; place = place }) stream given
@@ -306,7 +312,7 @@ gives_next (Some r) queued queued' content place is = λ stream given h. record 
 
 -- the same, where the queue is known by an equation
 pub holds_then : (queued queued' added given : List (List ℕ)) (content content' stream piece : List ℕ)
-    (place place' : Place) → queued' ≡ queued ++ added
+    (place place' : FragmentState) → queued' ≡ queued ++ added
     → Adds piece content content' place place' added
     → Holds (record { queued = queued; content = content; place = place }) stream given
     → Holds (record { queued = queued'; content = content'; place = place' }) (stream ++ piece) given
@@ -315,19 +321,19 @@ holds_then queued queued' added given content content' stream piece place place'
     record { rest = new.rest; split = rw is new.split; held = new.held }
 
 -- a value that is not refused holds no header that is too large
-pub not_refused : (queued given : List (List ℕ)) (content stream : List ℕ) (place : Place)
+pub not_refused : (queued given : List (List ℕ)) (content stream : List ℕ) (place : FragmentState)
     → IsPlace place (length content) → place ≢ Refused
     → Holds (record { queued = queued; content = content; place = place }) stream given → IsTooLarge stream → ⊥
 not_refused queued given content stream place sound fine h = not_too_large stream (given ++ queued) h.rest h.split
     (held_not_too_large place content h.rest sound fine h.held)
 
 -- one that is refused holds one
-pub refused : (queued given : List (List ℕ)) (content stream : List ℕ) (place : Place) → place ≡ Refused
+pub refused : (queued given : List (List ℕ)) (content stream : List ℕ) (place : FragmentState) → place ≡ Refused
     → Holds (record { queued = queued; content = content; place = place }) stream given → IsTooLarge stream
 refused queued given content stream place is h = (
   given ++ queued,
   h.rest,
   h.split,
-  let P : Place
+  let P : FragmentState
       → Type 0 = λ p. LeadTo h.rest content p in subst P is h.held,
 )

@@ -7,8 +7,8 @@ use Rattle.std.specs.List.{concat, flat_map}
 use Rattle.nfs_rpc.specs.Records.{mark, fragment, IsMarked, BeginsNone, BeginsTooLarge, IsStream, IsTooLarge}
 use Rattle.nfs_rpc.specs.Records.{EndsInHeader, EndsInBody, LeadTo}
 use Rattle.nfs_rpc.specs.Held.{IsPlace}
-use Rattle.nfs_rpc.specs.declared.marking.Place.{Place}
-use Rattle.nfs_rpc.specs.declared.marking.Place.TheVariants.{Header, Body, Refused}
+use Rattle.nfs_rpc.specs.declared.marking.FragmentState.{FragmentState}
+use Rattle.nfs_rpc.specs.declared.marking.FragmentState.TheVariants.{Header, Body, Refused}
 use Rattle.nfs_rpc.specs.declared.marking.TheConstants.{RECORD_LIMIT}
 use Rattle.nfs_rpc.proofs.FragmentLemmas.{word_front, header_front, fragment_front, Stops, earlier_are_one, mark_small}
 
@@ -159,7 +159,7 @@ body_not_too_large last missing content bytes some within b t =
     omega (arith, ap (λ d. length (concat d)) opened.0)
 
 -- what a value holds begins no record
-pub held_begins_none : (place : Place) (content bytes : List ℕ) → IsPlace place (length content)
+pub held_begins_none : (place : FragmentState) (content bytes : List ℕ) → IsPlace place (length content)
     → LeadTo bytes content place → BeginsNone bytes
 held_begins_none (Header count number) content bytes sound held = header_begins_none count number content bytes sound.0
     sound.2 held
@@ -168,7 +168,8 @@ held_begins_none (Body last missing) content bytes sound held = body_begins_none
 held_begins_none Refused content bytes sound held = too_large_begins_none bytes held
 
 -- and unless it is refused, no header in it is too large
-pub held_not_too_large : (place : Place) (content bytes : List ℕ) → IsPlace place (length content) → place ≢ Refused
+pub held_not_too_large : (place : FragmentState) (content bytes : List ℕ) → IsPlace place (length content)
+    → place ≢ Refused
     → LeadTo bytes content place → BeginsTooLarge bytes → ⊥
 held_not_too_large (Header count number) content bytes sound taken held t = header_not_too_large count number content
     bytes sound.0 sound.2 held t

@@ -10,8 +10,8 @@ use Rattle.nfs_rpc.specs.declared.faults.Fault.{Fault}
 use Rattle.nfs_rpc.specs.declared.faults.Fault.TheVariants.{RpcMismatch, BadCredential, ProgramUnavailable}
 use Rattle.nfs_rpc.specs.declared.faults.Fault.TheVariants.{ProgramMismatch, ProcedureUnavailable, GarbageArguments}
 use Rattle.nfs_rpc.specs.declared.faults.Fault.TheVariants.{SystemError}
-use Rattle.nfs_rpc.specs.declared.faults.Answer.{Answer}
-use Rattle.nfs_rpc.specs.declared.faults.Answer.TheVariants.{Success, Failure}
+use Rattle.nfs_rpc.specs.declared.faults.ReplyHead.{ReplyHead}
+use Rattle.nfs_rpc.specs.declared.faults.ReplyHead.TheVariants.{Success, Failure}
 
 -- opaque_auth: a flavor, and a body of at most 400 bytes (section 8.2)
 abbrev pub Auth : Xdr
@@ -49,7 +49,7 @@ fault_body RpcMismatch = 1 ∷ 0 ∷ 2 ∷ 2 ∷ []
 fault_body BadCredential = 1 ∷ 1 ∷ 1 ∷ []
 
 -- the same of any reply
-abbrev pub reply_body : Answer → List ℕ
+abbrev pub reply_body : ReplyHead → List ℕ
 reply_body Success = 0 ∷ 0 ∷ 0 ∷ 0 ∷ []
 reply_body (Failure fault) = fault_body fault
 
@@ -58,5 +58,5 @@ abbrev pub words : List ℕ → List ℕ
 words numbers = flat_map (to_be_bytes w32) numbers
 
 -- a reply: xid, message type 1, body
-abbrev pub reply_of : ℕ → Answer → List ℕ
+abbrev pub reply_of : ℕ → ReplyHead → List ℕ
 reply_of xid answer = words (xid ∷ 1 ∷ reply_body answer)

@@ -3,8 +3,8 @@ use Rattle.std.specs.Prelude.{◌≡◌, ℕ, ◌+◌, ◌%◌, ◌^◌, ◌<◌
 use Rattle.std.specs.Prelude.{[], ◌∷◌, ◌++◌, length}
 use Rattle.std.specs.Int.{w32, to_be_bytes, bytes_high_first}
 use Rattle.std.specs.List.{concat, flat_map}
-use Rattle.nfs_rpc.specs.declared.marking.Place.{Place}
-use Rattle.nfs_rpc.specs.declared.marking.Place.TheVariants.{Header, Body, Refused}
+use Rattle.nfs_rpc.specs.declared.marking.FragmentState.{FragmentState}
+use Rattle.nfs_rpc.specs.declared.marking.FragmentState.TheVariants.{Header, Body, Refused}
 use Rattle.nfs_rpc.specs.declared.marking.TheConstants.{RECORD_LIMIT}
 
 -- the bit that a fragment's header adds to the length of its body
@@ -55,7 +55,7 @@ IsTooLarge stream =
 pub record RecordsValue : Type 0 where
   pub queued : List (List ℕ)
   pub content : List ℕ
-  pub place : Place
+  pub place : FragmentState
 
 -- the bytes are earlier fragments, and so many bytes of the next one's header
 pub record EndsInHeader (count number : ℕ) (content bytes : List ℕ) : Type 0 where
@@ -72,7 +72,7 @@ pub record EndsInBody (last : Bool) (missing : ℕ) (content bytes : List ℕ) :
       ≡ flat_map (fragment false) earlier ++ (to_be_bytes w32 (mark last + (length body + missing)) ++ body)
 
 -- the bytes, of which nothing but the joined bodies is kept, lead to this place
-abbrev pub LeadTo : List ℕ → List ℕ → Place → Type 0
+abbrev pub LeadTo : List ℕ → List ℕ → FragmentState → Type 0
 LeadTo bytes content (Header count number) = EndsInHeader count number content bytes
 LeadTo bytes content (Body last missing) = EndsInBody last missing content bytes
 LeadTo bytes content Refused = BeginsTooLarge bytes

@@ -21,7 +21,7 @@ pub enum Fault {
 
 /// What a call is answered, before its results.
 #[derive(Clone, Copy, PartialEq, Eq)]
-pub enum Answer {
+pub enum ReplyHead {
     /// SUCCESS: the call was carried out, and its results follow.
     Success,
     /// The call was not carried out.

@@ -17,7 +17,7 @@ pub mod worked;
 
 pub use calls::{RpcCall, read_call};
 pub use credentials::{GIDS_LIMIT, Gids, Ids};
-pub use faults::{Answer, Early, Fault};
+pub use faults::{Early, Fault, ReplyHead};
 pub use marking::{
     RECORD_LIMIT, Record, RecordError, Records, streams_split_once, too_large_stays,
 };

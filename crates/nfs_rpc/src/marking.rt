@@ -33,7 +33,7 @@ pub enum RecordError {
 
 /// Where in a fragment a stream stands.
 #[derive(Clone, Copy)]
-enum Place {
+enum FragmentState {
     /// So many bytes of the header have come, which make this number.
     Header { count: usize, number: u32 },
     /// The header has come: whether the fragment is the record's last, and how many bytes of its body are to come.
@@ -48,7 +48,7 @@ pub struct Records {
     alloc: Global,
     queued: VecDeque<Record>,
     content: Vec<u8>,
-    place: Place,
+    place: FragmentState,
 }
 
 impl Model for Records {
@@ -63,14 +63,14 @@ impl Model for Records {
     ghost invariant = { IsSound };
 }
 
-impl Place {
+impl FragmentState {
     ghost use Rattle.std.specs.Prelude.{Bool, MatchBool, ◌≢◌};
-    ghost use Rattle.nfs_rpc.specs.declared.marking.Place.TheVariants.{Refused};
+    ghost use Rattle.nfs_rpc.specs.declared.marking.FragmentState.TheVariants.{Refused};
     ghost use Rattle.nfs_rpc.specs.Records.{EndsInBody, EndsInHeader};
     ghost use Rattle.nfs_rpc.specs.Held.{LeadToNext, IsNext};
 
     /// The place before a fragment.
-    const START: Place = Place::Header {
+    const START: FragmentState = FragmentState::Header {
         count: 0,
         number: 0,
     };
@@ -78,26 +78,26 @@ impl Place {
     fn is_refused(&self) -> bool
         ensures { MatchBool result (self.now ≡ Refused) (self.now ≢ Refused) }
     {
-        matches!(self, Place::Refused)
+        matches!(self, FragmentState::Refused)
     }
 
     /// The place in a fragment where so many bytes of the body are missing. None where the record is whole.
-    fn in_body(last: bool, missing: usize) -> Option<Place>
+    fn in_body(last: bool, missing: usize) -> Option<FragmentState>
         ensures leads { (content bytes : List ℕ) → EndsInBody last missing content bytes
             → length content + missing ≤ RECORD_LIMIT → LeadToNext bytes content result }
         ensures sound { (size : ℕ) → size + missing ≤ RECORD_LIMIT → IsNext result size }
     {
         if missing > 0 {
-            Some(Place::Body { last, missing })
+            Some(FragmentState::Body { last, missing })
         } else if last {
             None
         } else {
-            Some(Place::START)
+            Some(FragmentState::START)
         }
     }
 
     /// The place behind a byte of a header, where so many bytes of the record came before the header.
-    fn behind_byte(count: usize, number: u32, byte: u8, size: usize) -> Option<Place>
+    fn behind_byte(count: usize, number: u32, byte: u8, size: usize) -> Option<FragmentState>
         requires { (count < 4) × (number < 256 ^ count) × (size ≤ RECORD_LIMIT) }
         ensures leads { (content bytes : List ℕ) → EndsInHeader count number content bytes
             → length content ≡ size → LeadToNext (bytes ++ byte ∷ []) content result }
@@ -105,17 +105,17 @@ impl Place {
     {
         let number = number * 256 + u32::from(byte);
         if count < 3 {
-            Some(Place::Header {
+            Some(FragmentState::Header {
                 count: count + 1,
                 number,
             })
         } else {
-            Place::behind_header(number, size)
+            FragmentState::behind_header(number, size)
         }
     }
 
     /// The place behind a header, where so many bytes of the record came before it.
-    fn behind_header(number: u32, size: usize) -> Option<Place>
+    fn behind_header(number: u32, size: usize) -> Option<FragmentState>
         requires { size ≤ RECORD_LIMIT }
         ensures leads { (content bytes : List ℕ) → EndsInHeader 4 number content bytes
             → length content ≡ size → LeadToNext bytes content result }
@@ -123,9 +123,9 @@ impl Place {
     {
         let missing = (number % LAST_FRAGMENT) as usize;
         if missing > RECORD_LIMIT - size {
-            Some(Place::Refused)
+            Some(FragmentState::Refused)
         } else {
-            Place::in_body(number >= LAST_FRAGMENT, missing)
+            FragmentState::in_body(number >= LAST_FRAGMENT, missing)
         }
     }
 }
@@ -134,9 +134,9 @@ impl Place {
 /// Gives the place behind it, None where the record is whole, and what is left of the piece.
 fn step<'p>(
     content: &mut Vec<u8>,
-    place: Place,
+    place: FragmentState,
     piece: &'p [u8],
-) -> Result<(Option<Place>, &'p [u8]), AllocError>
+) -> Result<(Option<FragmentState>, &'p [u8]), AllocError>
     requires some { 0 < length piece.now }
     requires sound { IsPlace place (length content.old.items) }
     ensures ok { IfOk result (λ r. LeadsOn piece.entry.now r.1.now content.old.items content.new.items place r.0) }
@@ -145,26 +145,26 @@ fn step<'p>(
     ensures err { OnErr result (content.new.items ≡ content.old.items) }
 {
     match place {
-        Place::Header { count, number } => {
-            let next = Place::behind_byte(count, number, piece[0], content.len());
+        FragmentState::Header { count, number } => {
+            let next = FragmentState::behind_byte(count, number, piece[0], content.len());
             Ok((next, &piece[1..]))
         }
-        Place::Body { last, missing } => {
+        FragmentState::Body { last, missing } => {
             let size = missing.min(piece.len());
             let (taken, left) = piece.split_at(size);
             // Room for the whole fragment at once, so that its bytes are moved no more.
             content.reserve(missing)?;
             content.extend_from_slice(taken)?;
-            Ok((Place::in_body(last, missing - size), left))
+            Ok((FragmentState::in_body(last, missing - size), left))
         }
-        Place::Refused => Ok((Some(Place::Refused), &[])),
+        FragmentState::Refused => Ok((Some(FragmentState::Refused), &[])),
     }
 }
 
 /// Takes a piece in, up to the end of the record where it is whole then. Gives what is left behind that end.
 fn advance<'p>(
     content: &mut Vec<u8>,
-    place: &mut Place,
+    place: &mut FragmentState,
     piece: &'p [u8],
 ) -> Result<Option<&'p [u8]>, AllocError>
     requires { IsPlace place.old (length content.old.items) }
@@ -180,7 +180,7 @@ fn advance<'p>(
         match next {
             Some(next) => *place = next,
             None => {
-                *place = Place::START;
+                *place = FragmentState::START;
                 return Ok(Some(left));
             }
         }
@@ -194,7 +194,7 @@ fn records_of(alloc: Global, stream: &[u8]) -> Result<Records, AllocError>
 {
     let mut queued = VecDeque::new(alloc);
     let mut content = Vec::new(alloc);
-    let mut place = Place::START;
+    let mut place = FragmentState::START;
     let mut rest = stream;
     'records: while let Some(left) = advance(&mut content, &mut place, rest)? {
         let whole = mem::replace(&mut content, Vec::new(alloc));
@@ -214,7 +214,7 @@ fn take_in(
     alloc: Global,
     queued: &mut VecDeque<Record>,
     content: &mut Vec<u8>,
-    place: &mut Place,
+    place: &mut FragmentState,
     piece: &[u8],
 ) -> Result<(), AllocError>
     requires { IsPlace place.old (length content.old.items) }
@@ -252,7 +252,7 @@ fn take_in(
 }
 
 impl Records {
-    ghost use Rattle.nfs_rpc.specs.declared.marking.Place.TheVariants.{Refused};
+    ghost use Rattle.nfs_rpc.specs.declared.marking.FragmentState.TheVariants.{Refused};
 
     /// A stream of which nothing has come yet.
     pub fn new(alloc: Global) -> Self
@@ -262,7 +262,7 @@ impl Records {
             alloc,
             queued: VecDeque::new(alloc),
             content: Vec::new(alloc),
-            place: Place::START,
+            place: FragmentState::START,
         }
     }
 

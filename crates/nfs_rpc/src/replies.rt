@@ -13,7 +13,7 @@ use crate::numbers::{
     PROC_UNAVAIL, PROG_MISMATCH, PROG_UNAVAIL, REPLY, RPC_MISMATCH, RPC_VERSION, SUCCESS,
     SYSTEM_ERR,
 };
-use crate::{Answer, Fault};
+use crate::{Fault, ReplyHead};
 use byteorder::{BigEndian, ByteOrder};
 use nfs_xdr::{Writer, XdrError};
 use std::alloc::Global;
@@ -23,13 +23,13 @@ const HEADER: usize = 4;
 
 /// Writes a reply's header at the end. The results of a call that was carried out follow it. Where there is no memory
 /// the writer stays as it was.
-pub fn write_reply(writer: &mut Writer, xid: u32, answer: Answer) -> Result<(), XdrError>
+pub fn write_reply(writer: &mut Writer, xid: u32, answer: ReplyHead) -> Result<(), XdrError>
     ensures ok { OnOk result (writer.new ≡ writer.old ++ reply_of xid answer) }
     ensures err { IfErr result (λ e. (e ≡ Memory) × (writer.new ≡ writer.old)) }
 {
     match answer {
-        Answer::Success => write_accepted(writer, xid, SUCCESS),
-        Answer::Failure(fault) => write_fault(writer, xid, fault),
+        ReplyHead::Success => write_accepted(writer, xid, SUCCESS),
+        ReplyHead::Failure(fault) => write_fault(writer, xid, fault),
     }
 }
 

@@ -24,7 +24,7 @@ use Rattle.nfs_schedule.specs.declared.answer.Answer.{Answer}
 use Rattle.nfs_schedule.specs.declared.driving.Event.{Event}
 use Rattle.nfs_schedule.specs.declared.driving.Event.TheVariants.{Arrive, Replace, Turn, Stop, TakeMessage, NewEra}
 use Rattle.nfs_schedule.specs.declared.worker.Worker.{Worker}
-use Rattle.nfs_schedule.specs.declared.worker.Worker.TheVariants.{Idle, Trying, Wanting, Wishing, Ready, Blocked}
+use Rattle.nfs_schedule.specs.declared.worker.Worker.TheVariants.{Idle, Trying, Wanting, WantingNumbers, Ready, Blocked}
 use Rattle.nfs_schedule.specs.declared.worker.Worker.TheVariants.{Failing}
 use Rattle.nfs_schedule.specs.declared.worker.Worker.TheVariants.{Leaving, PutOff, Refusing}
 
@@ -54,7 +54,7 @@ module _ (e : EngineValue) (t : TxnValue) (a : Addr × Mode) (others : List (Add
   acquires_counts (Blocked x) u is on = cc
   acquires_counts (Failing x) u is on = cc
   acquires_counts Idle u is on = absurd is
-  acquires_counts (Wishing x count) u is on = absurd is
+  acquires_counts (WantingNumbers x count) u is on = absurd is
   acquires_counts (Ready d) u is on = absurd is
   acquires_counts (Leaving r after) u is on = absurd is
   acquires_counts (PutOff p) u is on = absurd is
@@ -80,7 +80,7 @@ gained_counts e shard t x u is same =
 gains_counts : (e : EngineValue) (shard : ℕ) (t : TxnValue) (left : ℕ) (v : Worker) (u : TxnValue) →
     Gains e shard t left v → going_on v ≡ Some u → HasAsked t u 0
 gains_counts e shard t left (Trying x) u is on = gained_counts e shard t x u is.0 (some_same x u on)
-gains_counts e shard t left (Wishing x count) u is on = gained_counts e shard t x u is.0 (some_same x u on)
+gains_counts e shard t left (WantingNumbers x count) u is on = gained_counts e shard t x u is.0 (some_same x u on)
 gains_counts e shard t left (Failing x) u is on = cc
 gains_counts e shard t left Idle u is on = absurd is
 gains_counts e shard t left (Wanting x wanted) u is on = absurd is
@@ -101,7 +101,7 @@ ends_over e f done (Refusing p) answer u is on = cc
 ends_over e f done (Blocked t) answer u is on = cc
 ends_over e f done (Trying t) answer u is on = is
 ends_over e f done (Wanting t wanted) answer u is on = is
-ends_over e f done (Wishing t count) answer u is on = is
+ends_over e f done (WantingNumbers t count) answer u is on = is
 ends_over e f done (Ready d) answer u is on = is
 
 -- ---- a turn
@@ -112,7 +112,7 @@ named_counts e f shard (Trying y) v answer t u n was on =
 named_counts e f shard (Wanting y wanted) v answer t u n was on =
     subst (λ (z : TxnValue). HasAsked z u (asked_of (into_iter_items wanted))) (some_same y t was)
     (takes_counts e y (into_iter_items wanted) v u n.1 on)
-named_counts e f shard (Wishing y count) v answer t u n was on =
+named_counts e f shard (WantingNumbers y count) v answer t u n was on =
     subst (λ (z : TxnValue). HasAsked z u 0) (some_same y t was) (gains_counts e shard y count v u n.1 on)
 named_counts e f shard (Ready d) v answer t u n was on = absurd (ends_over e f d v answer u n on)
 named_counts e f shard Idle v answer t u n was on = cc
@@ -128,7 +128,7 @@ ThinksOver x t = (going_on x ≡ Some t) ⊎ ((y : TxnValue) × (x ≡ Failing y
 
 comes_over : (t : TxnValue) (x : Worker) → Comes t x → ThinksOver x t
 comes_over t (Wanting u wanted) c = inl (ap (λ (y : TxnValue). Some y) c.0)
-comes_over t (Wishing u count) c = inl (ap (λ (y : TxnValue). Some y) c.0)
+comes_over t (WantingNumbers u count) c = inl (ap (λ (y : TxnValue). Some y) c.0)
 comes_over t (Ready d) c = inl (ap (λ (y : TxnValue). Some y) c.0)
 comes_over t (Failing u) c = inr (u, refl)
 comes_over t Idle c = absurd c
@@ -143,7 +143,7 @@ thinks_over (Trying y) x t c on =
     subst (λ (z : TxnValue). ThinksOver x z) (some_same y t on) (comes_over y x c)
 thinks_over Idle x t c on = cc
 thinks_over (Wanting y wanted) x t c on = inl (ap going_on c ∙ on)
-thinks_over (Wishing y count) x t c on = inl (ap going_on c ∙ on)
+thinks_over (WantingNumbers y count) x t c on = inl (ap going_on c ∙ on)
 thinks_over (Ready d) x t c on = inl (ap going_on c ∙ on)
 thinks_over (Blocked y) x t c on = cc
 thinks_over (Failing y) x t c on = cc

@@ -34,7 +34,7 @@ use Rattle.nfs_schedule.specs.declared.answer.Answer.TheVariants as answers
 use Rattle.nfs_schedule.specs.declared.worker.Afterwards.{Afterwards}
 use Rattle.nfs_schedule.specs.declared.worker.Afterwards.TheVariants.{Again, GiveUp}
 use Rattle.nfs_schedule.specs.declared.worker.Worker.{Worker}
-use Rattle.nfs_schedule.specs.declared.worker.Worker.TheVariants.{Idle, Trying, Wanting, Wishing, Ready}
+use Rattle.nfs_schedule.specs.declared.worker.Worker.TheVariants.{Idle, Trying, Wanting, WantingNumbers, Ready}
 use Rattle.nfs_schedule.specs.declared.worker.Worker.TheVariants.{Blocked, Failing}
 use Rattle.nfs_schedule.specs.declared.worker.Worker.TheVariants.{Leaving, PutOff, Refusing}
 
@@ -175,7 +175,7 @@ came_same t u same = ap (λ (x : TxnValue). Some x.received) same
 
 comes_received : (t : TxnValue) (v : Worker) → Comes t v → received_of v ≡ Some t.received
 comes_received t (Wanting u wanted) c = came_same t u c.0
-comes_received t (Wishing u count) c = came_same t u c.0
+comes_received t (WantingNumbers u count) c = came_same t u c.0
 comes_received t (Ready d) c = came_same t (txn_of d) c.0
 comes_received t (Failing u) c = came_same t u c
 comes_received t Idle c = absurd c
@@ -189,7 +189,7 @@ thinks_received : (w v : Worker) → Thinks w v → received_of v ≡ received_o
 thinks_received (Trying t) v c = comes_received t v c
 thinks_received Idle v c = ap received_of c
 thinks_received (Wanting t wanted) v c = ap received_of c
-thinks_received (Wishing t count) v c = ap received_of c
+thinks_received (WantingNumbers t count) v c = ap received_of c
 thinks_received (Ready d) v c = ap received_of c
 thinks_received (Blocked t) v c = ap received_of c
 thinks_received (Failing t) v c = ap received_of c
@@ -234,7 +234,7 @@ module _ (e f : EngineValue) (a : ArrivalValue) (later : List Arrival) where
   admits_hands Idle (Some (answers.Early faulted)) is = refused (answers.Early faulted) is.1
   admits_hands Idle (Some (answers.Unanswered received)) is = refused (answers.Unanswered received) is.1
   admits_hands (Wanting t wanted) answer is = absurd is
-  admits_hands (Wishing t count) answer is = absurd is
+  admits_hands (WantingNumbers t count) answer is = absurd is
   admits_hands (Ready d) answer is = absurd is
   admits_hands (Blocked t) answer is = absurd is
   admits_hands (Failing t) answer is = absurd is
@@ -255,7 +255,7 @@ acquires_received e t a left (Wanting u wanted) is = ap (λ (x : TxnValue). Some
 acquires_received e t a left (Blocked u) is = came_same t u is.1.2
 acquires_received e t a left (Failing u) is = came_same t u (unacquired e t u a is.0 is.1)
 acquires_received e t a left Idle is = absurd is
-acquires_received e t a left (Wishing u count) is = absurd is
+acquires_received e t a left (WantingNumbers u count) is = absurd is
 acquires_received e t a left (Ready d) is = absurd is
 acquires_received e t a left (Leaving r after) is = absurd is
 acquires_received e t a left (PutOff p) is = absurd is
@@ -277,7 +277,7 @@ gains_received e shard t left (Trying u) is = ap (λ (x : TxnValue). Some x.rece
 gains_received e shard t left (Failing u) is = came_same t u (unreserved_same e shard t u is.0 is.1)
 gains_received e shard t left Idle is = absurd is
 gains_received e shard t left (Wanting u wanted) is = absurd is
-gains_received e shard t left (Wishing u count) is = ap (λ (x : TxnValue). Some x.received) is.0.call
+gains_received e shard t left (WantingNumbers u count) is = ap (λ (x : TxnValue). Some x.received) is.0.call
 gains_received e shard t left (Ready d) is = absurd is
 gains_received e shard t left (Blocked u) is = absurd is
 gains_received e shard t left (Leaving r after) is = absurd is
@@ -300,7 +300,7 @@ module _ (e f : EngineValue) (r : ReleaseValue) (after : Afterwards) where
   follows_received Idle is = sym (ap after_received is.0)
   follows_received (Trying u) is = leads_received (Trying u) is.0 is.1 is.2
   follows_received (Wanting u wanted) is = leads_received (Wanting u wanted) is.0 is.1 is.2
-  follows_received (Wishing u count) is = leads_received (Wishing u count) is.0 is.1 is.2
+  follows_received (WantingNumbers u count) is = leads_received (WantingNumbers u count) is.0 is.1 is.2
   follows_received (Ready d) is = leads_received (Ready d) is.0 is.1 is.2
   follows_received (Blocked u) is = leads_received (Blocked u) is.0 is.1 is.2
   follows_received (Failing u) is = leads_received (Failing u) is.0 is.1 is.2
@@ -347,7 +347,7 @@ module _ (e f : EngineValue) (queue later : List ArrivalValue) where
   ends_hands done Idle answer same is = absurd is
   ends_hands done (Trying t) answer same is = absurd is
   ends_hands done (Wanting t wanted) answer same is = absurd is
-  ends_hands done (Wishing t count) answer same is = absurd is
+  ends_hands done (WantingNumbers t count) answer same is = absurd is
   ends_hands done (Ready d) answer same is = absurd is
   ends_hands done (Blocked t) answer same is = absurd is
   ends_hands done (PutOff p) answer same is = absurd is
@@ -361,7 +361,7 @@ module _ (e f : EngineValue) (queue later : List ArrivalValue) where
   declines_hands p Idle None same is = absurd is
   declines_hands p (Trying t) answer same is = absurd is
   declines_hands p (Wanting t wanted) answer same is = absurd is
-  declines_hands p (Wishing t count) answer same is = absurd is
+  declines_hands p (WantingNumbers t count) answer same is = absurd is
   declines_hands p (Ready d) answer same is = absurd is
   declines_hands p (Blocked t) answer same is = absurd is
   declines_hands p (Failing t) answer same is = absurd is
@@ -385,8 +385,8 @@ step_hands e f queue later shard (Trying t) v answer is kept =
     goes_on e f queue later (Trying t) v answer kept (ap received_of is.1) is.2
 step_hands e f queue later shard (Wanting t wanted) v answer is kept =
     goes_on e f queue later (Wanting t wanted) v answer kept (takes_received e t (into_iter_items wanted) v is.1) is.2
-step_hands e f queue later shard (Wishing t count) v answer is kept =
-    goes_on e f queue later (Wishing t count) v answer kept (gains_received e shard t count v is.1) is.2
+step_hands e f queue later shard (WantingNumbers t count) v answer is kept =
+    goes_on e f queue later (WantingNumbers t count) v answer kept (gains_received e shard t count v is.1) is.2
 step_hands e f queue later shard (Ready d) v answer is kept = ends_hands e f queue later d v answer kept is
 step_hands e f queue later shard (Blocked t) v answer is kept =
     goes_on e f queue later (Blocked t) v answer kept (ap received_of is.1) is.2

@@ -14,7 +14,7 @@ use Rattle.nfs_objects.specs.Bound.{with_round}
 use Rattle.nfs_objects.specs.Calls.{named_by, new_numbers}
 use Rattle.nfs_objects.specs.Fits.{Fits, vacant}
 use Rattle.nfs_objects.specs.Sound.{Sound}
-use Rattle.nfs_objects.specs.Stands.{Kept, Represents}
+use Rattle.nfs_objects.specs.Stands.{StoreMeaning, Represents}
 use Rattle.nfs_objects.specs.Store.{Store}
 use Rattle.nfs_objects.specs.Values.{Seen, ViewValue}
 use Rattle.nfs_objects.specs.declared.address.Addr.{Addr}
@@ -26,9 +26,9 @@ use Rattle.nfs_schedule.proofs.ViewRoundsLemmas.{grown_none}
 use Rattle.nfs_schedule.specs.Courses.{CoursesAreFew}
 use Rattle.nfs_schedule.specs.Grown.{HasGrown, IsAsking, IsGrown, IsNumbering, ReadsFew}
 use Rattle.nfs_schedule.specs.Order.{executed_by}
-use Rattle.nfs_schedule.specs.declared.course.Course.TheVariants.{Begun, Foreseen, Asked, Planned, Numbers}
+use Rattle.nfs_schedule.specs.declared.course.Course.TheVariants.{Begun, FirstHandle, Acquiring, Planned, Reserving}
 use Rattle.nfs_schedule.specs.declared.worker.Worker.{Worker}
-use Rattle.nfs_schedule.specs.declared.worker.Worker.TheVariants.{Idle, Trying, Wanting, Wishing, Ready, Blocked}
+use Rattle.nfs_schedule.specs.declared.worker.Worker.TheVariants.{Idle, Trying, Wanting, WantingNumbers, Ready, Blocked}
 use Rattle.nfs_schedule.specs.declared.worker.Worker.TheVariants.{Failing}
 use Rattle.nfs_schedule.specs.declared.worker.Worker.TheVariants.{Leaving, PutOff, Refusing}
 
@@ -56,7 +56,7 @@ few_grown t g s k fits stands sound formed =
 -- of what an attempt asked for some was given
 few_part : (t : TxnValue) (before : List Round) (round : Round) (outcome : Outcome) → Grows t.call t.ctx before →
     Attempts t.call t.ctx (view_after before) outcome → t.view ≡ with_round (view_after before) round →
-    (s : Store) (k : Kept) → Fits t.view s → Represents s k → Sound k → WellFormed k.state →
+    (s : Store) (k : StoreMeaning) → Fits t.view s → Represents s k → Sound k → WellFormed k.state →
     empty_count s (held (view_after before).entries) + asked_count s outcome ≤
     length (named_by t.call t.view) + new_numbers t.call t.view
 few_part t before round outcome grows attempts is s k fits stands sound formed =
@@ -68,7 +68,7 @@ few_part t before round outcome grows attempts is s k fits stands sound formed =
     (fits-before s (view_after before) round (have-entries before) whole) later.named in
     omega (arith, few, later.numbers)
 
-few_asking : (t : TxnValue) (left : List (Addr × Mode)) (s : Store) (k : Kept) → IsAsking t left →
+few_asking : (t : TxnValue) (left : List (Addr × Mode)) (s : Store) (k : StoreMeaning) → IsAsking t left →
     Fits t.view s → Represents s k → Sound k → WellFormed k.state →
     empty_count s (held t.view.entries) + empty_count s left ≤
     length (named_by t.call t.view) + new_numbers t.call t.view
@@ -82,7 +82,7 @@ few_asking t left s k a fits stands sound formed =
       few_part t a.before (Read a.given) (Need a.asked) a.grows a.attempts a.view_is s k fits stands sound formed,
     )
 
-few_numbering : (t : TxnValue) (left : ℕ) (s : Store) (k : Kept) → IsNumbering t left →
+few_numbering : (t : TxnValue) (left : ℕ) (s : Store) (k : StoreMeaning) → IsNumbering t left →
     Fits t.view s → Represents s k → Sound k → WellFormed k.state →
     empty_count s (held t.view.entries) + left ≤ length (named_by t.call t.view) + new_numbers t.call t.view
 few_numbering t left s k n fits stands sound formed =
@@ -108,8 +108,8 @@ reads_few (Trying x) t is g = is_executed (Trying x) x t is (few_grown x g)
 reads_few (Wanting x wanted) t is g =
     is_executed (Wanting x wanted) x t is
     (λ s k fits stands sound formed. few_asking x (into_iter_items wanted) s k g fits stands sound formed)
-reads_few (Wishing x left) t is n =
-    is_executed (Wishing x left) x t is
+reads_few (WantingNumbers x left) t is n =
+    is_executed (WantingNumbers x left) x t is
     (λ s k fits stands sound formed. few_numbering x left s k n fits stands sound formed)
 reads_few (Ready d) t is g = is_executed (Ready d) (txn_of d) t is (few_grown (txn_of d) g)
 reads_few (Blocked x) t is g = is_executed (Blocked x) x t is (few_grown x g)
@@ -125,10 +125,10 @@ reads_few (Refusing p) t is g = nobody (Refusing p) t is
 -- ---- calls on their course
 pub courses-few : CoursesAreFew
 courses-few Begun t unread = few_grown t (grown_none t unread)
-courses-few (Foreseen address mode) t a =
+courses-few (FirstHandle address mode) t a =
     λ s k fits stands sound formed. few_asking t ((address, mode) ∷ []) s k a fits stands sound formed
-courses-few (Asked wanted plan) t a =
+courses-few (Acquiring wanted plan) t a =
     λ s k fits stands sound formed. few_asking t (into_iter_items wanted) s k a fits stands sound formed
 courses-few (Planned plan) t g = few_grown t g
-courses-few (Numbers left plan) t n =
+courses-few (Reserving left plan) t n =
     λ s k fits stands sound formed. few_numbering t left s k n fits stands sound formed

@@ -14,7 +14,7 @@ use Rattle.nfs_machine.specs.declared.calls.Call.{Call}
 use Rattle.nfs_machine.specs.declared.calls.Call.TheVariants as calls
 use Rattle.nfs_machine.specs.declared.context.Ctx.{Ctx}
 use Rattle.nfs_machine.specs.declared.handle.Handle.{Handle}
-use Rattle.nfs_wire.specs.declared.calls.Place.{Place}
+use Rattle.nfs_wire.specs.declared.calls.DirOp.{DirOp}
 use Rattle.nfs_wire.specs.declared.calls.RenameArguments.{RenameArguments}
 use Rattle.nfs_objects.proofs.KnowsLemmas.{names-objects}
 use Rattle.nfs_objects.proofs.NewNumberLemmas.{grown-have-numbers}
@@ -47,7 +47,7 @@ use Rattle.nfs_schedule.specs.Foreseen.{foreseen, object_in}
 use Rattle.nfs_schedule.specs.Grown.{HasGrown, IsAsking, IsNumbering}
 use Rattle.nfs_schedule.specs.Workers.{IsSuited}
 use Rattle.nfs_schedule.specs.declared.course.Course.{Course}
-use Rattle.nfs_schedule.specs.declared.course.Course.TheVariants.{Begun, Foreseen, Asked, Planned, Numbers}
+use Rattle.nfs_schedule.specs.declared.course.Course.TheVariants.{Begun, FirstHandle, Acquiring, Planned, Reserving}
 use Rattle.nfs_schedule.specs.declared.course.NextStep.{NextStep}
 use Rattle.nfs_schedule.specs.declared.course.NextStep.TheVariants.{Acquire}
 use Rattle.nfs_schedule.specs.declared.planning.Plan.{Plan}
@@ -129,16 +129,16 @@ first_next : (t : TxnValue) (wanted : List (Addr × Mode)) (plan : Plan) (next :
     IsFirstOf wanted plan (Some next) → IsAsking t wanted → IsNextStep t next
 first_next t [] plan next first asking = absurd (let no : Some next ≡ None = first in cc)
 first_next t (a ∷ left) plan next first asking =
-    let step : Some next ≡ Some (Acquire a.0 a.1 (Asked first.0 plan)) = first.2 in
-    let same : next ≡ Acquire a.0 a.1 (Asked first.0 plan) = cc in
+    let step : Some next ≡ Some (Acquire a.0 a.1 (Acquiring first.0 plan)) = first.2 in
+    let same : next ≡ Acquire a.0 a.1 (Acquiring first.0 plan) = cc in
     subst (λ (n : NextStep). IsNextStep t n) (sym same)
-    (takes_next t a left (Asked first.0 plan) asking
+    (takes_next t a left (Acquiring first.0 plan) asking
     (λ u less. subst (λ (l : List (Addr × Mode)). IsAsking u l) (sym first.1) less))
 
 -- ---- numbers
 number_next : (t : TxnValue) (left : ℕ) (plan : Plan) (after : Course) → IsNumbering t left →
     IsAfterNumber left plan after → NumbersNext t after
-number_next t left plan (Numbers others then) n is = record {
+number_next t left plan (Reserving others then) n is = record {
   left = left;
   numbering = n;
   goes_on = λ r. numbering_less t (record t { view = with_number t.view r }) r left refl n others is.0 is.1;
@@ -149,14 +149,14 @@ number_next t left plan (Planned then) n is = record {
   goes_on = λ r. grown_numbers t (record t { view = with_number t.view r }) r left refl n is.0;
 }
 number_next t left plan Begun n is = absurd is
-number_next t left plan (Foreseen address mode) n is = absurd is
-number_next t left plan (Asked wanted then) n is = absurd is
+number_next t left plan (FirstHandle address mode) n is = absurd is
+number_next t left plan (Acquiring wanted then) n is = absurd is
 
 -- ---- what is foreseen
 abbrev nothing : ViewValue
 nothing = view_after []
 
-apart_from_nothing : (place : Place) (n : ℕ) → is_apart nothing place n ≡ false
+apart_from_nothing : (place : DirOp) (n : ℕ) → is_apart nothing place n ≡ false
 apart_from_nothing place n =
     elim (handle_of place.directory) as (λ (o : Option Handle). elim o as (λ _. Bool) [
       | None ↦ false
@@ -223,8 +223,8 @@ two alloc a b = record {
 }
 
 pub foreseen_next : (alloc : Global) (t : TxnValue) (a : Addr × Mode) → t.view ≡ view_after [] →
-    Some a ≡ foreseen t.call → TakesNext t (Exports, Shared) (Foreseen a.0 a.1)
-foreseen_next alloc t a unread is = takes_next t (Exports, Shared) (a ∷ []) (Foreseen a.0 a.1) (record {
+    Some a ≡ foreseen t.call → TakesNext t (Exports, Shared) (FirstHandle a.0 a.1)
+foreseen_next alloc t a unread is = takes_next t (Exports, Shared) (a ∷ []) (FirstHandle a.0 a.1) (record {
   before = [];
   grows = tt;
   asked = two alloc (Exports, Shared) a;
@@ -236,32 +236,32 @@ foreseen_next alloc t a unread is = takes_next t (Exports, Shared) (a ∷ []) (F
 
 -- ---- where a call is on its course
 module _ (t : TxnValue) (course : Course) (at : IsAt course t) where
-  pub foreseen_last : (address : Addr) (mode : Mode) (plan : Plan) → course ≡ Foreseen address mode →
+  pub foreseen_last : (address : Addr) (mode : Mode) (plan : Plan) → course ≡ FirstHandle address mode →
       TakesNext t (address, mode) (Planned plan)
   foreseen_last address mode plan is =
       takes_next t (address, mode) [] (Planned plan) (subst (λ (x : Course). IsAt x t) is at)
       (λ u less. grown_part u [] less)
 
-  pub asked_grown : (wanted : IntoIter (Addr × Mode) Global) (plan : Plan) → course ≡ Asked wanted plan → HasGrown t
+  pub asked_grown : (wanted : IntoIter (Addr × Mode) Global) (plan : Plan) → course ≡ Acquiring wanted plan → HasGrown t
   asked_grown wanted plan is = grown_part t (into_iter_items wanted) (subst (λ (x : Course). IsAt x t) is at)
 
   pub asked_next : (wanted : IntoIter (Addr × Mode) Global) (plan : Plan) (next : NextStep) →
-      course ≡ Asked wanted plan → IsFirstOf (into_iter_items wanted) plan (Some next) → IsNextStep t next
+      course ≡ Acquiring wanted plan → IsFirstOf (into_iter_items wanted) plan (Some next) → IsNextStep t next
   asked_next wanted plan next is first =
       first_next t (into_iter_items wanted) plan next first (subst (λ (x : Course). IsAt x t) is at)
 
   pub planned_grown : (plan : Plan) → course ≡ Planned plan → HasGrown t
   planned_grown plan is = subst (λ (x : Course). IsAt x t) is at
 
-  pub numbers_next : (left : ℕ) (plan : Plan) (after : Course) → course ≡ Numbers left plan →
+  pub numbers_next : (left : ℕ) (plan : Plan) (after : Course) → course ≡ Reserving left plan →
       IsAfterNumber left plan after → NumbersNext t after
   numbers_next left plan after is less = number_next t left plan after (subst (λ (x : Course). IsAt x t) is at) less
 
 -- the first of these, and what is behind it
 pub first_is : (wanted : List (Addr × Mode)) (plan : Plan) (a : Addr × Mode) (rest : IntoIter (Addr × Mode) Global) →
-    wanted ≡ a ∷ into_iter_items rest → IsFirstOf wanted plan (Some (Acquire a.0 a.1 (Asked rest plan)))
+    wanted ≡ a ∷ into_iter_items rest → IsFirstOf wanted plan (Some (Acquire a.0 a.1 (Acquiring rest plan)))
 first_is wanted plan a rest is =
-    subst (λ (l : List (Addr × Mode)). IsFirstOf l plan (Some (Acquire a.0 a.1 (Asked rest plan)))) (sym is)
+    subst (λ (l : List (Addr × Mode)). IsFirstOf l plan (Some (Acquire a.0 a.1 (Acquiring rest plan)))) (sym is)
     (rest, refl, refl)
 
 -- ---- an attempt

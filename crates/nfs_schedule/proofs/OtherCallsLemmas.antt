@@ -22,7 +22,7 @@ use Rattle.nfs_engine.specs.declared.release.Then.{Then}
 use Rattle.nfs_engine.specs.declared.release.Then.TheVariants.{Aborted, Ended}
 use Rattle.nfs_schedule.specs.Workers.{WorkerLives, worker_id}
 use Rattle.nfs_schedule.specs.declared.worker.Worker.{Worker}
-use Rattle.nfs_schedule.specs.declared.worker.Worker.TheVariants.{Idle, Trying, Wanting, Wishing, Ready, Blocked}
+use Rattle.nfs_schedule.specs.declared.worker.Worker.TheVariants.{Idle, Trying, Wanting, WantingNumbers, Ready, Blocked}
 use Rattle.nfs_schedule.specs.declared.worker.Worker.TheVariants.{Failing}
 use Rattle.nfs_schedule.specs.declared.worker.Worker.TheVariants.{Leaving, PutOff, Refusing}
 
@@ -116,7 +116,7 @@ module _ (id : ℕ) (e f : EngineValue) (k : KeepsOthers id e f) where
   worker_on Idle apart lives = tt
   worker_on (Trying t) apart lives = (lives_on t (apart t.id refl) lives.0, lives.1)
   worker_on (Wanting t wanted) apart lives = (lives_on t (apart t.id refl) lives.0, lives.1, lives.2)
-  worker_on (Wishing t left) apart lives = (lives_on t (apart t.id refl) lives.0, lives.1)
+  worker_on (WantingNumbers t left) apart lives = (lives_on t (apart t.id refl) lives.0, lives.1)
   worker_on (Ready d) apart lives = lives_on (txn_of d) (apart d.id refl) lives
   worker_on (Blocked t) apart lives = lives_on t (apart t.id refl) lives
   worker_on (Failing t) apart lives = lives_on t (apart t.id refl) lives
@@ -132,7 +132,7 @@ pub worker_known : (e : EngineValue) (u : Worker) (j : ℕ) → worker_id u ≡ 
 worker_known e Idle j is lives = cc
 worker_known e (Trying t) j is lives = below t.id j e.book.next_id is lives.0.holds.known
 worker_known e (Wanting t wanted) j is lives = below t.id j e.book.next_id is lives.0.holds.known
-worker_known e (Wishing t left) j is lives = below t.id j e.book.next_id is lives.0.holds.known
+worker_known e (WantingNumbers t left) j is lives = below t.id j e.book.next_id is lives.0.holds.known
 worker_known e (Ready d) j is lives = below d.id j e.book.next_id is lives.holds.known
 worker_known e (Blocked t) j is lives = below t.id j e.book.next_id is lives.holds.known
 worker_known e (Failing t) j is lives = below t.id j e.book.next_id is lives.holds.known

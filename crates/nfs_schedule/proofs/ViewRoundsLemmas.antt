@@ -37,7 +37,7 @@ use Rattle.nfs_schedule.specs.declared.answer.Answer.{Answer}
 use Rattle.nfs_schedule.specs.declared.worker.Afterwards.{Afterwards}
 use Rattle.nfs_schedule.specs.declared.worker.Afterwards.TheVariants.{Again, GiveUp}
 use Rattle.nfs_schedule.specs.declared.worker.Worker.{Worker}
-use Rattle.nfs_schedule.specs.declared.worker.Worker.TheVariants.{Idle, Trying, Wanting, Wishing, Ready, Blocked}
+use Rattle.nfs_schedule.specs.declared.worker.Worker.TheVariants.{Idle, Trying, Wanting, WantingNumbers, Ready, Blocked}
 use Rattle.nfs_schedule.specs.declared.worker.Worker.TheVariants.{Failing}
 use Rattle.nfs_schedule.specs.declared.worker.Worker.TheVariants.{Leaving, PutOff, Refusing}
 
@@ -206,7 +206,7 @@ comes_grown : (t : TxnValue) (v : Worker) → Comes t v → HasGrown t → IsGro
 comes_grown t (Wanting u wanted) c g =
     subst (λ (x : TxnValue). IsAsking x (into_iter_items wanted)) (sym c.0)
     (asking_all t (into_iter_items wanted) g c.1)
-comes_grown t (Wishing u left) c g =
+comes_grown t (WantingNumbers u left) c g =
     subst (λ (x : TxnValue). IsNumbering x left) (sym c.0) (numbering_all t left g c.1)
 comes_grown t (Ready d) c g = subst (λ (x : TxnValue). HasGrown x) (sym c.0) g
 comes_grown t (Failing u) c g = inl (subst (λ (x : TxnValue). HasGrown x) (sym c) g)
@@ -224,7 +224,7 @@ thinks_grown : (w v : Worker) → Thinks w v → IsGrown w → IsGrown v
 thinks_grown (Trying t) v c g = comes_grown t v c g
 thinks_grown Idle v c g = same_grown Idle v c g
 thinks_grown (Wanting t wanted) v c g = same_grown (Wanting t wanted) v c g
-thinks_grown (Wishing t left) v c g = same_grown (Wishing t left) v c g
+thinks_grown (WantingNumbers t left) v c g = same_grown (WantingNumbers t left) v c g
 thinks_grown (Ready d) v c g = same_grown (Ready d) v c g
 thinks_grown (Blocked t) v c g = same_grown (Blocked t) v c g
 thinks_grown (Failing t) v c g = same_grown (Failing t) v c g
@@ -239,7 +239,7 @@ admits_grown e f a (Trying t) None begins = grown_none t (ap (λ (x : TxnValue).
 admits_grown e f a (Trying t) (Some answer) is = absurd is
 admits_grown e f a Idle answer is = tt
 admits_grown e f a (Wanting t wanted) answer is = absurd is
-admits_grown e f a (Wishing t left) answer is = absurd is
+admits_grown e f a (WantingNumbers t left) answer is = absurd is
 admits_grown e f a (Ready d) answer is = absurd is
 admits_grown e f a (Blocked t) answer is = absurd is
 admits_grown e f a (Failing t) answer is = absurd is
@@ -265,7 +265,7 @@ acquires_grown e t a others (Blocked u) is asking =
 acquires_grown e t a others (Failing u) is asking =
     inl (subst (λ (x : TxnValue). HasGrown x) (sym (unacquired e t u a is.0 is.1)) (grown_part t (a ∷ others) asking))
 acquires_grown e t a others Idle is asking = absurd is
-acquires_grown e t a others (Wishing u left) is asking = absurd is
+acquires_grown e t a others (WantingNumbers u left) is asking = absurd is
 acquires_grown e t a others (Ready d) is asking = absurd is
 acquires_grown e t a others (Leaving r after) is asking = absurd is
 acquires_grown e t a others (PutOff p) is asking = absurd is
@@ -279,7 +279,7 @@ first_grown e t (a ∷ others) v is asking = acquires_grown e t a others v is as
 gains_grown : (e : EngineValue) (shard : ℕ) (t : TxnValue) (left : ℕ) (v : Worker) → Gains e shard t left v →
     IsNumbering t left → IsGrown v
 gains_grown e shard t left (Trying u) is n = grown_numbers t u is.0.reserved left is.0.call n is.1
-gains_grown e shard t left (Wishing u others) is n =
+gains_grown e shard t left (WantingNumbers u others) is n =
     numbering_less t u is.0.reserved left is.0.call n others is.1 is.2
 gains_grown e shard t left (Failing u) is n =
     inr (left, subst (λ (x : TxnValue). IsNumbering x left) (sym (unreserved_same e shard t u is.0 is.1)) n)
@@ -301,7 +301,7 @@ ends_grown e f done (PutOff p) answer is g = tt
 ends_grown e f done (Refusing p) answer is g = tt
 ends_grown e f done (Trying t) answer is g = absurd is
 ends_grown e f done (Wanting t wanted) answer is g = absurd is
-ends_grown e f done (Wishing t left) answer is g = absurd is
+ends_grown e f done (WantingNumbers t left) answer is g = absurd is
 ends_grown e f done (Ready d) answer is g = absurd is
 ends_grown e f done (Blocked t) answer is g = absurd is
 
@@ -319,8 +319,8 @@ follows_grown e f r after (Refusing p) is = tt
 follows_grown e f r after (Trying t) is = same_grown (after_all is.0 after) (Trying t) is.2 (after_grown is.0 after)
 follows_grown e f r after (Wanting t wanted) is =
     same_grown (after_all is.0 after) (Wanting t wanted) is.2 (after_grown is.0 after)
-follows_grown e f r after (Wishing t left) is =
-    same_grown (after_all is.0 after) (Wishing t left) is.2 (after_grown is.0 after)
+follows_grown e f r after (WantingNumbers t left) is =
+    same_grown (after_all is.0 after) (WantingNumbers t left) is.2 (after_grown is.0 after)
 follows_grown e f r after (Ready d) is = same_grown (after_all is.0 after) (Ready d) is.2 (after_grown is.0 after)
 follows_grown e f r after (Blocked t) is = same_grown (after_all is.0 after) (Blocked t) is.2 (after_grown is.0 after)
 follows_grown e f r after (Failing t) is = same_grown (after_all is.0 after) (Failing t) is.2 (after_grown is.0 after)
@@ -332,7 +332,7 @@ declines_grown p (PutOff q) answer is = tt
 declines_grown p (Refusing q) answer is = tt
 declines_grown p (Trying t) answer is = absurd is
 declines_grown p (Wanting t wanted) answer is = absurd is
-declines_grown p (Wishing t left) answer is = absurd is
+declines_grown p (WantingNumbers t left) answer is = absurd is
 declines_grown p (Ready d) answer is = absurd is
 declines_grown p (Blocked t) answer is = absurd is
 declines_grown p (Failing t) answer is = absurd is
@@ -345,7 +345,7 @@ named_grown e f queue later shard Idle v answer n q g = takes_grown e f queue la
 named_grown e f queue later shard (Trying t) v answer n q g = same_grown (Trying t) v n.1 g
 named_grown e f queue later shard (Wanting t wanted) v answer n q g =
     first_grown e t (into_iter_items wanted) v n.1 g
-named_grown e f queue later shard (Wishing t left) v answer n q g = gains_grown e shard t left v n.1 g
+named_grown e f queue later shard (WantingNumbers t left) v answer n q g = gains_grown e shard t left v n.1 g
 named_grown e f queue later shard (Ready d) v answer n q g = ends_grown e f d v answer n g
 named_grown e f queue later shard (Blocked t) v answer n q g = subst (λ (x : Worker). IsGrown x) (sym n.1) tt
 named_grown e f queue later shard (Failing t) v answer n q g = subst (λ (x : Worker). IsGrown x) (sym n.1) tt

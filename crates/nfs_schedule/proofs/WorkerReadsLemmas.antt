@@ -28,7 +28,7 @@ use Rattle.nfs_schedule.specs.declared.answer.Answer.{Answer}
 use Rattle.nfs_schedule.specs.declared.worker.Afterwards.{Afterwards}
 use Rattle.nfs_schedule.specs.declared.worker.Afterwards.TheVariants.{Again, GiveUp}
 use Rattle.nfs_schedule.specs.declared.worker.Worker.{Worker}
-use Rattle.nfs_schedule.specs.declared.worker.Worker.TheVariants.{Idle, Trying, Wanting, Wishing, Ready, Blocked}
+use Rattle.nfs_schedule.specs.declared.worker.Worker.TheVariants.{Idle, Trying, Wanting, WantingNumbers, Ready, Blocked}
 use Rattle.nfs_schedule.specs.declared.worker.Worker.TheVariants.{Failing}
 use Rattle.nfs_schedule.specs.declared.worker.Worker.TheVariants.{Leaving, PutOff, Refusing}
 
@@ -50,7 +50,7 @@ asks_read t wanted r asks = subst (λ (l : List (Addr × Mode)). Reads t l) asks
 comes_read : (t : TxnValue) (v : Worker) → Comes t v → Reads t [] → HasRead v
 comes_read t (Wanting u wanted) c r =
     read_on t u (into_iter_items wanted) c.0 (asks_read t (into_iter_items wanted) r c.1)
-comes_read t (Wishing u count) c r =
+comes_read t (WantingNumbers u count) c r =
     subst (λ (x : TxnValue). Reads x [] × HasReadFirst x.call x.view.entries) (sym c.0)
     (r, past_first t.call t.view r c.2)
 comes_read t (Ready d) c r = read_on t (txn_of d) [] c.0 r
@@ -66,7 +66,7 @@ thinks_read : (w v : Worker) → Thinks w v → HasRead w → HasRead v
 thinks_read (Trying t) v c r = comes_read t v c r
 thinks_read Idle v c r = read_same Idle v c r
 thinks_read (Wanting t wanted) v c r = read_same (Wanting t wanted) v c r
-thinks_read (Wishing t count) v c r = read_same (Wishing t count) v c r
+thinks_read (WantingNumbers t count) v c r = read_same (WantingNumbers t count) v c r
 thinks_read (Ready d) v c r = read_same (Ready d) v c r
 thinks_read (Blocked t) v c r = read_same (Blocked t) v c r
 thinks_read (Failing t) v c r = read_same (Failing t) v c r
@@ -82,7 +82,7 @@ admits_read e f a (Trying t) None begins =
 admits_read e f a (Trying t) (Some answer) is = absurd is
 admits_read e f a Idle answer is = tt
 admits_read e f a (Wanting t wanted) answer is = absurd is
-admits_read e f a (Wishing t count) answer is = absurd is
+admits_read e f a (WantingNumbers t count) answer is = absurd is
 admits_read e f a (Ready d) answer is = absurd is
 admits_read e f a (Blocked t) answer is = absurd is
 admits_read e f a (Failing t) answer is = absurd is
@@ -116,7 +116,7 @@ acquires_read e t a others (Blocked u) is r = read_on t u [] is.1.2 (read_left t
 acquires_read e t a others (Failing u) is r =
     read_on t u [] (unacquired e t u a is.0 is.1) (read_left t.call t.view.entries (a ∷ others) r)
 acquires_read e t a others Idle is r = absurd is
-acquires_read e t a others (Wishing u count) is r = absurd is
+acquires_read e t a others (WantingNumbers u count) is r = absurd is
 acquires_read e t a others (Ready d) is r = absurd is
 acquires_read e t a others (Leaving left after) is r = absurd is
 acquires_read e t a others (PutOff p) is r = absurd is
@@ -149,7 +149,7 @@ gained_read e shard t u is lives r past =
 gains_read : (e : EngineValue) (shard : ℕ) (t : TxnValue) (left : ℕ) (v : Worker) → Gains e shard t left v →
     Lives e t → Reads t [] → HasReadFirst t.call t.view.entries → HasRead v
 gains_read e shard t left (Trying u) is lives r past = (gained_read e shard t u is.0 lives r past).0
-gains_read e shard t left (Wishing u count) is lives r past = gained_read e shard t u is.0 lives r past
+gains_read e shard t left (WantingNumbers u count) is lives r past = gained_read e shard t u is.0 lives r past
 gains_read e shard t left (Failing u) is lives r past = read_on t u [] (unreserved_same e shard t u is.0 is.1) r
 gains_read e shard t left Idle is lives r past = absurd is
 gains_read e shard t left (Wanting u wanted) is lives r past = absurd is
@@ -169,7 +169,7 @@ ends_read e f done (PutOff p) answer is r = tt
 ends_read e f done (Refusing p) answer is r = tt
 ends_read e f done (Trying t) answer is r = absurd is
 ends_read e f done (Wanting t wanted) answer is r = absurd is
-ends_read e f done (Wishing t count) answer is r = absurd is
+ends_read e f done (WantingNumbers t count) answer is r = absurd is
 ends_read e f done (Ready d) answer is r = absurd is
 ends_read e f done (Blocked t) answer is r = absurd is
 
@@ -187,8 +187,8 @@ follows_read e f left after (Refusing p) is = tt
 follows_read e f left after (Trying t) is = read_same (after_all is.0 after) (Trying t) is.2 (after_read is.0 after)
 follows_read e f left after (Wanting t wanted) is =
     read_same (after_all is.0 after) (Wanting t wanted) is.2 (after_read is.0 after)
-follows_read e f left after (Wishing t count) is =
-    read_same (after_all is.0 after) (Wishing t count) is.2 (after_read is.0 after)
+follows_read e f left after (WantingNumbers t count) is =
+    read_same (after_all is.0 after) (WantingNumbers t count) is.2 (after_read is.0 after)
 follows_read e f left after (Ready d) is = read_same (after_all is.0 after) (Ready d) is.2 (after_read is.0 after)
 follows_read e f left after (Blocked t) is = read_same (after_all is.0 after) (Blocked t) is.2 (after_read is.0 after)
 follows_read e f left after (Failing t) is = read_same (after_all is.0 after) (Failing t) is.2 (after_read is.0 after)
@@ -200,7 +200,7 @@ declines_read p (PutOff q) answer is = tt
 declines_read p (Refusing q) answer is = tt
 declines_read p (Trying t) answer is = absurd is
 declines_read p (Wanting t wanted) answer is = absurd is
-declines_read p (Wishing t count) answer is = absurd is
+declines_read p (WantingNumbers t count) answer is = absurd is
 declines_read p (Ready d) answer is = absurd is
 declines_read p (Blocked t) answer is = absurd is
 declines_read p (Failing t) answer is = absurd is
@@ -213,7 +213,7 @@ named_read e f queue later shard Idle v answer n q lives r = takes_read e f queu
 named_read e f queue later shard (Trying t) v answer n q lives r = read_same (Trying t) v n.1 r
 named_read e f queue later shard (Wanting t wanted) v answer n q lives r =
     first_read e t (into_iter_items wanted) v n.1 r
-named_read e f queue later shard (Wishing t count) v answer n q lives r =
+named_read e f queue later shard (WantingNumbers t count) v answer n q lives r =
     gains_read e shard t count v n.1 lives.0 r.0 r.1
 named_read e f queue later shard (Ready d) v answer n q lives r = ends_read e f d v answer n r
 named_read e f queue later shard (Blocked t) v answer n q lives r = subst (λ (x : Worker). HasRead x) (sym n.1) tt

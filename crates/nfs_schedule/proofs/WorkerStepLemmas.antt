@@ -57,7 +57,7 @@ use Rattle.nfs_schedule.specs.declared.answer.Answer.TheVariants as answers
 use Rattle.nfs_schedule.specs.declared.worker.Afterwards.{Afterwards}
 use Rattle.nfs_schedule.specs.declared.worker.Afterwards.TheVariants.{Again, GiveUp}
 use Rattle.nfs_schedule.specs.declared.worker.Worker.{Worker}
-use Rattle.nfs_schedule.specs.declared.worker.Worker.TheVariants.{Idle, Trying, Wanting, Wishing, Ready, Blocked}
+use Rattle.nfs_schedule.specs.declared.worker.Worker.TheVariants.{Idle, Trying, Wanting, WantingNumbers, Ready, Blocked}
 use Rattle.nfs_schedule.specs.declared.worker.Worker.TheVariants.{Failing}
 use Rattle.nfs_schedule.specs.declared.worker.Worker.TheVariants.{Leaving, PutOff, Refusing}
 
@@ -211,27 +211,28 @@ module _ (e f : EngineValue) (t u : TxnValue) (a : Addr × Mode) (wanted left : 
       (ap (λ (x : TxnValue). Some x.key) still) same later (same, leads (Failing u) (error, is), refl)
 
 -- ---- a number
-module _ (e f : EngineValue) (shard : ℕ) (t u : TxnValue) (left : ℕ) (lives : WorkerLives e (Wishing t left))
+module _ (e f : EngineValue) (shard : ℕ) (t u : TxnValue) (left : ℕ) (lives : WorkerLives e (WantingNumbers t left))
     (later : Lives f u) (k : KeepsOthers t.id e f) (same : f.book ≡ e.book) where
-  pub reserved : left ≤ 1 → IsReserved e t u shard (Ok tt) → IsTurnOf e f shard (Wishing t left) (Trying u) None
+  pub reserved : left ≤ 1 → IsReserved e t u shard (Ok tt) → IsTurnOf e f shard (WantingNumbers t left) (Trying u) None
   reserved last is =
-      goes_on t.id e f shard (Wishing t left) (Trying u) k refl (ap (λ (x : TxnValue). Some x.id) is.call)
+      goes_on t.id e f shard (WantingNumbers t left) (Trying u) k refl (ap (λ (x : TxnValue). Some x.id) is.call)
       (ap (λ (x : TxnValue). Some x.key) is.call) same (later, suited_number t u is.reserved is.call lives.1)
       (same, (is, last), refl)
 
   -- others are wanted still
   pub reserved_one : (others : ℕ) → 1 < left → left ≡ others + 1 → IsReserved e t u shard (Ok tt) →
-      IsTurnOf e f shard (Wishing t left) (Wishing u others) None
+      IsTurnOf e f shard (WantingNumbers t left) (WantingNumbers u others) None
   reserved_one others more count is =
-      goes_on t.id e f shard (Wishing t left) (Wishing u others) k refl (ap (λ (x : TxnValue). Some x.id) is.call)
+      goes_on t.id e f shard (WantingNumbers t left) (WantingNumbers u others) k refl
+      (ap (λ (x : TxnValue). Some x.id) is.call)
       (ap (λ (x : TxnValue). Some x.key) is.call) same (later, suited_number t u is.reserved is.call lives.1)
       (same, (is, more, count), refl)
 
   pub reserve_fails : (error : ReserveError) → IsReserved e t u shard (Err error) →
-      IsTurnOf e f shard (Wishing t left) (Failing u) None
+      IsTurnOf e f shard (WantingNumbers t left) (Failing u) None
   reserve_fails error is =
       let still = unreserved_same e shard t u error is in
-      goes_on t.id e f shard (Wishing t left) (Failing u) k refl (ap (λ (x : TxnValue). Some x.id) still)
+      goes_on t.id e f shard (WantingNumbers t left) (Failing u) k refl (ap (λ (x : TxnValue). Some x.id) still)
       (ap (λ (x : TxnValue). Some x.key) still) same later (same, (error, is), refl)
 
 -- ---- a commit
@@ -421,7 +422,8 @@ comes_on e t (Wanting u wanted) c lives =
       ids = refl;
       keys = refl;
     })
-comes_on e t (Wishing u left) c lives = subst (λ (x : TxnValue). ThinksOn e (Trying t) (Wishing x left)) (sym c.0)
+comes_on e t (WantingNumbers u left) c lives = subst (λ (x : TxnValue). ThinksOn e (Trying t) (WantingNumbers x left))
+    (sym c.0)
     (record { lives = lives; ids = refl; keys = refl })
 comes_on e t (Ready d) c lives = record {
   lives = subst (λ (x : TxnValue). Lives e x) (sym c.0) lives.0;
@@ -445,7 +447,7 @@ pub thinks_on : (e : EngineValue) (w v : Worker) → Thinks w v → WorkerLives 
 thinks_on e (Trying t) v c lives = comes_on e t v c lives
 thinks_on e Idle v c lives = same_on e Idle v c lives
 thinks_on e (Wanting t wanted) v c lives = same_on e (Wanting t wanted) v c lives
-thinks_on e (Wishing t left) v c lives = same_on e (Wishing t left) v c lives
+thinks_on e (WantingNumbers t left) v c lives = same_on e (WantingNumbers t left) v c lives
 thinks_on e (Ready d) v c lives = same_on e (Ready d) v c lives
 thinks_on e (Blocked t) v c lives = same_on e (Blocked t) v c lives
 thinks_on e (Failing t) v c lives = same_on e (Failing t) v c lives
@@ -457,7 +459,7 @@ pub may_think : (w : Worker) → IsGrown w → MayThink w
 may_think (Trying t) grown = grown
 may_think Idle grown = tt
 may_think (Wanting t wanted) grown = tt
-may_think (Wishing t left) grown = tt
+may_think (WantingNumbers t left) grown = tt
 may_think (Ready d) grown = tt
 may_think (Blocked t) grown = tt
 may_think (Failing t) grown = tt

@@ -16,7 +16,7 @@ use Rattle.nfs_schedule.specs.Order.{IsOrderly, IsReading, KeepsApart, executed_
 use Rattle.nfs_schedule.specs.Workers.{WorkerLives}
 use Rattle.nfs_schedule.specs.Worlds.{IsKept, WorldValue}
 use Rattle.nfs_schedule.specs.declared.worker.Worker.{Worker}
-use Rattle.nfs_schedule.specs.declared.worker.Worker.TheVariants.{Idle, Trying, Wanting, Wishing, Ready, Blocked}
+use Rattle.nfs_schedule.specs.declared.worker.Worker.TheVariants.{Idle, Trying, Wanting, WantingNumbers, Ready, Blocked}
 use Rattle.nfs_schedule.specs.declared.worker.Worker.TheVariants.{Failing}
 use Rattle.nfs_schedule.specs.declared.worker.Worker.TheVariants.{Leaving, PutOff, Refusing}
 
@@ -54,7 +54,7 @@ not_one w t is = cc
 reads : (w : WorldValue) (u : Worker) (t : TxnValue) → executed_by u ≡ Some t → WorkerLives w.engine u → IsReading w t
 reads w (Trying x) t is lives = reading w x t is lives.0
 reads w (Wanting x wanted) t is lives = reading w x t is lives.0
-reads w (Wishing x left) t is lives = reading w x t is lives.0
+reads w (WantingNumbers x left) t is lives = reading w x t is lives.0
 reads w (Ready f) t is lives = reading w (txn_of f) t is lives
 reads w (Blocked x) t is lives = reading w x t is lives
 reads w (Failing x) t is lives = reading w x t is lives
@@ -72,7 +72,7 @@ asked_so t u wanted is r =
 asks_so : (u : Worker) (t : TxnValue) → executed_by u ≡ Some t → HasRead u → IsRead t.call t.view.entries (wanted_by u)
 asks_so (Trying x) t is r = asked_so x t [] is r
 asks_so (Wanting x wanted) t is r = asked_so x t (into_iter_items wanted) is r
-asks_so (Wishing x count) t is r = asked_so x t [] is r.0
+asks_so (WantingNumbers x count) t is r = asked_so x t [] is r.0
 asks_so (Ready f) t is r = asked_so (txn_of f) t [] is r
 asks_so (Blocked x) t is r = asked_so x t [] is r
 asks_so (Failing x) t is r = asked_so x t [] is r

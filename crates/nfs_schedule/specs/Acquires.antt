@@ -12,7 +12,7 @@ use Rattle.nfs_schedule.specs.declared.answer.Answer.{Answer}
 use Rattle.nfs_schedule.specs.declared.driving.Event.{Event}
 use Rattle.nfs_schedule.specs.declared.driving.Event.TheVariants.{Turn}
 use Rattle.nfs_schedule.specs.declared.worker.Worker.{Worker}
-use Rattle.nfs_schedule.specs.declared.worker.Worker.TheVariants.{Trying, Wanting, Wishing, Ready}
+use Rattle.nfs_schedule.specs.declared.worker.Worker.TheVariants.{Trying, Wanting, WantingNumbers, Ready}
 
 -- ---- what is asked for
 -- the first of these, if there is one
@@ -44,7 +44,7 @@ asked_over place old new (event ∷ events) said later drives =
 abbrev pub going_on : Worker → Option TxnValue
 going_on (Trying t) = Some t
 going_on (Wanting t wanted) = Some t
-going_on (Wishing t count) = Some t
+going_on (WantingNumbers t count) = Some t
 going_on (Ready f) = Some (txn_of f)
 going_on worker = None
 

@@ -11,7 +11,8 @@ use Rattle.nfs_objects.specs.declared.address.Addr.{Addr}
 use Rattle.nfs_objects.specs.declared.address.Addr.TheVariants as addresses
 use Rattle.nfs_objects.specs.declared.modes.Mode.{Mode}
 use Rattle.nfs_schedule.specs.declared.worker.Worker.{Worker}
-use Rattle.nfs_schedule.specs.declared.worker.Worker.TheVariants.{Trying, Wanting, Wishing, Ready, Blocked, Failing}
+use Rattle.nfs_schedule.specs.declared.worker.Worker.TheVariants.{Trying, Wanting, WantingNumbers, Ready, Blocked}
+use Rattle.nfs_schedule.specs.declared.worker.Worker.TheVariants.{Failing}
 
 -- what the first of these handles names
 abbrev pub first_object : List (List ℕ) → List Addr
@@ -53,7 +54,7 @@ wanted_by worker = []
 abbrev pub HasRead : Worker → Type 0
 HasRead (Trying t) = IsRead t.call t.view.entries []
 HasRead (Wanting t wanted) = IsRead t.call t.view.entries (into_iter_items wanted)
-HasRead (Wishing t count) = IsRead t.call t.view.entries [] × HasReadFirst t.call t.view.entries
+HasRead (WantingNumbers t count) = IsRead t.call t.view.entries [] × HasReadFirst t.call t.view.entries
 HasRead (Ready f) = IsRead f.done.call f.done.view.entries []
 HasRead (Blocked t) = IsRead t.call t.view.entries []
 HasRead (Failing t) = IsRead t.call t.view.entries []

@@ -12,7 +12,7 @@ use Rattle.nfs_objects.specs.Fits.{Fits}
 use Rattle.nfs_objects.specs.Promise.{IsPromised}
 use Rattle.nfs_objects.specs.Rooms.{with_seen, with_number}
 use Rattle.nfs_objects.specs.Sound.{Sound}
-use Rattle.nfs_objects.specs.Stands.{Kept, Represents}
+use Rattle.nfs_objects.specs.Stands.{StoreMeaning, Represents}
 use Rattle.nfs_objects.specs.Store.{Store}
 use Rattle.nfs_objects.specs.Values.{change_value, done_value, seen_at}
 use Rattle.nfs_objects.specs.declared.address.Addr.{Addr}
@@ -24,7 +24,7 @@ use Rattle.nfs_schedule.specs.Grown.{HasGrown, IsAsking, IsNumbering}
 use Rattle.nfs_schedule.specs.declared.course.Course.{Course}
 use Rattle.nfs_schedule.specs.declared.course.Considered.{Considered}
 use Rattle.nfs_schedule.specs.declared.course.Considered.TheVariants.{Reads, Done, Fails}
-use Rattle.nfs_schedule.specs.declared.course.Course.TheVariants.{Begun, Foreseen, Asked, Planned, Numbers}
+use Rattle.nfs_schedule.specs.declared.course.Course.TheVariants.{Begun, FirstHandle, Acquiring, Planned, Reserving}
 use Rattle.nfs_schedule.specs.declared.course.NextStep.{NextStep}
 use Rattle.nfs_schedule.specs.declared.course.NextStep.TheVariants.{Acquire, Reserve}
 use Rattle.nfs_schedule.specs.declared.planning.Plan.{Plan}
@@ -33,10 +33,10 @@ use Rattle.nfs_schedule.specs.declared.planning.Plan.TheVariants.{Over}
 -- the call is there: what it has read was given in rounds, and it wants this of what an attempt may ask for
 abbrev pub IsAt : Course → TxnValue → Type 0
 IsAt Begun t = t.view ≡ view_after []
-IsAt (Foreseen address mode) t = IsAsking t ((address, mode) ∷ [])
-IsAt (Asked wanted plan) t = IsAsking t (into_iter_items wanted)
+IsAt (FirstHandle address mode) t = IsAsking t ((address, mode) ∷ [])
+IsAt (Acquiring wanted plan) t = IsAsking t (into_iter_items wanted)
 IsAt (Planned plan) t = HasGrown t
-IsAt (Numbers left plan) t = IsNumbering t left
+IsAt (Reserving left plan) t = IsNumbering t left
 
 -- ---- the next step
 -- An attempt may ask for this address, and the call has it not. Whatever stands there, the call is there once it has
@@ -79,26 +79,26 @@ pub record IsMade (old new : TxnValue) (after : Course) : Type 0 where
 abbrev pub IsFirstOf : List (Addr × Mode) → Plan → Option NextStep → Type 0
 IsFirstOf [] plan next = next ≡ None
 IsFirstOf (a ∷ others) plan next = (rest : IntoIter (Addr × Mode) Global) × (into_iter_items rest ≡ others) ×
-    (next ≡ Some (Acquire a.0 a.1 (Asked rest plan)))
+    (next ≡ Some (Acquire a.0 a.1 (Acquiring rest plan)))
 
 -- where a call is that wanted so many numbers and got one, and goes on by the plan
 abbrev pub IsAfterNumber : (left : ℕ) → Plan → Course → Type 0
-IsAfterNumber left plan (Numbers others after) = (1 < left) × (left ≡ others + 1) × (after ≡ plan)
+IsAfterNumber left plan (Reserving others after) = (1 < left) × (left ≡ others + 1) × (after ≡ plan)
 IsAfterNumber left plan (Planned after) = (left ≤ 1) × (after ≡ plan)
 IsAfterNumber left plan course = ⊥
 
 -- ---- how much is read
 -- of what a call wants there, how much holds nothing in the store; the addresses of new numbers hold nothing
 abbrev pub left_count : Store → Course → ℕ
-left_count s (Foreseen address mode) = empty_count s ((address, mode) ∷ [])
-left_count s (Asked wanted plan) = empty_count s (into_iter_items wanted)
-left_count s (Numbers left plan) = left
+left_count s (FirstHandle address mode) = empty_count s ((address, mode) ∷ [])
+left_count s (Acquiring wanted plan) = empty_count s (into_iter_items wanted)
+left_count s (Reserving left plan) = left
 left_count s course = 0
 
 -- In every sound store that the view fits, what the call has read and what it wants lie among the addresses of the
 -- store, those that the call names, and those of its new numbers.
 abbrev pub IsFewAt : Course → TxnValue → Type 0
-IsFewAt course t = (s : Store) (k : Kept) → Fits t.view s → Represents s k → Sound k → WellFormed k.state →
+IsFewAt course t = (s : Store) (k : StoreMeaning) → Fits t.view s → Represents s k → Sound k → WellFormed k.state →
     empty_count s (held t.view.entries) + left_count s course ≤
     length (named_by t.call t.view) + new_numbers t.call t.view
 

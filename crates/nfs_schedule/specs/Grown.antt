@@ -9,7 +9,7 @@ use Rattle.nfs_objects.specs.Bound.{Given, Grows, Read, Round, empty_count, held
 use Rattle.nfs_objects.specs.Calls.{named_by, new_numbers}
 use Rattle.nfs_objects.specs.Fits.{Fits}
 use Rattle.nfs_objects.specs.Sound.{Sound}
-use Rattle.nfs_objects.specs.Stands.{Kept, Represents}
+use Rattle.nfs_objects.specs.Stands.{StoreMeaning, Represents}
 use Rattle.nfs_objects.specs.Store.{Store}
 use Rattle.nfs_objects.specs.Values.{Seen}
 use Rattle.nfs_objects.specs.declared.address.Addr.{Addr}
@@ -18,7 +18,8 @@ use Rattle.nfs_objects.specs.declared.modes.Mode.{Mode}
 use Rattle.nfs_objects.specs.declared.view.Reserved.{Reserved}
 use Rattle.nfs_engine.specs.Calls.{TxnValue, txn_of}
 use Rattle.nfs_schedule.specs.declared.worker.Worker.{Worker}
-use Rattle.nfs_schedule.specs.declared.worker.Worker.TheVariants.{Trying, Wanting, Wishing, Ready, Blocked, Failing}
+use Rattle.nfs_schedule.specs.declared.worker.Worker.TheVariants.{Trying, Wanting, WantingNumbers, Ready, Blocked}
+use Rattle.nfs_schedule.specs.declared.worker.Worker.TheVariants.{Failing}
 
 -- an attempt of the call asks for these, and for what is wanted first alone
 pub record AsksFor (t : TxnValue) (wanted : List (Addr × Mode)) : Type 0 where
@@ -58,7 +59,7 @@ pub record IsNumbering (t : TxnValue) (left : ℕ) : Type 0 where
 abbrev pub IsGrown : Worker → Type 0
 IsGrown (Trying t) = HasGrown t
 IsGrown (Wanting t wanted) = IsAsking t (into_iter_items wanted)
-IsGrown (Wishing t left) = IsNumbering t left
+IsGrown (WantingNumbers t left) = IsNumbering t left
 IsGrown (Ready f) = HasGrown (txn_of f)
 IsGrown (Blocked t) = HasGrown t
 IsGrown (Failing t) = HasGrown t ⊎ ((left : ℕ) × IsNumbering t left)
@@ -67,12 +68,12 @@ IsGrown worker = Unit {0}
 -- of what a worker wants next, how much holds nothing in the store; the addresses of new numbers hold nothing
 abbrev pub wanted_count : Store → Worker → ℕ
 wanted_count s (Wanting t wanted) = empty_count s (into_iter_items wanted)
-wanted_count s (Wishing t left) = left
+wanted_count s (WantingNumbers t left) = left
 wanted_count s worker = 0
 
 -- In every sound store that the view fits, what the worker's call has read and wants next lies among the addresses of
 -- the store, those that the call names, and those of its new numbers.
 abbrev pub ReadsFew : Worker → TxnValue → Type 0
-ReadsFew worker t = (s : Store) (k : Kept) → Fits t.view s → Represents s k → Sound k → WellFormed k.state →
+ReadsFew worker t = (s : Store) (k : StoreMeaning) → Fits t.view s → Represents s k → Sound k → WellFormed k.state →
     empty_count s (held t.view.entries) + wanted_count s worker ≤
     length (named_by t.call t.view) + new_numbers t.call t.view

@@ -15,13 +15,14 @@ use Rattle.nfs_schedule.specs.Grown.{ReadsFew}
 use Rattle.nfs_schedule.specs.Workers.{worker_id}
 use Rattle.nfs_schedule.specs.Worlds.{IsSomeones, WorldValue}
 use Rattle.nfs_schedule.specs.declared.worker.Worker.{Worker}
-use Rattle.nfs_schedule.specs.declared.worker.Worker.TheVariants.{Trying, Wanting, Wishing, Ready, Blocked, Failing}
+use Rattle.nfs_schedule.specs.declared.worker.Worker.TheVariants.{Trying, Wanting, WantingNumbers, Ready, Blocked}
+use Rattle.nfs_schedule.specs.declared.worker.Worker.TheVariants.{Failing}
 
 -- the call that a worker executes, with what it has read
 abbrev pub executed_by : Worker → Option TxnValue
 executed_by (Trying t) = Some t
 executed_by (Wanting t wanted) = Some t
-executed_by (Wishing t left) = Some t
+executed_by (WantingNumbers t left) = Some t
 executed_by (Ready f) = Some (txn_of f)
 executed_by (Blocked t) = Some t
 executed_by (Failing t) = Some t

@@ -11,7 +11,7 @@ use Rattle.nfs_schedule.specs.Turns.{KeepsBook}
 use Rattle.nfs_schedule.specs.Workers.{KeepsRest}
 use Rattle.nfs_schedule.specs.declared.answer.Answer.{Answer}
 use Rattle.nfs_schedule.specs.declared.worker.Worker.{Worker}
-use Rattle.nfs_schedule.specs.declared.worker.Worker.TheVariants.{Idle, Trying, Wanting, Wishing, Ready}
+use Rattle.nfs_schedule.specs.declared.worker.Worker.TheVariants.{Idle, Trying, Wanting, WantingNumbers, Ready}
 use Rattle.nfs_schedule.specs.declared.worker.Worker.TheVariants.{Blocked, Failing}
 use Rattle.nfs_schedule.specs.declared.worker.Worker.TheVariants.{Leaving, PutOff, Refusing}
 
@@ -26,7 +26,7 @@ abbrev pub received_of : Worker → Option Arrival
 received_of Idle = None
 received_of (Trying t) = Some t.received
 received_of (Wanting t wanted) = Some t.received
-received_of (Wishing t left) = Some t.received
+received_of (WantingNumbers t left) = Some t.received
 received_of (Ready f) = Some f.received
 received_of (Blocked t) = Some t.received
 received_of (Failing t) = Some t.received

@@ -31,7 +31,7 @@ use Rattle.nfs_schedule.specs.declared.answer.Answer.TheVariants as answers
 use Rattle.nfs_schedule.specs.declared.worker.Afterwards.{Afterwards}
 use Rattle.nfs_schedule.specs.declared.worker.Afterwards.TheVariants.{Again, GiveUp}
 use Rattle.nfs_schedule.specs.declared.worker.Worker.{Worker}
-use Rattle.nfs_schedule.specs.declared.worker.Worker.TheVariants.{Idle, Trying, Wanting, Wishing, Ready}
+use Rattle.nfs_schedule.specs.declared.worker.Worker.TheVariants.{Idle, Trying, Wanting, WantingNumbers, Ready}
 use Rattle.nfs_schedule.specs.declared.worker.Worker.TheVariants.{Blocked, Failing}
 use Rattle.nfs_schedule.specs.declared.worker.Worker.TheVariants.{Leaving, PutOff, Refusing}
 
@@ -112,7 +112,7 @@ TakesFirst e t (a ∷ others) next = Acquires e t a others next
 -- one of so many new numbers: the call wants the others, or it was the last; or there is none
 abbrev pub Gains : EngineValue → (shard : ℕ) → TxnValue → (left : ℕ) → Worker → Type 0
 Gains e shard t left (Trying u) = IsReserved e t u shard (Ok tt) × (left ≤ 1)
-Gains e shard t left (Wishing u others) = IsReserved e t u shard (Ok tt) × (1 < left) × (left ≡ others + 1)
+Gains e shard t left (WantingNumbers u others) = IsReserved e t u shard (Ok tt) × (1 < left) × (left ≡ others + 1)
 Gains e shard t left (Failing u) = (error : ReserveError) × IsReserved e t u shard (Err error)
 Gains e shard t left worker = ⊥
 
@@ -148,7 +148,7 @@ IsNamed e f shard Idle next answer = Unit {0}
 IsNamed e f shard (Trying t) next answer = (f ≡ e) × (next ≡ Trying t) × (answer ≡ None)
 IsNamed e f shard (Wanting t wanted) next answer =
     (f.book ≡ e.book) × TakesFirst e t (into_iter_items wanted) next × (answer ≡ None)
-IsNamed e f shard (Wishing t left) next answer = (f.book ≡ e.book) × Gains e shard t left next × (answer ≡ None)
+IsNamed e f shard (WantingNumbers t left) next answer = (f.book ≡ e.book) × Gains e shard t left next × (answer ≡ None)
 IsNamed e f shard (Ready done) next answer = EndsTurn e f done next answer
 IsNamed e f shard (Blocked t) next answer =
     (f ≡ e) × (next ≡ Leaving (release_of t) Again) × (answer ≡ None)

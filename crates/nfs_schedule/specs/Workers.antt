@@ -18,7 +18,7 @@ use Rattle.nfs_engine.specs.declared.release.Then.{Then}
 use Rattle.nfs_engine.specs.declared.release.Then.TheVariants as then
 use Rattle.nfs_schedule.specs.Grown.{AsksFor, HasGrown}
 use Rattle.nfs_schedule.specs.declared.worker.Worker.{Worker}
-use Rattle.nfs_schedule.specs.declared.worker.Worker.TheVariants.{Idle, Trying, Wanting, Wishing, Ready}
+use Rattle.nfs_schedule.specs.declared.worker.Worker.TheVariants.{Idle, Trying, Wanting, WantingNumbers, Ready}
 use Rattle.nfs_schedule.specs.declared.worker.Worker.TheVariants.{Blocked, Failing}
 use Rattle.nfs_schedule.specs.declared.worker.Worker.TheVariants.{Leaving, PutOff, Refusing}
 
@@ -51,7 +51,7 @@ abbrev pub WorkerLives : EngineValue → Worker → Type 0
 WorkerLives e Idle = Unit {0}
 WorkerLives e (Trying t) = Lives e t × IsSuited t
 WorkerLives e (Wanting t wanted) = Lives e t × IsSuited t × Wants t.call t.view (into_iter_items wanted)
-WorkerLives e (Wishing t left) = Lives e t × IsSuited t
+WorkerLives e (WantingNumbers t left) = Lives e t × IsSuited t
 WorkerLives e (Ready f) = Lives e (txn_of f)
 WorkerLives e (Blocked t) = Lives e t
 WorkerLives e (Failing t) = Lives e t
@@ -64,7 +64,7 @@ abbrev pub worker_id : Worker → Option ℕ
 worker_id Idle = None
 worker_id (Trying t) = Some t.id
 worker_id (Wanting t wanted) = Some t.id
-worker_id (Wishing t left) = Some t.id
+worker_id (WantingNumbers t left) = Some t.id
 worker_id (Ready f) = Some f.id
 worker_id (Blocked t) = Some t.id
 worker_id (Failing t) = Some t.id
@@ -82,7 +82,7 @@ abbrev pub worker_key : Worker → Option ℕ
 worker_key Idle = None
 worker_key (Trying t) = Some t.key
 worker_key (Wanting t wanted) = Some t.key
-worker_key (Wishing t left) = Some t.key
+worker_key (WantingNumbers t left) = Some t.key
 worker_key (Ready f) = Some f.key
 worker_key (Blocked t) = Some t.key
 worker_key (Failing t) = Some t.key
@@ -95,7 +95,7 @@ worker_key (Refusing p) = Some p.key
 -- what is wanted first, it asks for that alone.
 abbrev pub Comes : TxnValue → Worker → Type 0
 Comes t (Wanting u wanted) = (u ≡ t) × AsksFor t (into_iter_items wanted)
-Comes t (Wishing u count) =
+Comes t (WantingNumbers u count) =
     (u ≡ t) × Attempts t.call t.ctx t.view (Fresh count) × (first_wanted t.call t.view ≡ None)
 Comes t (Ready f) = (txn_of f ≡ t) × (first_wanted t.call t.view ≡ None)
 Comes t (Failing u) = u ≡ t

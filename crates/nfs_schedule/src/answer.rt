@@ -17,7 +17,7 @@ use std::alloc::Global;
 
 /// A call that was not executed, for want of memory or of a number.
 #[derive(Drop)]
-pub struct Declined {
+pub struct RefusalReply {
     pub received: Incoming,
     /// Its refusal; None where there was no memory for that.
     pub answer: Option<Vec<u8>>,
@@ -31,7 +31,7 @@ pub enum Answer {
     /// It came before, and gets the reply that is kept; its call is not executed again.
     Repeated(Kept),
     /// Its call was refused, and changed nothing.
-    Refused(Declined),
+    Refused(RefusalReply),
     /// It has a fault.
     Early(Faulted),
     /// It is not executed, and has no reply: its worker was stopped, or a call that came with the same is in progress.
@@ -83,7 +83,7 @@ pub(crate) fn refuse(alloc: Global, received: Incoming, asked: Asked) -> Answer
 {
     let answer = refusal(alloc, &asked);
     drop(asked);
-    Answer::Refused(Declined { received, answer })
+    Answer::Refused(RefusalReply { received, answer })
 }
 
 /// The answer to an arrival that was not admitted.

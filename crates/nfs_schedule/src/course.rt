@@ -29,13 +29,13 @@ pub enum Course {
     /// It has read nothing.
     Begun,
     /// It took the exports ahead of its first attempt, and wants this address next.
-    Foreseen(Addr, Mode),
+    FirstHandle(Addr, Mode),
     /// It wants these addresses of those that were asked for, the first one first, and goes on by its plan then.
-    Asked(IntoIter<(Addr, Mode)>, Plan),
+    Acquiring(IntoIter<(Addr, Mode)>, Plan),
     /// It goes on by its plan, ahead of its next attempt.
     Planned(Plan),
     /// It wants so many new numbers, and goes on by its plan then.
-    Numbers(u32, Plan),
+    Reserving(u32, Plan),
 }
 
 /// The next step of a call that reads more. Once it is made the call is at what is told with it.
@@ -66,15 +66,15 @@ pub fn next_step(alloc: Global, txn: &Txn, course: Course) -> Option<NextStep>
 {
     match course {
         Course::Begun => begin(alloc, txn),
-        Course::Foreseen(address, mode) => {
+        Course::FirstHandle(address, mode) => {
             Some(NextStep::Acquire(address, mode, Course::Planned(behind_first(txn.call()))))
         }
         Course::Planned(plan) => go_on(alloc, txn, plan),
-        Course::Asked(wanted, plan) => match first_of(wanted, plan) {
+        Course::Acquiring(wanted, plan) => match first_of(wanted, plan) {
             Some(next) => Some(next),
             None => go_on(alloc, txn, plan),
         },
-        Course::Numbers(left, plan) => Some(NextStep::Reserve(after_number(left, plan))),
+        Course::Reserving(left, plan) => Some(NextStep::Reserve(after_number(left, plan))),
     }
 }
 
@@ -85,7 +85,11 @@ fn begin(alloc: Global, txn: &Txn) -> Option<NextStep>
 {
     match foreseen(txn.call()) {
         Some((address, mode)) => {
-            Some(NextStep::Acquire(Addr::Exports, Mode::Shared, Course::Foreseen(address, mode)))
+            Some(NextStep::Acquire(
+                Addr::Exports,
+                Mode::Shared,
+                Course::FirstHandle(address, mode),
+            ))
         }
         None => go_on(alloc, txn, first_plan(txn.call())),
     }
@@ -174,7 +178,7 @@ pub(crate) fn attempt_on(alloc: Global, txn: &Txn) -> Result<Outcome, AllocError
     ensures first { IfOk result (AsksFirst txn.now.call txn.now.view) }
 {
     // It brings that this is what came in asks, so that its procedure is built.
-    txn.is_called();
+    txn.show_called();
     attempt(alloc, txn.call(), txn.ctx(), txn.view())
 }
 
@@ -186,7 +190,7 @@ fn first_of(wanted: IntoIter<(Addr, Mode)>, plan: Plan) -> Option<NextStep>
     let Some((address, mode)) = wanted.next() else {
         return None;
     };
-    Some(NextStep::Acquire(address, mode, Course::Asked(wanted, plan)))
+    Some(NextStep::Acquire(address, mode, Course::Acquiring(wanted, plan)))
 }
 
 /// Where a call is that wanted so many new numbers and got one, and goes on by its plan once it has them all.
@@ -194,7 +198,7 @@ fn after_number(left: u32, plan: Plan) -> Course
     ensures { IsAfterNumber left plan result }
 {
     if left > 1 {
-        Course::Numbers(left - 1, plan)
+        Course::Reserving(left - 1, plan)
     } else {
         Course::Planned(plan)
     }

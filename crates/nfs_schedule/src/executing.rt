@@ -25,7 +25,7 @@ use std::alloc::Global;
 const SHARD: usize = 1;
 
 /// There was no memory, or no number.
-struct Unmet;
+struct OutOfMemory;
 
 /// Brings what came in to its answer. No call is in progress in the engine, and none is afterwards.
 pub fn execute(alloc: Global, engine: &mut Engine, arrival: Arrival) -> Answer
@@ -60,12 +60,12 @@ fn carry_out(alloc: Global, engine: &mut Engine, txn: Txn) -> Answer
     let mut txn = txn;
     match run(alloc, engine, &mut txn) {
         Ok(change) => finish(alloc, engine, txn, change),
-        Err(Unmet) => decline(alloc, engine, txn),
+        Err(OutOfMemory) => decline(alloc, engine, txn),
     }
 }
 
 /// Makes the steps of a call on its course, until it is done.
-fn run(alloc: Global, engine: &mut Engine, txn: &mut Txn) -> Result<Change, Unmet>
+fn run(alloc: Global, engine: &mut Engine, txn: &mut Txn) -> Result<Change, OutOfMemory>
     requires lives { Lives engine.old txn.old }
     requires alone { IsAlone engine.old txn.old.id txn.old.key }
     requires unread { txn.old.view ≡ view_after [] }
@@ -84,14 +84,19 @@ fn run(alloc: Global, engine: &mut Engine, txn: &mut Txn) -> Result<Change, Unme
             None => match consider(alloc, txn) {
                 Considered::Reads(step) => course = make(alloc, engine, txn, step)?,
                 Considered::Done(change) => return Ok(change),
-                Considered::Fails => return Err(Unmet),
+                Considered::Fails => return Err(OutOfMemory),
             },
         }
     }
 }
 
 /// Makes this step of a call, which is there then. An error leaves the call as it was.
-fn make(alloc: Global, engine: &mut Engine, txn: &mut Txn, step: NextStep) -> Result<Course, Unmet>
+fn make(
+    alloc: Global,
+    engine: &mut Engine,
+    txn: &mut Txn,
+    step: NextStep,
+) -> Result<Course, OutOfMemory>
     requires lives { Lives engine.old txn.old }
     requires alone { IsAlone engine.old txn.old.id txn.old.key }
     requires next { IsNextStep txn.old step }
@@ -119,7 +124,7 @@ fn acquire(
     txn: &mut Txn,
     address: Addr,
     mode: Mode,
-) -> Result<(), Unmet>
+) -> Result<(), OutOfMemory>
     requires lives { Lives engine.old txn.old }
     requires alone { IsAlone engine.old txn.old.id txn.old.key }
     requires unseen { seen_at txn.old.view.entries address ≡ None }
@@ -130,12 +135,12 @@ fn acquire(
     match engine.acquire(alloc, txn, address, mode) {
         Ok(Got::Yes) => Ok(()),
         Ok(Got::Taken(_)) => unreachable!(),
-        Err(_) => Err(Unmet),
+        Err(_) => Err(OutOfMemory),
     }
 }
 
 /// Gets a new number. An error leaves the call as it was.
-fn reserve(alloc: Global, engine: &mut Engine, txn: &mut Txn) -> Result<(), Unmet>
+fn reserve(alloc: Global, engine: &mut Engine, txn: &mut Txn) -> Result<(), OutOfMemory>
     requires lives { Lives engine.old txn.old }
     requires alone { IsAlone engine.old txn.old.id txn.old.key }
     ensures goes_on { GoesOn engine.old engine.new txn.old txn.new }
@@ -144,7 +149,7 @@ fn reserve(alloc: Global, engine: &mut Engine, txn: &mut Txn) -> Result<(), Unme
 {
     match engine.reserve(alloc, txn, SHARD) {
         Ok(()) => Ok(()),
-        Err(_) => Err(Unmet),
+        Err(_) => Err(OutOfMemory),
     }
 }
 

@@ -6,19 +6,19 @@
 #![tactic(auto)]
 
 pub mod answer;
-pub mod attempts;
-pub mod course;
-pub mod driving;
-pub mod executing;
+mod attempts;
+mod course;
+mod driving;
+mod executing;
 mod foreseen;
-pub mod laws;
+mod laws;
 pub mod planning;
-pub mod resting;
+mod resting;
 mod stop;
-pub mod worker;
-pub mod world;
+mod worker;
+mod world;
 
-pub use answer::{Answer, Declined};
+pub use answer::{Answer, RefusalReply};
 pub use attempts::attempt;
 pub use course::{Considered, Course, NextStep, consider, next_step};
 pub use driving::{Event, drive};

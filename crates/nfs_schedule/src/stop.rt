@@ -22,7 +22,7 @@ pub(crate) fn stop(engine: &mut Engine, worker: Worker) -> Option<Answer>
             drop(wanted);
             Some(stop_call(engine, txn))
         }
-        Worker::Wishing(txn, _left) => Some(stop_call(engine, txn)),
+        Worker::WantingNumbers(txn, _left) => Some(stop_call(engine, txn)),
         Worker::Ready(finished) => Some(stop_call(engine, finished.into_txn())),
         Worker::Blocked(txn) => Some(stop_call(engine, txn)),
         Worker::Failing(txn) => Some(stop_call(engine, txn)),

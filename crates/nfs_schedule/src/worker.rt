@@ -38,7 +38,7 @@ pub enum Worker {
     /// It wants these addresses, the first one first.
     Wanting(Txn, IntoIter<(Addr, Mode)>),
     /// It wants so many new numbers.
-    Wishing(Txn, u32),
+    WantingNumbers(Txn, u32),
     /// Its call is done, and is to be committed.
     Ready(Finished),
     /// It was told that an address is taken.
@@ -113,7 +113,7 @@ fn consider(alloc: Global, txn: Txn) -> Worker
 {
     match attempt_on(alloc, &txn) {
         Ok(Outcome::Need(wanted)) => Worker::Wanting(txn, wanted.into_iter()),
-        Ok(Outcome::Fresh(count)) => Worker::Wishing(txn, count),
+        Ok(Outcome::Fresh(count)) => Worker::WantingNumbers(txn, count),
         Ok(Outcome::Done(change)) => finish(alloc, txn, change),
         Err(_) => Worker::Failing(txn),
     }
@@ -136,7 +136,7 @@ fn step(
         Worker::Idle => begin(alloc, engine, queue),
         Worker::Trying(txn) => (Worker::Trying(txn), None),
         Worker::Wanting(txn, wanted) => (acquire(alloc, engine, txn, wanted), None),
-        Worker::Wishing(txn, left) => (reserve(alloc, engine, shard, txn, left), None),
+        Worker::WantingNumbers(txn, left) => (reserve(alloc, engine, shard, txn, left), None),
         Worker::Ready(finished) => commit(alloc, engine, finished),
         Worker::Blocked(txn) => (Worker::Leaving(engine.abort(txn), Afterwards::Again), None),
         Worker::Failing(txn) => (Worker::Leaving(engine.abort(txn), Afterwards::GiveUp), None),
@@ -219,13 +219,13 @@ fn acquire(alloc: Global, engine: &mut Engine, txn: Txn, wanted: IntoIter<(Addr,
 
 /// Asks for one of so many new numbers, of this shard.
 fn reserve(alloc: Global, engine: &mut Engine, shard: usize, txn: Txn, left: u32) -> Worker
-    requires lives { WorkerLives engine.old (Worker.Wishing txn left) }
+    requires lives { WorkerLives engine.old (Worker.WantingNumbers txn left) }
     requires shard { shard < SHARDS }
-    ensures { IsTurnOf engine.old engine.new shard (Worker.Wishing txn left) result None }
+    ensures { IsTurnOf engine.old engine.new shard (Worker.WantingNumbers txn left) result None }
 {
     let mut txn = txn;
     match engine.reserve(alloc, &mut txn, shard) {
-        Ok(()) if left > 1 => Worker::Wishing(txn, left - 1),
+        Ok(()) if left > 1 => Worker::WantingNumbers(txn, left - 1),
         Ok(()) => Worker::Trying(txn),
         Err(_) => Worker::Failing(txn),
     }
@@ -237,7 +237,7 @@ fn commit(alloc: Global, engine: &mut Engine, finished: Finished) -> (Worker, Op
     ensures { IsTurnOf engine.old engine.new 0 (Worker.Ready finished) result.0 result.1 }
 {
     // It brings that this is what came in asks.
-    finished.is_finished();
+    finished.show_finished();
     match engine.commit(alloc, finished) {
         Ok((receipt, release)) => (
             Worker::Leaving(release, Afterwards::Again),

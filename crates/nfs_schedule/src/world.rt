@@ -116,11 +116,11 @@ impl World {
     /// What is true at every moment: the shards together are the store, in which no two owners have locks or shares
     /// that conflict; no two calls hold what conflicts, whoever holds an address is a worker's call, and what each such
     /// call has read still stands.
-    pub fn order(&self)
+    pub fn show_order(&self)
         ensures { IsOrderly self.now }
     {
-        self.engine.tie();
-        self.engine.run();
+        self.engine.show_tie();
+        self.engine.show_run();
     }
 
     /// How many arrivals were not yet admitted.

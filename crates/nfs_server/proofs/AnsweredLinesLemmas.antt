@@ -14,7 +14,7 @@ use Rattle.nfs_server.specs.Control.{AnswersLine, AnswersLines, BreaksOff, Dialo
 use Rattle.nfs_server.specs.Control.{Stands, Standing, first_standing, nothing_said, with_rest}
 use Rattle.nfs_server.specs.ExportTexts.{Parts}
 use Rattle.nfs_server.specs.declared.controlling.Applied.{Applied}
-use Rattle.nfs_server.specs.declared.controlling.Ended.TheVariants.{Input, Read, Write}
+use Rattle.nfs_server.specs.declared.controlling.ControlEnd.TheVariants.{Input, Read, Write}
 
 -- the line that is held is answered, and all of the answer is written
 abbrev pub WritesAnswer : {F : Type 0} → (F → List ExportValue → Applied → F → Type 0) → DialogueValue → F →

@@ -10,14 +10,14 @@ use Rattle.nfs_engine.specs.declared.arrival.Reading.{Reading}
 use Rattle.nfs_engine.specs.declared.journal.Receipt.{Receipt}
 use Rattle.nfs_schedule.specs.declared.answer.Answer.{Answer}
 use Rattle.nfs_schedule.specs.declared.answer.Answer.TheVariants as answers
-use Rattle.nfs_schedule.specs.declared.answer.Declined.{Declined}
+use Rattle.nfs_schedule.specs.declared.answer.RefusalReply.{RefusalReply}
 use Rattle.nfs_pool.specs.Seats.{Gains, IsDeclined, IsReceiptOf, SeatValue, Tells}
 use Rattle.nfs_pool.specs.declared.sent.PoolError.{PoolError}
 use Rattle.nfs_pool.specs.declared.sent.PoolError.TheVariants.{EraFull, Memory}
 use Rattle.nfs_pool.specs.declared.sent.Sent.{Sent}
 use Rattle.nfs_pool.specs.declared.sent.Sent.TheVariants.{Early, Executed, Refused, Repeated, Unanswered}
 use Rattle.nfs_server.specs.AnswersTo.{AnswersRecord, HandsBack, HasReceipt, IsAnswerTo, IsTold}
-use Rattle.nfs_server.specs.declared.network.clerk.Closed.{Closed}
+use Rattle.nfs_server.specs.declared.network.dispatcher.Closed.{Closed}
 
 -- a seat's last receipt is of what came in
 receipt_told : (n : ℕ) (a : ArrivalValue) (old new : SeatValue) → n ≤ old.last → Gains a old new →
@@ -93,16 +93,16 @@ pub told_along : (n : ℕ) (r other : Arrival) → r ≡ other → (s : SeatValu
     IsTold n other s sent
 told_along n r other same s sent = subst (λ (x : Arrival). IsTold n x s sent) same
 
-pub refused_told : (n : ℕ) (r : Arrival) (s : SeatValue) (declined : Declined) → IsDeclined r declined →
+pub refused_told : (n : ℕ) (r : Arrival) (s : SeatValue) (declined : RefusalReply) → IsDeclined r declined →
     (x : Result Sent PoolError) → IfOk x (λ sent. sent ≡ Refused declined) → IfOk x (IsTold n r s)
 refused_told n r s declined is (Ok sent) same = subst (λ (x : Sent). IsTold n r s x) (sym same) is
 refused_told n r s declined is (Err error) same = tt
 
-pub refused_back : (r : Arrival) (declined : Declined) → IsDeclined r declined → (x : Result Sent PoolError) →
+pub refused_back : (r : Arrival) (declined : RefusalReply) → IsDeclined r declined → (x : Result Sent PoolError) →
     IfErr x (HandsBack (incoming_value declined.received)) → IfErr x (HandsBack r)
 refused_back r declined is x back = subst (λ (other : Arrival). IfErr x (HandsBack other)) is.received back
 
-pub refusal_answers : (n : ℕ) (r : Arrival) (declined : Declined) → IsDeclined r declined →
+pub refusal_answers : (n : ℕ) (r : Arrival) (declined : RefusalReply) → IsDeclined r declined →
     (x : Result Answer Closed) → IfOk x (λ answer. (answer ≡ answers.Refused declined) × IsSome declined.answer) →
     IfOk x (IsAnswerTo n r)
 refusal_answers n r declined is (Ok answer) t =

@@ -25,7 +25,7 @@ use Rattle.nfs_machine.specs.declared.exports.ExportText.{ExportText}
 use Rattle.nfs_engine.specs.Opening.{IsLimit}
 use Rattle.nfs_server.specs.Limits.{IsWithin}
 use Rattle.nfs_server.specs.declared.limits.Limit.{Limit}
-use Rattle.nfs_server.specs.declared.limits.Limits.{Limits}
+use Rattle.nfs_server.specs.declared.limits.ServerLimits.{ServerLimits}
 use Rattle.nfs_server.specs.CommandLine.{AreRefused, AreWithin, AsksAlone, AsksControl, AsksStdio, Configures}
 use Rattle.nfs_server.specs.CommandLine.{HasLimits, HasWorkers, IsConflict, IsHostRefusal, IsLimitRefusal, IsParsedFrom}
 use Rattle.nfs_server.specs.CommandLine.{IsRefusal, IsTaken, IsTransportRefusal, IsValueRefusal, NamesAddress}
@@ -144,7 +144,7 @@ false_is_not_true : false ≡ true → ⊥
 false_is_not_true same = cc
 
 -- words whose matches are found, with a host of its length, numbers within their bounds and one transport, are taken
-pub taken : (words : List Text) (m : ArgMatches) (host : Text) (limits : Limits) → IsParsedFrom words m
+pub taken : (words : List Text) (m : ArgMatches) (host : Text) (limits : ServerLimits) → IsParsedFrom words m
     → (host ≡ host_of (rows_of (found_of m))) × IsHost host → HasLimits (rows_of (found_of m)) limits
     → AsksAlone (rows_of (found_of m)) → IsTaken words
 taken words m host limits parsed is its apart = record {
@@ -213,7 +213,7 @@ refused_limit words m Receipts parsed refused = absurd refused
 refused_limit words m (CannotListen text) parsed refused = absurd refused
 
 -- and so does a transport; where none is named the words are taken
-pub refused_transport : (words : List Text) (m : ArgMatches) (host : Text) (limits : Limits) (exit : Exit)
+pub refused_transport : (words : List Text) (m : ArgMatches) (host : Text) (limits : ServerLimits) (exit : Exit)
     → IsParsedFrom words m → (host ≡ host_of (rows_of (found_of m))) × IsHost host
     → HasLimits (rows_of (found_of m)) limits → IsTransportRefusal (rows_of (found_of m)) exit → Refuses words exit
 refused_transport words m host limits (CommandLine e) parsed is its refused = inr (
@@ -233,7 +233,8 @@ refused_transport words m host limits Receipts parsed is its refused = absurd re
 refused_transport words m host limits (CannotListen text) parsed is its refused = absurd refused
 
 -- a transport that is read is the only one
-pub one_transport : (rows : List Row) (limits : Limits) (transport : Transport) → ReadsTransport rows limits transport
+pub one_transport : (rows : List Row) (limits : ServerLimits) (transport : Transport)
+    → ReadsTransport rows limits transport
     → AsksAlone rows
 one_transport rows limits Stdio reads = (true, reads.0, λ same. reads.1)
 one_transport rows limits (Network network) reads = (false, reads.0, λ same. absurd (false_is_not_true same))
@@ -269,7 +270,7 @@ options_read words m options parsed is_taken reads = record {
 }
 
 -- its workers are as many as a pool has seats for
-workers_within : (rows : List Row) (limits : Limits) (transport : Transport) → HasLimits rows limits
+workers_within : (rows : List Row) (limits : ServerLimits) (transport : Transport) → HasLimits rows limits
     → ReadsTransport rows limits transport → HasWorkers transport
 workers_within rows limits Stdio has reads = tt
 workers_within rows limits (Network network) has reads =
@@ -285,13 +286,13 @@ options_within rows options reads =
     }
 
 -- a transport that is read is one
-has_transport : (rows : List Row) (limits : Limits) (transport : Transport) → ReadsTransport rows limits transport
+has_transport : (rows : List Row) (limits : ServerLimits) (transport : Transport) → ReadsTransport rows limits transport
     → AsksStdio rows true ⊎ NamesAddress rows
 has_transport rows limits Stdio reads = inl reads.0
 has_transport rows limits (Network network) reads = inr reads.1
 
 -- and so is what refuses them
-pub refuses_options : (words : List Text) (m : ArgMatches) (limits : Limits) (transport : Transport) (exit : Exit)
+pub refuses_options : (words : List Text) (m : ArgMatches) (limits : ServerLimits) (transport : Transport) (exit : Exit)
     → IsParsedFrom words m → IsTaken words → ReadsTransport (rows_of (found_of m)) limits transport
     → IsRefusal (rows_of (found_of m)) exit → Refuses words exit
 refuses_options words m limits transport (Exports e) parsed is_taken reads refused = (

@@ -11,8 +11,8 @@ use Rattle.nfs_server.proofs.AnsweredLinesLemmas.{hears_read, stands_first}
 use Rattle.nfs_server.specs.Control.{Controls, DialogueValue, EndsBy, Finishes, Hears, SendsAll, Stands, Streams}
 use Rattle.nfs_server.specs.Control.{nothing_said}
 use Rattle.nfs_server.specs.declared.controlling.Applied.{Applied}
-use Rattle.nfs_server.specs.declared.controlling.Ended.{Ended}
-use Rattle.nfs_server.specs.declared.controlling.Ended.TheVariants.{Input, Read, Write}
+use Rattle.nfs_server.specs.declared.controlling.ControlEnd.{ControlEnd}
+use Rattle.nfs_server.specs.declared.controlling.ControlEnd.TheVariants.{Input, Read, Write}
 
 -- so much was read, by so many reads, and all lines of it are answered
 pub record Heard {F : Type 0} (calls : F → List ExportValue → Applied → F → Type 0) (caller : F)
@@ -70,7 +70,7 @@ module _ {F : Type 0} (calls : F → List ExportValue → Applied → F → Type
   }
 
   -- the input has ended
-  pub controls_end : (old new : Streams) (ended : Ended) (dialogue : DialogueValue) (now : F)
+  pub controls_end : (old new : Streams) (ended : ControlEnd) (dialogue : DialogueValue) (now : F)
       (left mid : Option (List ℕ)) (reads : ℕ) →
       Heard calls caller dialogue now old.unread left old.written mid reads → Consumes left new.unread [] →
       IsAtEnd new.unread → new.read_failures ≡ old.read_failures →

@@ -13,7 +13,7 @@ use Rattle.nfs_pool.specs.declared.sent.PoolError.{PoolError}
 use Rattle.nfs_pool.specs.declared.sent.PoolError.TheVariants.{EraFull, Memory}
 use Rattle.nfs_pool.specs.declared.sent.Sent.{Sent}
 use Rattle.nfs_pool.specs.declared.sent.Sent.TheVariants.{Early, Executed, Refused, Repeated, Unanswered}
-use Rattle.nfs_server.specs.declared.network.clerk.Closed.{Closed}
+use Rattle.nfs_server.specs.declared.network.dispatcher.Closed.{Closed}
 
 -- ---- what is told of what came in
 -- the last receipt of the seat is of what came in, and its number above this one

@@ -13,7 +13,7 @@ use Rattle.side_wire.specs.declared.nlm.NlmResult.{NlmResult}
 use Rattle.nfs_schedule.specs.declared.answer.Answer.{Answer}
 use Rattle.nfs_schedule.specs.declared.answer.Answer.TheVariants.{Executed}
 use Rattle.nfs_server.specs.declared.callbacks.CallbackAddress.{CallbackAddress}
-use Rattle.nfs_server.specs.declared.network.clerk.Closed.{Closed}
+use Rattle.nfs_server.specs.declared.network.dispatcher.Closed.{Closed}
 use Rattle.nfs_server.specs.declared.network.messages.Letter.{Letter}
 
 -- the transaction id of the message with this number: its low 32 bits

@@ -25,7 +25,7 @@ use Rattle.nfs_server.specs.ExportTexts.{AreAtFault, AreExports, export_parts}
 use Rattle.nfs_server.specs.Limits.{IsWithin, default_of, name_of}
 use Rattle.nfs_server.specs.declared.limits.Limit.{Limit}
 use Rattle.nfs_server.specs.declared.limits.Limit.TheVariants.{Era, Cache, Workers, Connections}
-use Rattle.nfs_server.specs.declared.limits.Limits.{Limits}
+use Rattle.nfs_server.specs.declared.limits.ServerLimits.{ServerLimits}
 use Rattle.nfs_server.specs.declared.exit.Exit.{Exit}
 use Rattle.nfs_server.specs.declared.exit.Exit.TheVariants.{CommandLine, NoTransport, Exports, Callback, Memory}
 use Rattle.nfs_server.specs.declared.options.Network.{Network as NetworkOptions}
@@ -129,7 +129,7 @@ pub record HasLimit (limit : Limit) (rows : List Row) (value : ℕ) : Type 0 whe
   pub within : IsWithin limit value
 
 -- so are all
-pub record HasLimits (rows : List Row) (limits : Limits) : Type 0 where
+pub record HasLimits (rows : List Row) (limits : ServerLimits) : Type 0 where
   pub era : HasLimit Era rows limits.era_records
   pub capacity : HasLimit Cache rows limits.capacity
   pub workers : HasLimit Workers rows limits.workers
@@ -161,7 +161,7 @@ abbrev pub text_of : Option (String Global) → Option Text
 text_of named = option_map string_bytes named
 
 -- the options of the network
-pub record ReadsNetwork (rows : List Row) (limits : Limits) (network : NetworkOptions) : Type 0 where
+pub record ReadsNetwork (rows : List Row) (limits : ServerLimits) (network : NetworkOptions) : Type 0 where
   pub tcp : text_of network.tcp ≡ first_of (codes "tcp") rows
   pub udp : text_of network.udp ≡ first_of (codes "udp") rows
   pub control : AsksControl rows network.control
@@ -176,7 +176,7 @@ HasWorkers Stdio = Unit {0}
 HasWorkers (Network network) = (1 ≤ network.workers) × (network.workers ≤ 64)
 
 -- standard streams alone, or else the network
-abbrev pub ReadsTransport : List Row → Limits → Transport → Type 0
+abbrev pub ReadsTransport : List Row → ServerLimits → Transport → Type 0
 ReadsTransport rows limits Stdio = AsksStdio rows true × LeavesStdio rows
 ReadsTransport rows limits (Network network) =
     AsksStdio rows false × NamesAddress rows × ReadsNetwork rows limits network
@@ -192,7 +192,7 @@ pub record ReadsOptions (rows : List Row) (options : Options) : Type 0 where
   pub bytes : (number : Option ℕ) × ReadsNumber 64 (one_of (codes "bytes") rows) number
       × (options.bytes ≡ unwrap_or number 1099511627776)
   pub host : options.host ≡ host_of rows
-  pub limits : (limits : Limits) × HasLimits rows limits × (options.era_records ≡ limits.era_records)
+  pub limits : (limits : ServerLimits) × HasLimits rows limits × (options.era_records ≡ limits.era_records)
       × (options.capacity ≡ limits.capacity) × ReadsTransport rows limits options.transport
   pub exports : GivesExports rows options.exports
   pub callbacks : AreCallbacks (callbacks_of rows) options.callbacks.list.items
@@ -218,7 +218,7 @@ IsRefusal rows _ = ⊥
 pub record IsTaken (words : List Text) : Type 0 where
   pub faultless : fault_of nfsd words ≡ []
   pub host : IsHost (host_of (matches_of nfsd words))
-  pub limits : (limits : Limits) × HasLimits (matches_of nfsd words) limits
+  pub limits : (limits : ServerLimits) × HasLimits (matches_of nfsd words) limits
   pub apart : AsksAlone (matches_of nfsd words)
 
 -- the words are taken, and ask for these options

@@ -12,12 +12,12 @@ use Rattle.nfs_streams.specs.Sent.{WritesPart}
 use Rattle.nfs_server.specs.ExportTexts.{AreAtFault, AreExports, Parts, export_parts}
 use Rattle.nfs_server.specs.declared.commands.Taken.{Taken}
 use Rattle.nfs_server.specs.declared.commands.Taken.TheVariants.{Added, Apply, Unknown, NoMemory}
-use Rattle.nfs_server.specs.declared.controlling.Answer.{Answer}
-use Rattle.nfs_server.specs.declared.controlling.Answer.TheVariants as answer
+use Rattle.nfs_server.specs.declared.controlling.ControlAnswer.{ControlAnswer}
+use Rattle.nfs_server.specs.declared.controlling.ControlAnswer.TheVariants as answer
 use Rattle.nfs_server.specs.declared.controlling.Applied.{Applied}
 use Rattle.nfs_server.specs.declared.controlling.Applied.TheVariants.{Executed, Refused}
-use Rattle.nfs_server.specs.declared.controlling.Ended.{Ended}
-use Rattle.nfs_server.specs.declared.controlling.Ended.TheVariants.{Input, Read, Write}
+use Rattle.nfs_server.specs.declared.controlling.ControlEnd.{ControlEnd}
+use Rattle.nfs_server.specs.declared.controlling.ControlEnd.TheVariants.{Input, Read, Write}
 
 -- ---- one line
 
@@ -41,7 +41,7 @@ Takes list line Unknown more =
 
 -- ---- what is answered
 
-abbrev pub bytes_of : Answer → List ℕ
+abbrev pub bytes_of : ControlAnswer → List ℕ
 bytes_of answer.Silent = []
 bytes_of answer.Applied = codes "applied\n"
 bytes_of answer.OutOfMemory = codes "refused: out of memory\n"
@@ -55,7 +55,7 @@ IsRefusal e bytes =
     (bytes ≡ bytes_of answer.OutOfMemory) ⊎ ((text : List ℕ) × (bytes ≡ codes "refused: " ++ text ++ codes "\n"))
 
 -- what became of exports that were handed in
-abbrev pub answer_to : Applied → Answer
+abbrev pub answer_to : Applied → ControlAnswer
 answer_to Executed = answer.Applied
 answer_to Refused = answer.OutOfMemory
 
@@ -126,14 +126,14 @@ with_rest lines rest = lines ++ rest ∷ []
 
 -- Where the input ended all is answered; where it can't be read any more, but what no newline ends; and where an answer
 -- can't be written, all lines up to that one.
-abbrev pub Answers : {F : Type 0} → (F → List ExportValue → Applied → F → Type 0) → F → Ended →
+abbrev pub Answers : {F : Type 0} → (F → List ExportValue → Applied → F → Type 0) → F → ControlEnd →
     (lines : List (List ℕ)) (rest : List ℕ) (before after : Option (List ℕ)) → Type 0
 Answers calls caller Input lines rest before after = AnswersLines calls caller (with_rest lines rest) before after
 Answers calls caller Read lines rest before after = AnswersLines calls caller lines before after
 Answers calls caller Write lines rest before after = BreaksOff calls caller (with_rest lines rest) before after
 
 -- these bytes were seen, and their lines answered
-pub record Hears {F : Type 0} (calls : F → List ExportValue → Applied → F → Type 0) (caller : F) (ended : Ended)
+pub record Hears {F : Type 0} (calls : F → List ExportValue → Applied → F → Type 0) (caller : F) (ended : ControlEnd)
     (seen : List ℕ) (before after : Option (List ℕ)) : Type 0 where
   pub lines : List (List ℕ)
   pub rest : List ℕ
@@ -155,7 +155,7 @@ pub record SendsAll (old new : Streams) : Type 0 where
   pub sent : old.all_sent ≡ true → new.all_sent ≡ true
 
 -- what ended it, and what was read and not looked at: nothing but where an answer can't be written
-abbrev pub EndsBy : Ended → (seen unseen : List ℕ) (old new : Streams) → Type 0
+abbrev pub EndsBy : ControlEnd → (seen unseen : List ℕ) (old new : Streams) → Type 0
 EndsBy Input seen unseen old new =
     (unseen ≡ []) × IsAtEnd new.unread × (new.read_failures ≡ old.read_failures) × SendsAll old new
 EndsBy Read seen unseen old new =
@@ -166,7 +166,7 @@ EndsBy Write seen unseen old new =
 -- The input was read until it ended, or reading or writing failed, and the lines that were seen are answered, in order.
 pub record Controls {F : Type 0} (calls : F → List ExportValue → Applied → F → Type 0) (caller : F)
     (old new : Streams) : Type 0 where
-  pub ended : Ended
+  pub ended : ControlEnd
   pub seen : List ℕ
   pub unseen : List ℕ
   pub taken : Consumes old.unread new.unread (seen ++ unseen)
@@ -210,7 +210,7 @@ pub record Stands {F : Type 0} (calls : F → List ExportValue → Applied → F
   pub written : Appends before after answers
 
 -- no write failed, or one
-abbrev pub Finishes : Ended → (old new : ℕ) → Type 0
+abbrev pub Finishes : ControlEnd → (old new : ℕ) → Type 0
 Finishes Input old new = new ≡ old
 Finishes Read old new = ⊥
 Finishes Write old new = new ≡ one_more old

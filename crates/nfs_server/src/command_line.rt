@@ -18,7 +18,7 @@ ghost use Rattle.nfs_engine.specs.Hosts.{IsHost};
 use crate::callbacks::Callbacks;
 use crate::exit::Exit;
 use crate::exporting::export_text;
-use crate::limits::{Limit, Limits};
+use crate::limits::{Limit, ServerLimits};
 use crate::options::{Network, Options, Transport};
 use crate::patience::Patience;
 use bytes::Bytes;
@@ -315,11 +315,11 @@ fn named_limits(
     alloc: Global,
     command: &mut Command<'_>,
     matches: &ArgMatches<'_>,
-) -> Result<Limits, Exit>
+) -> Result<ServerLimits, Exit>
     ensures { MatchResult result (HasLimits (rows_of (found_of matches.now)))
         (IsLimitRefusal (rows_of (found_of matches.now))) }
 {
-    Ok(Limits {
+    Ok(ServerLimits {
         era_records: named_limit(alloc, command, matches, Limit::Era)?,
         capacity: named_limit(alloc, command, matches, Limit::Cache)?,
         workers: named_limit(alloc, command, matches, Limit::Workers)?,
@@ -358,7 +358,7 @@ fn named_transport(
     alloc: Global,
     command: &mut Command<'_>,
     matches: &ArgMatches<'_>,
-    limits: &Limits,
+    limits: &ServerLimits,
 ) -> Result<Transport, Exit>
     ensures { MatchResult result (ReadsTransport (rows_of (found_of matches.now)) limits.now)
         (IsTransportRefusal (rows_of (found_of matches.now))) }
@@ -405,7 +405,7 @@ fn names_address(matches: &ArgMatches<'_>) -> bool
 fn named_network(
     alloc: Global,
     matches: &ArgMatches<'_>,
-    limits: &Limits,
+    limits: &ServerLimits,
 ) -> Result<Network, AllocError>
     ensures { IfOk result (ReadsNetwork (rows_of (found_of matches.now)) limits.now) }
 {
@@ -436,7 +436,7 @@ fn read_options(
     alloc: Global,
     matches: &ArgMatches<'_>,
     host: Host,
-    limits: &Limits,
+    limits: &ServerLimits,
     transport: Transport,
 ) -> Result<Options, Exit>
     requires host { host ≡ host_of (rows_of (found_of matches.now)) }

@@ -39,7 +39,7 @@ pub enum Applied {
 
 /// What ended it.
 #[derive(Clone, Copy)]
-pub(crate) enum Ended {
+pub(crate) enum ControlEnd {
     /// The input's end.
     Input,
     /// A read that failed, or 2^64 - 1 reads.
@@ -50,7 +50,7 @@ pub(crate) enum Ended {
 
 /// What a line is answered.
 #[derive(Drop)]
-pub(crate) enum Answer {
+pub(crate) enum ControlAnswer {
     /// Nothing.
     Silent,
     Applied,
@@ -60,16 +60,16 @@ pub(crate) enum Answer {
     Unknown,
 }
 
-impl Answer {
+impl ControlAnswer {
     fn bytes(&self) -> &[u8]
         ensures { result.now ≡ bytes_of self.now }
     {
         match self {
-            Answer::Silent => &[],
-            Answer::Applied => APPLIED_LINE,
-            Answer::OutOfMemory => OUT_OF_MEMORY_LINE,
-            Answer::Refused(line) => line.as_slice(),
-            Answer::Unknown => UNKNOWN_LINE,
+            ControlAnswer::Silent => &[],
+            ControlAnswer::Applied => APPLIED_LINE,
+            ControlAnswer::OutOfMemory => OUT_OF_MEMORY_LINE,
+            ControlAnswer::Refused(line) => line.as_slice(),
+            ControlAnswer::Unknown => UNKNOWN_LINE,
         }
     }
 }
@@ -141,7 +141,7 @@ impl Dialogue {
         reader: &mut I,
         writer: &mut O,
         apply: &mut F,
-    ) -> Ended
+    ) -> ControlEnd
         requires callable { F.IsAlwaysCallable apply.old }
         requires first { self.old ≡ nothing_said }
         ensures { Controls F.step apply.old
@@ -163,16 +163,16 @@ impl Dialogue {
         let mut buffer = [0u8; PIECE_SIZE];
         'pieces: for _reads in 0..u64::MAX {
             let Ok(count) = reader.read(&mut buffer) else {
-                return Ended::Read;
+                return ControlEnd::Read;
             };
             if count == 0 {
                 return self.finish(alloc, writer, apply);
             }
             let Ok(()) = self.take_in(alloc, &buffer[..count], writer, apply) else {
-                return Ended::Write;
+                return ControlEnd::Write;
             };
         }
-        Ended::Read
+        ControlEnd::Read
     }
 
     /// Takes a piece of the input in, and answers the lines that end in it.
@@ -191,7 +191,7 @@ impl Dialogue {
         ensures err { OnErr result ((caller : F) (seen : List ℕ) (before : Option (List ℕ)) →
             Stands F.step caller seen self.old apply.old before (O.written writer.old) →
             (part : List ℕ) × (unseen : List ℕ) × (piece.now ≡ part ++ unseen) ×
-            Hears F.step caller Ended.Write (seen ++ part) before (O.written writer.new)) }
+            Hears F.step caller ControlEnd.Write (seen ++ part) before (O.written writer.new)) }
         ensures sent { OnOk result (O.all_sent writer.old ≡ true → O.all_sent writer.new ≡ true) }
         ensures fine { OnOk result (O.Counts.failures writer.new ≡ O.Counts.failures writer.old) }
         ensures failed { OnErr result (O.Counts.failures writer.new ≡ one_more (O.Counts.failures writer.old)) }
@@ -217,7 +217,7 @@ impl Dialogue {
             Stands F.step caller (seen ++ byte ∷ []) self.new apply.new before (O.written writer.new)) }
         ensures err { OnErr result ((caller : F) (seen : List ℕ) (before : Option (List ℕ)) →
             Stands F.step caller seen self.old apply.old before (O.written writer.old) →
-            Hears F.step caller Ended.Write (seen ++ byte ∷ []) before (O.written writer.new)) }
+            Hears F.step caller ControlEnd.Write (seen ++ byte ∷ []) before (O.written writer.new)) }
         ensures sent { OnOk result (O.all_sent writer.old ≡ true → O.all_sent writer.new ≡ true) }
         ensures fine { OnOk result (O.Counts.failures writer.new ≡ O.Counts.failures writer.old) }
         ensures failed { OnErr result (O.Counts.failures writer.new ≡ one_more (O.Counts.failures writer.old)) }
@@ -235,20 +235,20 @@ impl Dialogue {
         alloc: Global,
         writer: &mut O,
         apply: &mut F,
-    ) -> Ended
+    ) -> ControlEnd
         requires { F.IsAlwaysCallable apply.old }
         ensures hears { (caller : F) (seen : List ℕ) (before : Option (List ℕ)) →
             Stands F.step caller seen self.old apply.old before (O.written writer.old) →
             Hears F.step caller result seen before (O.written writer.new) }
-        ensures sent { result ≡ Ended.Input → O.all_sent writer.old ≡ true → O.all_sent writer.new ≡ true }
+        ensures sent { result ≡ ControlEnd.Input → O.all_sent writer.old ≡ true → O.all_sent writer.new ≡ true }
         ensures counts { Finishes result (O.Counts.failures writer.old) (O.Counts.failures writer.new) }
     {
         if self.is_at_start() {
-            return Ended::Input;
+            return ControlEnd::Input;
         }
         match self.answer(alloc, writer, apply) {
-            Ok(()) => Ended::Input,
-            Err(_) => Ended::Write,
+            Ok(()) => ControlEnd::Input,
+            Err(_) => ControlEnd::Write,
         }
     }
 
@@ -305,7 +305,11 @@ impl Dialogue {
     }
 
     /// What the line is answered.
-    fn answer_of<F: FnMut(Exports) -> Applied>(&mut self, alloc: Global, apply: &mut F) -> Answer
+    fn answer_of<F: FnMut(Exports) -> Applied>(
+        &mut self,
+        alloc: Global,
+        apply: &mut F,
+    ) -> ControlAnswer
         requires { F.IsAlwaysCallable apply.old }
         ensures callable { F.IsAlwaysCallable apply.new }
         ensures answers { (line : List ℕ) → HoldsLine self.old.held line →
@@ -313,22 +317,22 @@ impl Dialogue {
     {
         match &self.line {
             Some(line) => tell(alloc, self.commands.take(alloc, line.as_slice()), apply),
-            None => Answer::OutOfMemory,
+            None => ControlAnswer::OutOfMemory,
         }
     }
 }
 
 /// Tells what a line came to. Exports are handed in.
-fn tell<F: FnMut(Exports) -> Applied>(alloc: Global, taken: Taken, apply: &mut F) -> Answer
+fn tell<F: FnMut(Exports) -> Applied>(alloc: Global, taken: Taken, apply: &mut F) -> ControlAnswer
     requires { F.IsAlwaysCallable apply.old }
     ensures callable { F.IsAlwaysCallable apply.new }
     ensures tells { Tells F.step apply.old taken (bytes_of result) apply.new }
 {
     match taken {
-        Taken::Added => Answer::Silent,
+        Taken::Added => ControlAnswer::Silent,
         Taken::Apply(exports) => hand_in(alloc, exports, apply),
-        Taken::Unknown => Answer::Unknown,
-        Taken::NoMemory => Answer::OutOfMemory,
+        Taken::Unknown => ControlAnswer::Unknown,
+        Taken::NoMemory => ControlAnswer::OutOfMemory,
     }
 }
 
@@ -337,30 +341,30 @@ fn hand_in<F: FnMut(Exports) -> Applied>(
     alloc: Global,
     exports: Result<Exports, ExportError>,
     apply: &mut F,
-) -> Answer
+) -> ControlAnswer
     requires { F.IsAlwaysCallable apply.old }
     ensures callable { F.IsAlwaysCallable apply.new }
     ensures tells { Tells F.step apply.old (Taken.Apply exports) (bytes_of result) apply.new }
 {
     match exports {
         Ok(exports) => match apply(exports) {
-            Applied::Executed => Answer::Applied,
-            Applied::Refused => Answer::OutOfMemory,
+            Applied::Executed => ControlAnswer::Applied,
+            Applied::Refused => ControlAnswer::OutOfMemory,
         },
         Err(error) => refusal(alloc, &error),
     }
 }
 
 /// The answer where exports are refused.
-fn refusal(alloc: Global, error: &ExportError) -> Answer
+fn refusal(alloc: Global, error: &ExportError) -> ControlAnswer
     ensures { IsRefusal error.now (bytes_of result) }
 {
     if let ExportError::Memory = error {
-        return Answer::OutOfMemory;
+        return ControlAnswer::OutOfMemory;
     }
     match refusal_line(alloc, error) {
-        Ok(line) => Answer::Refused(line),
-        Err(_) => Answer::OutOfMemory,
+        Ok(line) => ControlAnswer::Refused(line),
+        Err(_) => ControlAnswer::OutOfMemory,
     }
 }
 

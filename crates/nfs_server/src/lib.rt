@@ -6,23 +6,23 @@
 //! from many threads.
 #![tactic(auto)]
 
-pub mod callbacks;
-pub mod clock;
-pub mod command_line;
-pub mod commands;
-pub mod controlling;
-pub mod exit;
+mod callbacks;
+mod clock;
+mod command_line;
+mod commands;
+mod controlling;
+mod exit;
 mod exporting;
-pub mod keys;
-pub mod limits;
+mod keys;
+mod limits;
 mod marks;
-pub mod network;
-pub mod options;
-pub mod patience;
-pub mod serving;
-pub mod started;
-pub mod stdio;
-pub mod warnings;
+mod network;
+mod options;
+mod patience;
+mod serving;
+mod started;
+mod stdio;
+mod warnings;
 
 pub use callbacks::{CallbackAddress, CallbackError, Callbacks};
 pub use clock::{FixedClock, Latest, MachineClock, ServerClock, start_number};
@@ -31,9 +31,9 @@ pub use commands::{Commands, Taken};
 pub use controlling::{Applied, control};
 pub use exit::Exit;
 pub use keys::name_key;
-pub use limits::{Limit, Limits};
+pub use limits::{Limit, ServerLimits};
 pub use network::{
-    Counters, Event, Nobody, Operator, Sockets, serve_network, serve_operated, serve_sockets,
+    CountedEvent, Counters, Nobody, Operator, Sockets, serve_network, serve_operated, serve_sockets,
 };
 pub use nfs_engine::Host;
 pub use nfs_streams::{Served, StreamFault, serve_stream};

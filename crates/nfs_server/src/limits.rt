@@ -55,7 +55,7 @@ impl Limit {
 
 /// The numbers that a command line gives.
 #[derive(Clone, Copy, Drop)]
-pub struct Limits {
+pub struct ServerLimits {
     /// At how many records an era is full.
     pub era_records: u64,
     /// How many replies are kept of each host.

@@ -1,25 +1,25 @@
 //! Serving on the network: connections over TCP and datagrams over UDP, by threads over one pool.
 //!
-//! The thread that read a connection's bytes answers their records itself, on a place that it takes for them, and the
+//! The thread that read a connection's bytes answers their records itself, on a permit that it takes for them, and the
 //! answers leave together. Workers answer datagrams. `docs/ARCHITECTURE.md` tells of the threads.
 
-mod attendance;
-mod bell;
-mod clerk;
+mod connection_count;
 mod counters;
+mod dispatcher;
 mod failures;
 mod jobs;
-mod line;
 mod listening;
 mod mailbox;
 mod messages;
 mod operating;
-mod places;
+mod peer;
+mod permits;
 mod queue;
 mod reading;
 mod reporting;
 mod sending;
 mod sorting;
+mod wakeup;
 
 ghost use Rattle.std.specs.Prelude.{◌≡◌, ◌≤◌, []};
 ghost use Rattle.nfs_engine.specs.Opening.{IsLimit};
@@ -28,17 +28,17 @@ ghost use Rattle.nfs_server.specs.CommandLine.{AreWithin};
 use crate::callbacks::Callbacks;
 use crate::clock::{ServerClock, start_number};
 use crate::exit::Exit;
-use crate::network::attendance::Attendance;
-pub use crate::network::counters::{Counters, Event};
+use crate::network::connection_count::ConnectionCount;
+pub use crate::network::counters::{CountedEvent, Counters};
 use crate::network::failures::Failures;
 use crate::network::jobs::{JOBS, Job};
 pub use crate::network::listening::Sockets;
 use crate::network::listening::{DATAGRAM_SIZE, Service, let_in, take_datagrams};
 use crate::network::mailbox::Mailbox;
 pub use crate::network::operating::{Nobody, Operator};
-use crate::network::places::{Gathering, Keeper, Places, hand_out};
+use crate::network::permits::{EraThread, Gathering, Permits, hand_out};
 use crate::network::reporting::{Reporter, tell};
-use crate::network::sending::Sender;
+use crate::network::sending::CallbackThread;
 use crate::network::sorting::Sorter;
 use crate::options::{Network, Options, Transport};
 use crate::started::open;
@@ -55,8 +55,8 @@ use std::sync::{Arc, Wait};
 use std::thread;
 use std::thread::Threads;
 
-/// For how many connections there are places beside those of the workers; more connections share them.
-const OWN_PLACES: u64 = 64;
+/// For how many connections there are permits beside those of the workers; more connections share them.
+const OWN_PERMITS: u64 = 64;
 
 /// Serves on the network as the options say: until so many connections have come and ended, or for ever. Where they ask
 /// for it, the runtime is the operator. Each era is compared when it is over, the last one too.
@@ -64,7 +64,7 @@ const OWN_PLACES: u64 = 64;
 /// # Errors
 ///
 /// `CannotListen`; `Memory` where there is none to begin; `NoTransport` where the options name no address; `Receipts`
-/// where a record has no receipt. A place that was lost is waited for at the end of its era, for good.
+/// where a record has no receipt. A permit that was lost is waited for at the end of its era, for good.
 pub fn serve_network<
     R: AllocGlobal
         + Net<Listener = TcpListener, Stream = TcpStream>
@@ -193,7 +193,7 @@ fn serve_from<
     let alloc = rt.alloc();
     let begin = config.moment;
     let engine = open(alloc, config)?;
-    let count = network.workers + network.connections.min(OWN_PLACES);
+    let count = network.workers + network.connections.min(OWN_PERMITS);
     let blank = Blank::new(count);
     serve_pool::<Brand, R, O>(
         rt,
@@ -249,11 +249,13 @@ fn serve_pool<
         return Err(Exit::Memory);
     };
     let counters = Counters::new(alloc)?;
-    let (places, keeper, seats, room) = open_places(&rt, alloc, pool, seats, count, &counters)?;
+    let (permits, era_thread, seats, room) = open_permits(
+        &rt, alloc, pool, seats, count, &counters,
+    )?;
     let (jobs, queue) = bounded(alloc, JOBS)?;
     let service = Service::new(
         alloc,
-        places,
+        permits,
         jobs,
         Arc::try_clone(&counters)?,
         clock,
@@ -267,29 +269,29 @@ fn serve_pool<
         start_operator(rt, alloc, &service, operator)?;
     }
     attend(rt, alloc, sockets, network, service)?;
-    let ended = keeper.work(&rt, alloc, seats, room);
+    let ended = era_thread.work(&rt, alloc, seats, room);
     if stats > 0 {
         tell(&rt, alloc, &counters);
     }
     ended
 }
 
-/// A place for each seat, and what ends eras, with room for all seats and to end an era in.
-fn open_places<L: Ledger + Naming, R: Wait>(
+/// A permit for each seat, and what ends eras, with room for all seats and to end an era in.
+fn open_permits<L: Ledger + Naming, R: Wait>(
     rt: &R,
     alloc: Global,
     pool: Pool<L>,
     seats: Vec<Seat<L>>,
     count: usize,
     counters: &Arc<Counters>,
-) -> Result<(Places<L>, Keeper<L>, Vec<Seat<L>>, EraRoom), AllocError> {
+) -> Result<(Permits<L>, EraThread<L>, Vec<Seat<L>>, EraRoom), AllocError> {
     let (back, free) = bounded(alloc, count)?;
     let (full, filled) = bounded(alloc, count)?;
     let room = EraRoom::new(alloc, count)?;
     let pool = Arc::new(alloc, pool)?;
     let seats = hand_out(rt, &back, pool, seats, 0, false);
     let gathering = Arc::new(alloc, Gathering::new())?;
-    let keeper = Keeper {
+    let era_thread = EraThread {
         free: free.clone()?,
         back: back.clone()?,
         full: filled,
@@ -297,8 +299,8 @@ fn open_places<L: Ledger + Naming, R: Wait>(
         gathering: Arc::try_clone(&gathering)?,
         counters: Arc::try_clone(counters)?,
     };
-    let places = Places::new(free, back, full, gathering);
-    Ok((places, keeper, seats, room))
+    let permits = Permits::new(free, back, full, gathering);
+    Ok((permits, era_thread, seats, room))
 }
 
 /// Starts the thread that says how the server is.
@@ -328,9 +330,9 @@ fn start_workers<
     count: u64,
 ) -> Result<(), AllocError> {
     for _ in 0..count {
-        let mut clerk = service.clerk(rt)?;
+        let mut dispatcher = service.dispatcher(rt)?;
         let jobs = queue.clone()?;
-        thread::spawn(&rt, move || clerk.work(&rt, alloc, &jobs))?;
+        thread::spawn(&rt, move || dispatcher.work(&rt, alloc, &jobs))?;
     }
     Ok(())
 }
@@ -357,7 +359,7 @@ fn start_senders<
         mailboxes.push(mailbox)?;
     }
     let sorter = Sorter {
-        clerk: service.clerk(rt)?,
+        dispatcher: service.dispatcher(rt)?,
         callbacks,
         mailboxes,
     };
@@ -384,8 +386,8 @@ fn start_sender<
     callbacks: &Arc<Callbacks>,
     mailbox: &Arc<Mailbox>,
 ) -> Result<(), AllocError> {
-    let mut sender = Sender {
-        clerk: service.clerk(rt)?,
+    let mut sender = CallbackThread {
+        dispatcher: service.dispatcher(rt)?,
         callbacks: Arc::try_clone(callbacks)?,
         mailbox: Arc::try_clone(mailbox)?,
         failures: Failures::new(alloc, 1)?,
@@ -400,9 +402,9 @@ fn start_operator<
     R: Threads + Wait + Clock + Copy + Drop + Send + Sync + 'static,
     O: Operator + Drop + Send + 'static,
 >(rt: R, alloc: Global, service: &Service<L>, operator: O) -> Result<(), AllocError> {
-    let mut clerk = service.clerk(rt)?;
+    let mut dispatcher = service.dispatcher(rt)?;
     thread::spawn(&rt, move || {
-        operator.listen(alloc, |exports| clerk.replace(&rt, alloc, exports));
+        operator.listen(alloc, |exports| dispatcher.replace(&rt, alloc, exports));
     })?;
     Ok(())
 }
@@ -442,11 +444,11 @@ fn start_connections<
     network: Network,
     service: Service<L>,
 ) -> Result<(), AllocError> {
-    let attendance = Arc::new(alloc, Attendance::new())?;
+    let connection_count = Arc::new(alloc, ConnectionCount::new())?;
     thread::spawn(&rt, move || {
-        let_in(&rt, alloc, &listener, &network, &service, &attendance);
-        attendance.wait(&rt);
-        service.places.finish(&rt);
+        let_in(&rt, alloc, &listener, &network, &service, &connection_count);
+        connection_count.wait(&rt);
+        service.permits.finish(&rt);
     })?;
     Ok(())
 }

@@ -11,7 +11,7 @@ mod marks;
 mod notes;
 mod stamp;
 
-pub use log::{Known, Log, Naming, Opened};
+pub use log::{KnownLog, Log, Naming, Opened};
 pub use marks::{Marks, is_large};
 pub use notes::Notes;
 pub use stamp::Stamp;

@@ -16,11 +16,11 @@ const TRIES: usize = 64;
 const END: u64 = 1 << 62;
 
 /// What a commit writes, as an entry of the log. No value of it is ever made.
-pub struct Written {
+pub struct LogEntry {
     writes: Vec<Write>,
 }
 
-impl Model for Written {
+impl Model for LogEntry {
     ghost use Rattle.std.specs.Prelude.{map};
     ghost use Rattle.nfs_objects.specs.Values.{write_value};
     ghost use Rattle.nfs_stamps.specs.Marking.{Writes};
@@ -33,7 +33,7 @@ impl Model for Written {
 /// The rule of the log: its word is its length.
 pub struct Law;
 
-impl Rule<Written, u64> for Law {
+impl Rule<LogEntry, u64> for Law {
     ghost use Rattle.std.specs.Prelude.{[]};
     ghost use base.Fml.{ftrue};
     ghost use Rattle.nfs_stamps.specs.Rules.{IsKept};
@@ -54,7 +54,7 @@ impl Rule<Written, u64> for Law {
 /// Callers trade nothing.
 pub struct Nothing;
 
-impl Gain<Written, u64> for Nothing {
+impl Gain<LogEntry, u64> for Nothing {
     ghost use base.Fml.{ftrue};
 
     ghost after = { λ names about answer. ftrue };
@@ -63,7 +63,7 @@ impl Gain<Written, u64> for Nothing {
 /// A step that looks.
 pub struct Look;
 
-impl Play<Written, u64> for Look {
+impl Play<LogEntry, u64> for Look {
     ghost use Rattle.nfs_stamps.specs.Rules.{Looks};
 
     ghost then = { Looks };
@@ -72,14 +72,14 @@ impl Play<Written, u64> for Look {
 /// A step that adds what a commit writes.
 pub struct Add;
 
-impl Play<Written, u64> for Add {
+impl Play<LogEntry, u64> for Add {
     ghost use Rattle.nfs_stamps.specs.Rules.{Adds};
 
     ghost then = { Adds };
 }
 
 /// What a step asks for: the writes.
-impl<'a> Plain<&'a [Write], Written, u64> for Add {
+impl<'a> Plain<&'a [Write], LogEntry, u64> for Add {
     ghost use Rattle.std.specs.Prelude.{None, map};
     ghost use Rattle.nfs_objects.specs.Values.{write_value};
 
@@ -102,8 +102,8 @@ impl Naming for Brand {
 /// An empty log, which has no name yet.
 #[derive(Drop)]
 pub struct Opened {
-    head: Word<Written, u64, Law>,
-    seen: Seen<Written, u64, Law>,
+    head: Word<LogEntry, u64, Law>,
+    seen: Seen<LogEntry, u64, Law>,
     pub ghost head_is: { head ≡ head_of seen.book },
 }
 
@@ -133,8 +133,8 @@ impl Opened {
 /// The log: one word, which all threads share.
 #[derive(Drop)]
 pub struct Log<J: Naming> {
-    head: Word<Written, u64, Law>,
-    seen: Seen<Written, u64, Law>,
+    head: Word<LogEntry, u64, Law>,
+    seen: Seen<LogEntry, u64, Law>,
     of: PhantomData<J>,
     ghost head_is: { head ≡ head_of J.book },
     ghost seen_is: { seen.book ≡ J.book },
@@ -142,25 +142,25 @@ pub struct Log<J: Naming> {
 
 /// What is known of a log: which commit got which number. It takes no bytes.
 #[derive(Drop)]
-pub struct Known<J: Naming> {
-    pub(crate) seen: Seen<Written, u64, Law>,
+pub struct KnownLog<J: Naming> {
+    pub(crate) seen: Seen<LogEntry, u64, Law>,
     of: PhantomData<J>,
     pub ghost seen_is: { seen.book ≡ J.book },
 }
 
-impl<J: Naming> Known<J> {
+impl<J: Naming> KnownLog<J> {
     /// A copy.
-    pub(crate) fn again(&self) -> Known<J>
+    pub(crate) fn again(&self) -> KnownLog<J>
         ensures { result.seen ≡ self.now.seen }
     {
-        Known {
+        KnownLog {
             seen: self.seen.again(),
             of: PhantomData,
         }
     }
 
     /// What two know under one number is one.
-    pub(crate) fn agree(&self, other: &Known<J>, number: u64)
+    pub(crate) fn agree(&self, other: &KnownLog<J>, number: u64)
         ensures { (x y : Writes) → slice_get self.now.seen.log number ≡ Some x
             → slice_get other.now.seen.log number ≡ Some y → x ≡ y }
     {
@@ -172,7 +172,7 @@ impl<J: Naming> Known<J> {
 impl<J: Naming> Log<J> {
     /// Gives a commit with these writes a number that no other commit of this log has. None where others got theirs at
     /// the same time, again and again, or none is left.
-    pub(crate) fn number(&self, writes: &[Write]) -> Option<(u64, Known<J>)>
+    pub(crate) fn number(&self, writes: &[Write]) -> Option<(u64, KnownLog<J>)>
         ensures { IfSome result (λ r. slice_get r.1.seen.log r.0 ≡ Some (map write_value writes.now)) }
     {
         for _ in 0..TRIES {
@@ -184,18 +184,18 @@ impl<J: Naming> Log<J> {
     }
 
     /// The same in one try.
-    fn try_number(&self, writes: &[Write]) -> Option<(u64, Known<J>)>
+    fn try_number(&self, writes: &[Write]) -> Option<(u64, KnownLog<J>)>
         ensures { IfSome result (λ r. slice_get r.1.seen.log r.0 ≡ Some (map write_value writes.now)) }
     {
         let mut seen = self.seen.again();
-        let mut look: Offer<Written, u64, Law, Nothing> = seen.plain::<Nothing, &[Write], Add>(
+        let mut look: Offer<LogEntry, u64, Law, Nothing> = seen.plain::<Nothing, &[Write], Add>(
             &writes,
         );
         let next = self.head.load::<Look, Nothing>(&mut seen, &mut look);
         if next >= END {
             return None;
         }
-        let mut offer: Offer<Written, u64, Law, Nothing> = seen.plain::<Nothing, &[Write], Add>(
+        let mut offer: Offer<LogEntry, u64, Law, Nothing> = seen.plain::<Nothing, &[Write], Add>(
             &writes,
         );
         let mut pen = seen.no_pen();
@@ -205,7 +205,7 @@ impl<J: Naming> Log<J> {
         if found != next {
             return None;
         }
-        let known = Known {
+        let known = KnownLog {
             seen,
             of: PhantomData,
         };

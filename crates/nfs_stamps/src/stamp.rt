@@ -3,7 +3,7 @@
 ghost use Rattle.std.specs.Prelude.{◌≡◌, IfSome, map, true};
 ghost use Rattle.nfs_objects.specs.Values.{write_value};
 
-use crate::log::{Known, Log, Naming};
+use crate::log::{KnownLog, Log, Naming};
 use nfs_objects::Write;
 use std::marker::Model;
 
@@ -11,7 +11,7 @@ use std::marker::Model;
 #[derive(Drop)]
 pub struct Stamp<J: Naming> {
     number: u64,
-    known: Known<J>,
+    known: KnownLog<J>,
 }
 
 impl<J: Naming> Model for Stamp<J> {

@@ -43,7 +43,7 @@ use Rattle.nfs_schedule.specs.Turns.{KeepsStore}
 use Rattle.nfs_schedule.specs.Worlds.{IsAtRest}
 use Rattle.nfs_schedule.specs.declared.answer.Answer.{Answer}
 use Rattle.nfs_schedule.specs.declared.answer.Answer.TheVariants as answers
-use Rattle.nfs_schedule.specs.declared.answer.Declined.{Declined}
+use Rattle.nfs_schedule.specs.declared.answer.RefusalReply.{RefusalReply}
 
 -- ---- nothing is executed
 -- store and records stay
@@ -178,7 +178,7 @@ asks_of : (received : Received) (reading : Reading) (asked : Asked) → IsArriva
     reading ≡ readings.Asks asked → IsAsked received.bytes asked
 asks_of received reading asked is asks = subst (λ (r : Reading). IsReading (FromHost received) r) asks is.reading
 
-refused_answered : (e f : EngineValue) (received : Received) (reading : Reading) (declined : Declined)
+refused_answered : (e f : EngineValue) (received : Received) (reading : Reading) (declined : RefusalReply)
     (bytes : Vec ℕ Global) → IsArrival (from received reading) →
     Answers e f (from received reading) (answers.Refused declined) → declined.answer ≡ Some bytes →
     IsAnswered (FromHost received) e f bytes.items
@@ -186,7 +186,7 @@ refused_answered e f received reading declined bytes is x some =
     refused_bytes received x.0 (asks_of received reading x.0 is x.1) e f bytes.items x.2
     (rw some at x.3.1)
 
-refused_nothing : (e f : EngineValue) (a : ArrivalValue) (declined : Declined) →
+refused_nothing : (e f : EngineValue) (a : ArrivalValue) (declined : RefusalReply) →
     Answers e f a (answers.Refused declined) → ExecutesNothing e f
 refused_nothing e f a declined x = keeps_nothing e f x.2
 
@@ -392,7 +392,8 @@ answered_after e f g arrival answer nothing a = record {
 }
 
 -- a refusal that was told
-pub told_refusal : (e f : EngineValue) (a : ArrivalValue) (declined : Declined) → IsRecord a.received → IsArrival a →
+pub told_refusal : (e f : EngineValue) (a : ArrivalValue) (declined : RefusalReply) → IsRecord a.received
+    → IsArrival a →
     HasEraRoom e → Answers e f a (answers.Refused declined) → (r : Result (Option Answer) AllocError) →
     IfOk r (λ answer. (answer ≡ Some (answers.Refused declined)) × IsSome declined.answer) →
     IfOk r (λ answer. IsAnswered a.received e f (bytes_of answer))
@@ -402,12 +403,12 @@ told_refusal e f a declined was is room x (Ok answer) told =
 told_refusal e f a declined was is room x (Err error) told = tt
 
 -- nothing was executed where it was not told
-pub untold_nothing : (e f : EngineValue) (a : ArrivalValue) (declined : Declined) →
+pub untold_nothing : (e f : EngineValue) (a : ArrivalValue) (declined : RefusalReply) →
     Answers e f a (answers.Refused declined) → (r : Result (Option Answer) AllocError) → OnErr r (ExecutesNothing e f)
 untold_nothing e f a declined x (Ok answer) = tt
 untold_nothing e f a declined x (Err error) = refused_nothing e f a declined x
 
-pub told_only : (answer : Answer) → ((declined : Declined) → answer ≢ answers.Refused declined) → IsTold answer
+pub told_only : (answer : Answer) → ((declined : RefusalReply) → answer ≢ answers.Refused declined) → IsTold answer
 told_only (answers.Executed receipt) other = tt
 told_only (answers.Repeated kept) other = tt
 told_only (answers.Refused declined) other = absurd (other declined refl)

@@ -10,8 +10,8 @@ use Rattle.nfs_engine.specs.Engine.{EngineValue}
 use Rattle.nfs_streams.specs.Served.{EndsBy, AreServed, IsFaultOf, EndsByFault, LeavesOut, ServesAll, ServesFront}
 use Rattle.nfs_streams.specs.Taken.{FollowsOn, LeavesPiece, TakesPiece, TakesIn}
 use Rattle.nfs_streams.specs.declared.serving.Served.{Served}
-use Rattle.nfs_streams.specs.declared.serving.Taken.{Taken}
-use Rattle.nfs_streams.specs.declared.serving.Taken.TheVariants.{End, Piece, Refused}
+use Rattle.nfs_streams.specs.declared.serving.PieceTaken.{PieceTaken}
+use Rattle.nfs_streams.specs.declared.serving.PieceTaken.TheVariants.{End, Piece, Refused}
 use Rattle.nfs_streams.specs.declared.serving.StreamFault.{StreamFault}
 use Rattle.nfs_streams.specs.declared.serving.StreamFault.TheVariants.{Read, Write, TooLarge, Memory}
 use Rattle.nfs_streams.specs.declared.serving.TheConstants.{BUFFER_SIZE}
@@ -47,14 +47,14 @@ piece_of Write left later keeps = ([], Consumes-kept left left later [] (Consume
 piece_of TooLarge left later keeps = ([], Consumes-kept left left later [] (Consumes-nil left) keeps, refl)
 piece_of Memory left later (piece, most, read) = (piece, read, inr (most, refl))
 
-pub more_of : (taken : Taken) (old new : RecordsValue) (piece : List ℕ) (left : Option (List ℕ)) → taken ≢ End
+pub more_of : (taken : PieceTaken) (old new : RecordsValue) (piece : List ℕ) (left : Option (List ℕ)) → taken ≢ End
     → TakesIn taken old new piece left → (0 < length piece) × FollowsOn old new piece
 more_of End old new piece left more t = absurd (more refl)
 more_of Piece old new piece left more t = (t.0, t.1)
 more_of Refused old new piece left more t = (t.0, t.1)
 
 -- a piece that is not refused makes no record too large
-pub taken_within : (taken : Taken) (old new : RecordsValue) (piece : List ℕ) (left : Option (List ℕ)) → taken ≢ End
+pub taken_within : (taken : PieceTaken) (old new : RecordsValue) (piece : List ℕ) (left : Option (List ℕ)) → taken ≢ End
     → taken ≢ Refused → TakesIn taken old new piece left
     → (stream : List ℕ) (given : List (List ℕ)) → Holds old stream given → IsTooLarge (stream ++ piece) → ⊥
 taken_within End old new piece left more other t = absurd (more refl)
@@ -104,7 +104,7 @@ module _ {Clock : Type 0} (gives : Clock → Moment → Clock → Type 0) (host 
         goes = t.goes;
       }
 
-  module _ (fuller : RecordsValue) (ahead : Option (List ℕ)) (taken : Taken) (more : taken ≢ End)
+  module _ (fuller : RecordsValue) (ahead : Option (List ℕ)) (taken : PieceTaken) (more : taken ≢ End)
       (takes : TakesPiece taken records fuller left ahead) where
     follows : Holds fuller (t.fed ++ takes.piece) t.given
     follows = (more_of taken records fuller takes.piece ahead more takes.takes).1 t.fed t.given t.holds
@@ -159,11 +159,12 @@ module _ {Clock : Type 0} (gives : Clock → Moment → Clock → Type 0) (host 
         }
 
 -- where a piece was refused a record is too large
-pub refused_large : (taken : Taken) (old new : RecordsValue) (piece : List ℕ) (left : Option (List ℕ)) (stream : List ℕ)
+pub refused_large : (taken : PieceTaken) (old new : RecordsValue) (piece : List ℕ) (left : Option (List ℕ))
+    (stream : List ℕ)
     (given : List (List ℕ)) → taken ≡ Refused → TakesIn taken old new piece left
     → Holds old stream given → IsTooLarge (stream ++ piece)
 refused_large taken old new piece left stream given is takes
-    holds = (subst (λ (t : Taken). TakesIn t old new piece left) is takes).2 stream given holds
+    holds = (subst (λ (t : PieceTaken). TakesIn t old new piece left) is takes).2 stream given holds
 
 -- no record begins an empty stream
 no_record : (records : List (List ℕ)) (rest : List ℕ) → IsStream [] records rest → records ≡ []

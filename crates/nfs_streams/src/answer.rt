@@ -12,7 +12,7 @@ ghost use Rattle.nfs_streams.specs.Served.{IsRecord, StandsOn};
 use nfs_engine::{Arrival, Engine, Host};
 use nfs_machine::{Moment, Moments};
 use nfs_rpc::{Early, Record, read_call};
-use nfs_schedule::{Answer, Declined, execute};
+use nfs_schedule::{Answer, RefusalReply, execute};
 use std::alloc::{AllocError, Global};
 
 /// The answer to a record that came in from the host, at the clock's next moment. Where an era is full, the next one
@@ -134,7 +134,7 @@ fn unowned(message: &Record) -> Result<Option<Answer>, AllocError>
 }
 
 /// A refusal, where there was memory to say it.
-fn told(declined: Declined) -> Result<Option<Answer>, AllocError>
+fn told(declined: RefusalReply) -> Result<Option<Answer>, AllocError>
     ensures { IfOk result (λ answer. (answer ≡ Some (Answer.Refused declined)) × IsSome declined.answer) }
 {
     if declined.answer.is_none() {

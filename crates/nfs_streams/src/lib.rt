@@ -6,12 +6,12 @@
 //! makes an answer a datagram.
 #![tactic(auto)]
 
-pub mod answer;
-pub mod connection;
-pub mod datagrams;
+mod answer;
+mod connection;
+mod datagrams;
 mod sending;
-pub mod serving;
-pub mod witness;
+mod serving;
+mod witness;
 
 pub use answer::answer_record;
 pub use connection::{Connection, connections_carry_on};

@@ -51,7 +51,7 @@ pub enum StreamFault {
 
 /// What was taken in of the input.
 #[derive(Clone, Copy)]
-enum Taken {
+enum PieceTaken {
     /// Nothing: the input is at its end.
     End,
     /// A piece.
@@ -218,13 +218,13 @@ fn serve_pieces<C: Moments, R: Source, W: Sink, T: Witness>(
 {
     'pieces: for _reads in 0..u64::MAX {
         let taken = read_piece(reader, connection, buffer)?;
-        if let Taken::End = taken {
+        if let PieceTaken::End = taken {
             return Ok(Served);
         }
         serve_records(
             alloc, engine, host, clock, writer, messages, witness, connection,
         )?;
-        if let Taken::Refused = taken {
+        if let PieceTaken::Refused = taken {
             return Err(StreamFault::TooLarge);
         }
     }
@@ -237,7 +237,7 @@ fn read_piece<R: Source>(
     reader: &mut R,
     connection: &mut Connection,
     buffer: &mut [u8],
-) -> Result<Taken, StreamFault>
+) -> Result<PieceTaken, StreamFault>
     requires buffer { 0 < length buffer.old }
     requires answered { connection.old.records.queued ≡ [] }
     requires sent { waiting connection.old ≡ [] }
@@ -257,11 +257,11 @@ fn read_piece<R: Source>(
         return Err(StreamFault::Read);
     };
     if count == 0 {
-        return Ok(Taken::End);
+        return Ok(PieceTaken::End);
     }
     match connection.take_in(&buffer[..count]) {
-        Ok(()) => Ok(Taken::Piece),
-        Err(RecordError::TooLarge) => Ok(Taken::Refused),
+        Ok(()) => Ok(PieceTaken::Piece),
+        Err(RecordError::TooLarge) => Ok(PieceTaken::Refused),
         Err(RecordError::Memory) => Err(StreamFault::Memory),
     }
 }

@@ -23,7 +23,7 @@ use Rattle.nfs_wire.specs.declared.calls.LinkArguments.{LinkArguments}
 use Rattle.nfs_wire.specs.declared.calls.MkdirArguments.{MkdirArguments}
 use Rattle.nfs_wire.specs.declared.calls.MknodArguments.{MknodArguments}
 use Rattle.nfs_wire.specs.declared.calls.Ordinary.TheVariants.{Regular, Directory, Link}
-use Rattle.nfs_wire.specs.declared.calls.Place.{Place}
+use Rattle.nfs_wire.specs.declared.calls.DirOp.{DirOp}
 use Rattle.nfs_wire.specs.declared.calls.ReadArguments.{ReadArguments}
 use Rattle.nfs_wire.specs.declared.calls.ReaddirArguments.{ReaddirArguments}
 use Rattle.nfs_wire.specs.declared.calls.ReaddirplusArguments.{ReaddirplusArguments}
@@ -74,7 +74,7 @@ set_attributes_again a = rw (set_time_again a.accessed, set_time_again a.modifie
 abbrev verifier_of : Value verf3 → Verifier
 verifier_of v = record { bytes = v }
 
-abbrev pub place_of : Value diropargs3 → Place
+abbrev pub place_of : Value diropargs3 → DirOp
 place_of v = record { directory = v.0; name = v.1 }
 
 abbrev guard_of : Value sattrguard3 → Option Time

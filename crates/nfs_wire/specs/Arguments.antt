@@ -12,7 +12,7 @@ use Rattle.nfs_wire.specs.declared.calls.LinkArguments.{LinkArguments}
 use Rattle.nfs_wire.specs.declared.calls.MkdirArguments.{MkdirArguments}
 use Rattle.nfs_wire.specs.declared.calls.MknodArguments.{MknodArguments}
 use Rattle.nfs_wire.specs.declared.calls.Ordinary.TheVariants.{Regular, Directory, Link}
-use Rattle.nfs_wire.specs.declared.calls.Place.{Place}
+use Rattle.nfs_wire.specs.declared.calls.DirOp.{DirOp}
 use Rattle.nfs_wire.specs.declared.calls.ReadArguments.{ReadArguments}
 use Rattle.nfs_wire.specs.declared.calls.ReaddirArguments.{ReaddirArguments}
 use Rattle.nfs_wire.specs.declared.calls.ReaddirplusArguments.{ReaddirplusArguments}
@@ -63,7 +63,7 @@ verifier_value verifier = verifier.bytes
 abbrev pub diropargs3 : Xdr
 diropargs3 = Pair nfs_fh3 filename3
 
-abbrev pub place_value : Place → Value diropargs3
+abbrev pub place_value : DirOp → Value diropargs3
 place_value place = (place.directory, place.name)
 
 -- sattrguard3 (RFC 1813, 3.3.2): a union on a bool, as optional data is

@@ -15,7 +15,7 @@ use nfs_xdr::{ArgumentsError, SharedReader, XdrError, are_bytes};
 
 /// A name in a directory (`diropargs3`).
 #[derive(Drop, PartialEq, Eq)]
-pub struct Place {
+pub struct DirOp {
     /// The handle of the directory.
     pub directory: Bytes,
     pub name: Bytes,
@@ -89,21 +89,21 @@ pub enum CreateHow {
 /// The arguments of CREATE (RFC 1813, 3.3.8).
 #[derive(Drop, PartialEq, Eq)]
 pub struct CreateArguments {
-    pub place: Place,
+    pub place: DirOp,
     pub how: CreateHow,
 }
 
 /// The arguments of MKDIR (RFC 1813, 3.3.9).
 #[derive(Drop, PartialEq, Eq)]
 pub struct MkdirArguments {
-    pub place: Place,
+    pub place: DirOp,
     pub attributes: SetAttributes,
 }
 
 /// The arguments of SYMLINK (RFC 1813, 3.3.10).
 #[derive(Drop, PartialEq, Eq)]
 pub struct SymlinkArguments {
-    pub place: Place,
+    pub place: DirOp,
     pub attributes: SetAttributes,
     /// What the link says.
     pub text: Bytes,
@@ -131,15 +131,15 @@ pub enum Special {
 /// The arguments of MKNOD (RFC 1813, 3.3.11).
 #[derive(Drop, PartialEq, Eq)]
 pub struct MknodArguments {
-    pub place: Place,
+    pub place: DirOp,
     pub what: Special,
 }
 
 /// The arguments of RENAME (RFC 1813, 3.3.14).
 #[derive(Drop, PartialEq, Eq)]
 pub struct RenameArguments {
-    pub from: Place,
-    pub to: Place,
+    pub from: DirOp,
+    pub to: DirOp,
 }
 
 /// The arguments of LINK (RFC 1813, 3.3.15).
@@ -148,7 +148,7 @@ pub struct LinkArguments {
     /// The file's handle.
     pub file: Bytes,
     /// Where the new name stands.
-    pub place: Place,
+    pub place: DirOp,
 }
 
 /// The arguments of READDIR (RFC 1813, 3.3.16).
@@ -198,7 +198,7 @@ pub enum NfsCall {
     /// Procedure 2 (RFC 1813, 3.3.2).
     Setattr(SetattrArguments),
     /// Procedure 3 (RFC 1813, 3.3.3).
-    Lookup(Place),
+    Lookup(DirOp),
     /// Procedure 4 (RFC 1813, 3.3.4).
     Access(AccessArguments),
     /// Procedure 5 (RFC 1813, 3.3.5), with the link's handle.
@@ -216,9 +216,9 @@ pub enum NfsCall {
     /// Procedure 11 (RFC 1813, 3.3.11).
     Mknod(MknodArguments),
     /// Procedure 12 (RFC 1813, 3.3.12).
-    Remove(Place),
+    Remove(DirOp),
     /// Procedure 13 (RFC 1813, 3.3.13).
-    Rmdir(Place),
+    Rmdir(DirOp),
     /// Procedure 14 (RFC 1813, 3.3.14).
     Rename(RenameArguments),
     /// Procedure 15 (RFC 1813, 3.3.15).

@@ -12,18 +12,18 @@
 //! `specs/Replies`; and a function in `replies/`, with an arm of `append_result`.
 #![tactic(auto)]
 
-pub mod attributes;
-pub mod calls;
-pub mod entries;
-pub mod replies;
-pub mod status;
+mod attributes;
+mod calls;
+mod entries;
+mod replies;
+mod status;
 
 pub use attributes::{
     Attributes, DeviceNumber, FileType, SetAttributes, SetTime, Time, Wcc, WeakAttributes,
 };
 pub use calls::{
-    AccessArguments, CommitArguments, CreateArguments, CreateHow, LinkArguments, MkdirArguments,
-    MknodArguments, NfsCall, Ordinary, Place, ReadArguments, ReaddirArguments,
+    AccessArguments, CommitArguments, CreateArguments, CreateHow, DirOp, LinkArguments,
+    MkdirArguments, MknodArguments, NfsCall, Ordinary, ReadArguments, ReaddirArguments,
     ReaddirplusArguments, RenameArguments, SetattrArguments, Special, Stability, SymlinkArguments,
     Verifier, WriteArguments, one_call_is_spelled, read_args,
 };

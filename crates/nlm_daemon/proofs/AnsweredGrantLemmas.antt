@@ -26,7 +26,7 @@ use Rattle.nfs_objects.specs.Store.{Store}
 use Rattle.nfs_inodes.proofs.BucketStoreLemmas.{cons-cases, later, once-found}
 use Rattle.nfs_inodes.specs.Locks.{HasLocks, IsFileAt}
 use Rattle.nlm_daemon.specs.Granted.{FindsPending, HasGrant, IsPendingNow, grant_answered, grant_of}
-use Rattle.nlm_daemon.specs.declared.granting.Pending.{Pending}
+use Rattle.nlm_daemon.specs.declared.granting.FoundGrant.{FoundGrant}
 
 -- ---- lists
 pub nothing-in : {X : Type 0} (x : X) → Contains [] x → ⊥
@@ -77,7 +77,7 @@ module _ (exports : List LivingExport) (number : ℕ) where
     number_is = has.number_is;
   }
 
-  pub finds-later : (file : LockedValue) (files : List LockedValue) (found : Option Pending) → NoGrant (file ∷ []) →
+  pub finds-later : (file : LockedValue) (files : List LockedValue) (found : Option FoundGrant) → NoGrant (file ∷ []) →
       FindsPending exports files number found → FindsPending exports (file ∷ files) number found
   finds-later file files None none finds = λ f r has. elim (cons-cases file files f has.listed) [
     | inl same ↦ none f r (record {
@@ -159,7 +159,7 @@ module _ (s : Store) (m : State) (stand : StandLocks s m) (index : ℕ) (b : Buc
 
       -- the grant that is found is not answered yet
       pub pending-now : ((f : LockedValue) → Contains b.files f → lives_in m.exports f.export ≡ true →
-          IsFileAt m f.number f.export) → (number : ℕ) (pending : Pending) →
+          IsFileAt m f.number f.export) → (number : ℕ) (pending : FoundGrant) →
           HasGrant m.exports b.files number pending.file (arc_value pending.request) →
           (get m.granted number ≡ Some (grant_of pending)) × IsPendingNow m pending
       pending-now lives number pending has =

@@ -3,7 +3,8 @@ use Rattle.std.proofs.Common.{◌≡◌, ℕ, true, IsSome, is_ok, option_map, r
 use Rattle.nfs_machine.specs.Checks.{bytes_in}
 use Rattle.nlm_ranges.specs.Buckets.{LockedValue}
 use Rattle.nfs_objects.proofs.StandsInExportLemmas.{inode-lives}
-use Rattle.nfs_objects.specs.Stands.{Beside, IsPlaced, Kept, Represents, beside_at, content_of, filled, inode_in}
+use Rattle.nfs_objects.specs.Stands.{Beside, IsPlaced, StoreMeaning, Represents, beside_at, content_of, filled}
+use Rattle.nfs_objects.specs.Stands.{inode_in}
 use Rattle.nfs_objects.specs.Stands.{lives_in}
 use Rattle.nfs_objects.specs.Stands.{living_of_inode, map_in}
 use Rattle.nfs_objects.specs.Store.{Store}
@@ -22,7 +23,8 @@ mapped-regular beside (contents.CharacterDevice device) some = cc
 mapped-regular beside contents.Socket some = cc
 mapped-regular beside contents.Fifo some = cc
 
-pub placed-lives : (s : Store) (k : Kept) → Represents s k → (index : ℕ) (f : LockedValue) → IsPlaced s index f →
+pub placed-lives : (s : Store) (k : StoreMeaning) → Represents s k → (index : ℕ) (f : LockedValue)
+    → IsPlaced s index f →
     lives_in k.state.exports f.export ≡ true → IsFileAt k.state f.number f.export
 placed-lives s k stands index f placed lives =
     let beside : Beside = beside_at k.state f.number in

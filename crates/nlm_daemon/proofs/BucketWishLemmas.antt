@@ -10,7 +10,7 @@ use Rattle.nfs_objects.specs.Calls.{IsAmong, buckets_below}
 use Rattle.nfs_objects.specs.Values.{DraftValue, ModesValue, is_addr, known_at}
 use Rattle.nfs_objects.specs.declared.address.Addr.{Addr}
 use Rattle.nfs_objects.specs.declared.address.Addr.TheVariants as addresses
-use Rattle.nfs_objects.specs.declared.change.Halt.{Halt}
+use Rattle.nfs_objects.specs.declared.change.Missing.{Missing}
 use Rattle.nfs_objects.specs.declared.modes.Mode.{Mode}
 use Rattle.nfs_inodes.proofs.WishesLemmas.{asking-all, asks-as, asks-more, asks-none, known-all, not-same}
 use Rattle.nfs_inodes.specs.Asking.{AsksFor, IsAsking, with_wish}
@@ -87,13 +87,13 @@ module _ (d : DraftValue) where
 abbrev pub all_places : List Addr
 all_places = addresses.Exports ∷ buckets_below bucket_count
 
-pub buckets-stop : (d : DraftValue) (halt : Halt) → StopsAt d (buckets_below bucket_count) halt →
+pub buckets-stop : (d : DraftValue) (halt : Missing) → StopsAt d (buckets_below bucket_count) halt →
     StopsAt d all_places halt
 buckets-stop d halt stops =
     stops-wider d.modes (buckets_below bucket_count) all_places 0 d.view halt
     (covers-among (buckets_below bucket_count) all_places d.view (λ a among. inr among)) stops
 
-pub bucket-stops : (d : DraftValue) (index : ℕ) (halt : Halt) → index < bucket_count →
+pub bucket-stops : (d : DraftValue) (index : ℕ) (halt : Missing) → index < bucket_count →
     StopsAt d (addresses.Locks index ∷ []) halt → StopsAt d all_places halt
 bucket-stops d index halt low stops =
     stops-wider d.modes (addresses.Locks index ∷ []) all_places 0 d.view halt
@@ -103,7 +103,7 @@ bucket-stops d index halt low stops =
     ])) stops
 
 -- also where something was put before
-pub put-stops : (old d : DraftValue) → d.view ≡ old.view → d.modes ≡ old.modes → (index : ℕ) (halt : Halt) →
+pub put-stops : (old d : DraftValue) → d.view ≡ old.view → d.modes ≡ old.modes → (index : ℕ) (halt : Missing) →
     index < bucket_count → StopsAt d (addresses.Locks index ∷ []) halt → StopsAt old all_places halt
 put-stops old d view modes index halt low stops =
     bucket-stops old index halt low

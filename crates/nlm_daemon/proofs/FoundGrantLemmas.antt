@@ -14,12 +14,12 @@ use Rattle.nlm_ranges.specs.Buckets.{BucketValue, IsBucket, bucket_count}
 use Rattle.nfs_objects.specs.Asks.{Lacks}
 use Rattle.nfs_objects.specs.Calls.{locks_at}
 use Rattle.nfs_objects.specs.Knows.{Knows, Possible}
-use Rattle.nfs_objects.specs.Stands.{IsPlaced, Kept, bucket_at, bucket_there}
+use Rattle.nfs_objects.specs.Stands.{IsPlaced, StoreMeaning, bucket_at, bucket_there}
 use Rattle.nfs_objects.specs.Store.{Store, with_writes}
 use Rattle.nfs_objects.specs.Values.{DraftValue, known_at}
 use Rattle.nfs_objects.specs.declared.address.Addr.{Addr}
 use Rattle.nfs_objects.specs.declared.address.Addr.TheVariants as addresses
-use Rattle.nfs_objects.specs.declared.change.Halt.{Halt}
+use Rattle.nfs_objects.specs.declared.change.Missing.{Missing}
 use Rattle.nfs_inodes.proofs.BucketPutLemmas.{bucket-stands}
 use Rattle.nfs_inodes.proofs.LocksPlaceLemmas.{locks-stop-behind}
 use Rattle.nfs_inodes.specs.Stops.{StopsAt}
@@ -28,10 +28,10 @@ use Rattle.nlm_daemon.proofs.AnsweredGrantLemmas.{pending-none}
 use Rattle.nlm_daemon.proofs.AnsweredGrantLemmas.{pending-now}
 use Rattle.nlm_daemon.proofs.BucketFilesLemmas.{placed-lives}
 use Rattle.nlm_daemon.specs.Granted.{FindsGrant, HasGrant, IsPendingNow, grant_of, grant_places}
-use Rattle.nlm_daemon.specs.declared.granting.Pending.{Pending}
+use Rattle.nlm_daemon.specs.declared.granting.FoundGrant.{FoundGrant}
 
 module _ (d : DraftValue) (cookie : List ℕ) where
-  abbrev pub Finds : Option Pending → Type 0
+  abbrev pub Finds : Option FoundGrant → Type 0
   Finds found = Knows d (λ k. WellFormed k.state → FindsGrant k.state d.ctx.host cookie found)
 
   pub finds-no_number : (length cookie ≡ 8 → ⊥) → Finds None
@@ -48,7 +48,8 @@ module _ (d : DraftValue) (cookie : List ℕ) where
         ap (λ b. cond b (locks_at (from_be_bytes w64 cookie)) []) ((unsigned_Decides (length cookie) 8).1 eight)
         ∙ ap locks_at (sym is)
 
-    pub grant-stops : (index : ℕ) (halt : Halt) → index ≡ number % bucket_count → Lacks d (addresses.Locks index) halt →
+    pub grant-stops : (index : ℕ) (halt : Missing) → index ≡ number % bucket_count
+        → Lacks d (addresses.Locks index) halt →
         StopsAt d looked halt
     grant-stops index halt index-is lacks =
         subst (λ l. StopsAt d (addresses.Exports ∷ l) halt) (sym places-are)
@@ -57,7 +58,7 @@ module _ (d : DraftValue) (cookie : List ℕ) where
     module _ (exports : List LivingExport) (lists : Knows d (λ k. k.state.exports ≡ exports)) (index : ℕ)
         (index-is : index ≡ number % bucket_count) (b : BucketValue)
         (known : option_map bucket_at (known_at d (addresses.Locks index)) ≡ Some b) where
-      there : (s : Store) (k : Kept) → Possible d s k → bucket_there (with_writes s d.writes) index ≡ b
+      there : (s : Store) (k : StoreMeaning) → Possible d s k → bucket_there (with_writes s d.writes) index ≡ b
       there s k w = bucket-stands d index b known s w.fits
 
       pub finds-none : NoGrant exports number b.files → Finds None
@@ -67,9 +68,9 @@ module _ (d : DraftValue) (cookie : List ℕ) where
           ∙ pending-none (with_writes s d.writes) k.state w.stands.locks index b (there s k w) formed.locks number
           (sym index-is) (subst (λ es. NoGrant es number b.files) (sym (lists s k w)) none))
 
-      module _ (bucket : IsBucket b) (pending : Pending)
+      module _ (bucket : IsBucket b) (pending : FoundGrant)
           (has : HasGrant exports b.files number pending.file (arc_value pending.request)) where
-        now : (s : Store) (k : Kept) → Possible d s k →
+        now : (s : Store) (k : StoreMeaning) → Possible d s k →
             (get k.state.granted number ≡ Some (grant_of pending)) × IsPendingNow k.state pending
         now s k w =
             pending-now (with_writes s d.writes) k.state w.stands.locks index b (there s k w) bucket

@@ -15,7 +15,7 @@ use Rattle.nlm_ranges.specs.Granting.{IsSettled, granted_in}
 use Rattle.nlm_ranges.specs.declared.file.Settled.{Settled}
 use Rattle.nfs_objects.specs.Knows.{Possible, TurnsWhere}
 use Rattle.nfs_objects.specs.Sound.{Sound}
-use Rattle.nfs_objects.specs.Stands.{Kept}
+use Rattle.nfs_objects.specs.Stands.{StoreMeaning}
 use Rattle.nfs_objects.specs.Store.{Store}
 use Rattle.nfs_objects.specs.Values.{DraftValue}
 use Rattle.nfs_inodes.specs.Locks.{AreOf, MayAllHave, all_set, locks_set}
@@ -84,7 +84,7 @@ own-bucket index (f ∷ fs) =
       | false ↦ λ other. own-bucket index fs
     ] refl
 
-all-sound : (fs : List LockedValue) (k : Kept) → Sound k → Sound (all_set fs k)
+all-sound : (fs : List LockedValue) (k : StoreMeaning) → Sound k → Sound (all_set fs k)
 all-sound [] k sound = sound
 all-sound (f ∷ fs) k sound = all-sound fs (locks_set f.number f.file k) (set-sound f.number f.file k sound)
 
@@ -104,7 +104,7 @@ put-first old d freed files all = record {
 }
 
 module _ (old : DraftValue) (name : List ℕ) (freed : List LockedValue)
-    (are : (s : Store) (k : Kept) → Possible old s k → WellFormed k.state → AreFreed k.state name freed)
+    (are : (s : Store) (k : StoreMeaning) → Possible old s k → WellFormed k.state → AreFreed k.state name freed)
     (files : List LockedValue) where
   pub put-next : (index : ℕ) (d new : DraftValue) → ArePut old freed files index d →
       TurnsWhere (λ k. MayAllHave k.state (of_bucket index files)) d new (all_set (of_bucket index files)) →
@@ -119,7 +119,7 @@ module _ (old : DraftValue) (name : List ℕ) (freed : List LockedValue)
       index)
       put.sending
       (sends-nothing d new (all_set (of_bucket index files)) (λ k. MayAllHave k.state (of_bucket index files)) more) in
-      let same : (λ (k : Kept). all_set (of_bucket index files) (all_set (of_buckets index files) k)) ≡
+      let same : (λ (k : StoreMeaning). all_set (of_bucket index files) (all_set (of_buckets index files) k)) ≡
       all_set (of_buckets (suc index) files) =
       λ i k. record k { state = with-behind k.state (of_buckets index files) (of_bucket index files) i } in
       let next : suc index ≡ index + 1 = omega arith in record {

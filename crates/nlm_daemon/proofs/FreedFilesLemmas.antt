@@ -5,7 +5,7 @@ use Rattle.nfs_machine.specs.Exports.{LivingExport}
 use Rattle.nfs_machine.specs.WellFormed.{WellFormed}
 use Rattle.nlm_ranges.specs.Buckets.{LockedValue, bucket_count}
 use Rattle.nfs_objects.specs.Knows.{Knows, Possible}
-use Rattle.nfs_objects.specs.Stands.{IsPlaced, Kept, bucket_there}
+use Rattle.nfs_objects.specs.Stands.{IsPlaced, StoreMeaning, bucket_there}
 use Rattle.nfs_objects.specs.Store.{Store, with_writes}
 use Rattle.nfs_objects.specs.Values.{DraftValue}
 use Rattle.nfs_inodes.proofs.BucketPutLemmas.{bucket-stands}
@@ -16,7 +16,7 @@ use Rattle.nlm_daemon.specs.Freeing.{AddsBucket, AreFreed}
 
 -- in each state that is possible, the files of so many buckets are freed
 abbrev pub AreGathered : DraftValue → (name : List ℕ) → (count : ℕ) → List LockedValue → Type 0
-AreGathered d name count freed = (s : Store) (k : Kept) → Possible d s k →
+AreGathered d name count freed = (s : Store) (k : StoreMeaning) → Possible d s k →
     AreFreedBelow (with_writes s d.writes) k.state name count freed
 
 module _ (d : DraftValue) (name : List ℕ) where

@@ -32,11 +32,11 @@ use Rattle.nfs_objects.specs.Begins.{Begins}
 use Rattle.nfs_objects.specs.Calls.{locks_at}
 use Rattle.nfs_objects.specs.Knows.{Knows, TurnsWhere}
 use Rattle.nfs_objects.specs.Promise.{Given, Held, IsPromised}
-use Rattle.nfs_objects.specs.Stands.{IsPendingIn, Kept, StandLocks, bucket_at, exported_file, file_there}
+use Rattle.nfs_objects.specs.Stands.{IsPendingIn, StoreMeaning, StandLocks, bucket_at, exported_file, file_there}
 use Rattle.nfs_objects.specs.Store.{Store, with_writes}
 use Rattle.nfs_objects.specs.Values.{ChangeValue, DraftValue, done_value}
 use Rattle.nfs_objects.specs.declared.address.Addr.TheVariants as addresses
-use Rattle.nfs_objects.specs.declared.change.Halt.{Halt}
+use Rattle.nfs_objects.specs.declared.change.Missing.{Missing}
 use Rattle.nfs_objects.specs.declared.object.Object.{Object}
 use Rattle.nfs_inodes.proofs.NamedHaltLemmas.{asking}
 use Rattle.nfs_inodes.specs.Stops.{StopsAt}
@@ -49,7 +49,7 @@ use Rattle.nlm_daemon.proofs.NlmAnswerLemmas.{step-frees, step-granted-res, told
 use Rattle.nlm_daemon.proofs.LockChangeLemmas.{sends-nothing, set-sound}
 use Rattle.nlm_daemon.specs.Comes.{ComesTo, TurnsSending}
 use Rattle.nlm_daemon.specs.Granted.{FindsGrant, IsPendingNow, grant_of}
-use Rattle.nlm_daemon.specs.declared.granting.Pending.{Pending}
+use Rattle.nlm_daemon.specs.declared.granting.FoundGrant.{FoundGrant}
 
 -- a status other than GRANTED gives the lock back
 ends-back : (m : State) (number : ℕ) (g : PendingGrant) (status : NlmStatus) (messages : List Message) (after : State) →
@@ -67,7 +67,7 @@ ends-back m number g statuses.StaleHandle messages after other ends = ends
 ends-back m number g statuses.FileTooBig messages after other ends = ends
 ends-back m number g statuses.Failed messages after other ends = ends
 
-module _ (old new : DraftValue) (pending : Pending)
+module _ (old new : DraftValue) (pending : FoundGrant)
     (now : Knows old (λ k. WellFormed k.state → IsPendingNow k.state pending)) where
   abbrev request : Request
   request = arc_value pending.request
@@ -140,7 +140,7 @@ module _ (old new : DraftValue) (pending : Pending)
 
 -- ---- GRANTED_RES
 -- something stands where a grant does
-bucket-of : (s : Store) (k : Kept) (n number : ℕ) (r : Request) → StandLocks s k.state →
+bucket-of : (s : Store) (k : StoreMeaning) (n number : ℕ) (r : Request) → StandLocks s k.state →
     IsPendingIn k.state number n r → IsSome (s.at (addresses.Locks (n % bucket_count)))
 bucket-of s k n number r stand pends =
     by (s.at (addresses.Locks (n % bucket_count))) ((stand.pending number n r).0 pends).0
@@ -175,8 +175,8 @@ module _ (d : DraftValue) (r : NlmResult) (begins : Begins (calls.Nlm (nlm.Grant
       held given (λ m ends. step-granted-res m d.ctx r [] m ends)
 
   -- what it has to hold for the grant stands somewhere
-  pub grant-stopped : (pending : Pending) →
-      Knows d (λ k. WellFormed k.state → FindsGrant k.state d.ctx.host r.cookie (Some pending)) → (halt : Halt) →
+  pub grant-stopped : (pending : FoundGrant) →
+      Knows d (λ k. WellFormed k.state → FindsGrant k.state d.ctx.host r.cookie (Some pending)) → (halt : Missing) →
       StopsAt d (locks_at pending.file.number) halt → EndsCall call d.ctx d.view (Err halt)
   grant-stopped pending finds halt stops =
       asking d call halt begins (locks_at pending.file.number) (
@@ -189,7 +189,7 @@ module _ (d : DraftValue) (r : NlmResult) (begins : Begins (calls.Nlm (nlm.Grant
       ) stops
 
   -- the grant that it answers ends
-  pub some-promised : (change : ChangeValue) (pending : Pending) (new : DraftValue) (u : Unit {0}) →
+  pub some-promised : (change : ChangeValue) (pending : FoundGrant) (new : DraftValue) (u : Unit {0}) →
       Knows d (λ k. WellFormed k.state → FindsGrant k.state d.ctx.host r.cookie (Some pending)) →
       ComesTo d new (λ m u. GrantEnds m (arc_value pending.request).number (Some (grant_of pending)) r.status) u →
       change ≡ record { writes = new.writes; messages = new.messages; reply = answers.Nlm replies.GrantedRes } →

@@ -33,7 +33,7 @@ use Rattle.nlm_ranges.specs.Granting.{IsSet}
 use Rattle.nlm_ranges.specs.Held.{IsInTheWay}
 use Rattle.nlm_ranges.specs.declared.file.Settled.{Settled}
 use Rattle.nfs_objects.specs.Knows.{Knows, Possible, TurnsWhere}
-use Rattle.nfs_objects.specs.Stands.{Kept, file_there}
+use Rattle.nfs_objects.specs.Stands.{StoreMeaning, file_there}
 use Rattle.nfs_objects.specs.Store.{Store, with_writes}
 use Rattle.nfs_objects.specs.Values.{DraftValue}
 use Rattle.nfs_inodes.specs.Locks.{HasLocks, IsFileAt, IsNextNumber, MayHave, NoNumberIsLeft, locks_set, number_spent}
@@ -46,12 +46,12 @@ use Rattle.nlm_daemon.specs.Comes.{ComesTo, KnowsEnd, TurnsSending}
 use Rattle.nlm_daemon.specs.Holders.{holder_of}
 
 -- each file has what it has in the store
-pub laid-at : (d : DraftValue) (s : Store) (k : Kept) → Possible d s k → WellFormed k.state →
+pub laid-at : (d : DraftValue) (s : Store) (k : StoreMeaning) → Possible d s k → WellFormed k.state →
     IsLaid k.state (file_there (with_writes s d.writes) k.state.exports)
 laid-at d s k w formed = laid-there (with_writes s d.writes) k.state w.stands.locks (firm-of k.state formed.locks)
 
 -- the file at a number may have this
-abbrev pub May : (n export : ℕ) → FileValue → Kept → Type 0
+abbrev pub May : (n export : ℕ) → FileValue → StoreMeaning → Type 0
 May n export f k = MayHave k.state (record { number = n; export = export; file = f })
 
 -- ---- checks
@@ -78,7 +78,7 @@ module _ (d : DraftValue) (a : TestArguments) where
   module _ (n : ℕ) (found : Knows d (λ k. lock_checked k.state d.ctx false a.lock ≡ Ok n)) (f : FileValue)
       (has : Knows d (λ k. HasLocks k.state n f)) where
     -- what the file has of locks
-    locks-are : (s : Store) (k : Kept) → Possible d s k → f.held.locks ≡ of_file k.state.locks n
+    locks-are : (s : Store) (k : StoreMeaning) → Possible d s k → f.held.locks ≡ of_file k.state.locks n
     locks-are s k w = sym (ap (λ (x : FileLocks). x.locks) (has s k w).held)
 
     pub test-free : (Conflicts f.held.locks (range_of a.lock) (Some a.exclusive) → ⊥) →
@@ -193,7 +193,7 @@ module _ (old new : DraftValue) (a : LockArguments) (by_message : Bool) where
 
   module _ (n : ℕ) (found : Knows old (λ k. lock_of k.state ≡ Ok n)) (f : FileValue)
       (has : Knows old (λ k. HasLocks k.state n f)) where
-    stands-as : (s : Store) (k : Kept) → Possible old s k → f.held.locks ≡ of_file k.state.locks n
+    stands-as : (s : Store) (k : StoreMeaning) → Possible old s k → f.held.locks ≡ of_file k.state.locks n
     stands-as s k w = sym (ap (λ (x : FileLocks). x.locks) (has s k w).held)
 
     pub lock-granted : (e : ℕ) → Knows old (λ k. IsFileAt k.state n e) → (settled : Settled) →
@@ -241,7 +241,7 @@ module _ (old : DraftValue) (a : LockArguments) (by_message : Bool) (n : ℕ) (f
   abbrev is_equal : Request → Bool
   is_equal = is_request a.exclusive a.lock
 
-  waits-as : (s : Store) (k : Kept) → Possible old s k → f.held.waiting ≡ of_file k.state.waiting n
+  waits-as : (s : Store) (k : StoreMeaning) → Possible old s k → f.held.waiting ≡ of_file k.state.waiting n
   waits-as s k w = sym (ap (λ (x : FileLocks). x.waiting) (has s k w).held)
 
   pub held-denied : a.block ≡ false → KnowsEnd old Held statuses.Denied
@@ -251,7 +251,8 @@ module _ (old : DraftValue) (a : LockArguments) (by_message : Bool) (n : ℕ) (f
       (unchanged statuses.Denied k.state)
 
   module _ (blocks : a.block ≡ true) where
-    held-as : (waits : Bool) → list_any is_equal f.held.waiting ≡ waits → (s : Store) (k : Kept) → Possible old s k →
+    held-as : (waits : Bool) → list_any is_equal f.held.waiting ≡ waits → (s : Store) (k : StoreMeaning)
+        → Possible old s k →
         (status : NlmStatus) (messages : List Message) (after : State) →
         held_so true waits k.state status messages after → Held k.state status messages after
     held-as waits is s k w status messages after ends =
@@ -284,10 +285,10 @@ module _ (old : DraftValue) (a : LockArguments) (by_message : Bool) (n : ℕ) (f
         abbrev longer : FileValue
         longer = record f { held = record f.held { waiting = f.held.waiting ++ asked ∷ [] } }
 
-        abbrev waits_now : Kept → Kept
+        abbrev waits_now : StoreMeaning → StoreMeaning
         waits_now k = locks_set n longer (number_spent number k)
 
-        abbrev Own : Kept → Type 0
+        abbrev Own : StoreMeaning → Type 0
         Own k = May n e longer k
 
         pub held-waits : TurnsWhere Own old new waits_now → ComesTo old new Held statuses.Blocked
@@ -342,7 +343,7 @@ module _ (old : DraftValue) (a : LockArguments) (by_message : Bool) (n : ℕ) (f
 module _ (old new : DraftValue) (IsEnd : State → NlmStatus → List Message → State → Type 0) (status : NlmStatus) (n : ℕ)
     (f : FileValue) where
   pub put-comes : (e : ℕ) → TurnsWhere (May n e f) old new (locks_set n f) →
-      ((s : Store) (k : Kept) → Possible old s k → WellFormed k.state →
+      ((s : Store) (k : StoreMeaning) → Possible old s k → WellFormed k.state →
       May n e f k × IsEnd k.state status [] (locks_set n f k).state) →
       ComesTo old new IsEnd status
   put-comes e turns ends =
@@ -366,7 +367,8 @@ module _ (old new : DraftValue) (a : CancelArguments) where
     canceled_to m some = Answers (cond some statuses.Granted statuses.Denied)
         (cond some (record m { waiting = with_list m.waiting n (all_but cancels (of_file m.waiting n)) }) m)
 
-    canceled-as : (some : Bool) → list_any cancels f.held.waiting ≡ some → (s : Store) (k : Kept) → Possible old s k →
+    canceled-as : (some : Bool) → list_any cancels f.held.waiting ≡ some → (s : Store) (k : StoreMeaning)
+        → Possible old s k →
         (status : NlmStatus) (messages : List Message) (after : State) →
         canceled_to k.state some status messages after → CancelsSo k.state status messages after
     canceled-as some is s k w status messages after ends =
@@ -463,7 +465,7 @@ module _ (old new : DraftValue) (a : ShareArguments) where
     shared_to m denied = Answers (cond denied statuses.Denied statuses.Granted)
         (cond denied m (record m { shares = with_list m.shares n (shared (share_of a.share) (of_file m.shares n)) }))
 
-    shared-as : (denied : Bool) → is_denied (share_of a.share) f.held.shares ≡ denied → (s : Store) (k : Kept) →
+    shared-as : (denied : Bool) → is_denied (share_of a.share) f.held.shares ≡ denied → (s : Store) (k : StoreMeaning) →
         Possible old s k → (status : NlmStatus) (messages : List Message) (after : State) →
         shared_to k.state denied status messages after → SharesSo k.state status messages after
     shared-as denied is s k w status messages after ends =
@@ -517,7 +519,7 @@ module _ (old new : DraftValue) (a : ShareArguments) where
     abbrev unsharing : FileValue
     unsharing = record f { held = record f.held { shares = unshared (share_of a.share) f.held.shares } }
 
-    unshared-as : (s : Store) (k : Kept) → Possible old s k → (after : State) →
+    unshared-as : (s : Store) (k : StoreMeaning) → Possible old s k → (after : State) →
         after ≡ record k.state { shares = with_list k.state.shares n (unshared (share_of a.share) f.held.shares) } →
         UnsharesSo k.state statuses.Granted [] after
     unshared-as s k w after is =

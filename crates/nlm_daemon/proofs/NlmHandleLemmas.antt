@@ -16,16 +16,16 @@ use Rattle.nfs_objects.specs.Attempt.{HaltsFirst, first_wanted_with}
 use Rattle.nfs_objects.specs.Knows.{Knows}
 use Rattle.nfs_objects.specs.Values.{DraftValue, ModesValue, ViewValue}
 use Rattle.nfs_objects.specs.declared.address.Addr.{Addr}
-use Rattle.nfs_objects.specs.declared.change.Halt.{Halt}
+use Rattle.nfs_objects.specs.declared.change.Missing.{Missing}
 use Rattle.nfs_inodes.proofs.StandsLemmas.{kind-is, regular-bytes}
 use Rattle.nfs_inodes.specs.Known as known
 use Rattle.nfs_inodes.specs.Known.{HasNumber, content_at, object_at, shell}
 use Rattle.nfs_inodes.specs.Locks.{IsFileAt}
 use Rattle.nfs_inodes.specs.declared.found.Known.{Known}
-use Rattle.nfs_inodes.specs.declared.kinds.File.{File}
+use Rattle.nfs_inodes.specs.declared.kinds.KnownFile.{KnownFile}
 use Rattle.nlm_daemon.specs.Checks.{IsLiving, IsPlaceOf, judged, may_write}
 use Rattle.nlm_daemon.specs.declared.checking.LockFault as faults
-use Rattle.nlm_daemon.specs.declared.checking.Place.{Place}
+use Rattle.nlm_daemon.specs.declared.checking.FileRange.{FileRange}
 
 -- ---- the checks of an object
 module _ (exports : List LivingExport) (x : Known) (number : ℕ) (fits writes : Bool) (content : Content) where
@@ -43,7 +43,7 @@ module _ (exports : List LivingExport) (x : Known) (number : ℕ) (fits writes :
   judged-other e is = ap (λ r. by_checks (is_ok r) fits may) is
 
   -- what is no regular file
-  pub judged-none : (r : Result File NfsStatus) → ((f : File) → r ≡ Ok f → ⊥) → known.ChecksRegular x r →
+  pub judged-none : (r : Result KnownFile NfsStatus) → ((f : KnownFile) → r ≡ Ok f → ⊥) → known.ChecksRegular x r →
       type_of content ≡ x.attributes.kind → Is (Err NotRegular)
   judged-none (Ok file) other checks kind = absurd (other file refl)
   judged-none (Err e) other checks kind = judged-other e (checks content kind)
@@ -118,20 +118,20 @@ module _ (d : DraftValue) (handle : List ℕ) (fits writes : Bool) where
 -- ---- what is wanted first
 -- where something came of it, nothing was wanted first
 pub first-past : {A B : Type 0} (modes : ModesValue) (view : ViewValue) (wanted : Option Addr) (x : A) →
-    HaltsFirst modes view wanted (Ok x) → (r : Result B Halt) → HaltsFirst modes view wanted r
+    HaltsFirst modes view wanted (Ok x) → (r : Result B Missing) → HaltsFirst modes view wanted r
 first-past modes view None x first r = tt
 first-past modes view (Some a) x first r = absurd first
 
 -- the same where the handle was read as bytes
 pub first-read : {A B : Type 0} (modes : ModesValue) (view : ViewValue) (handle bytes : List ℕ) (x : A) →
-    bytes ≡ handle → HaltsFirst modes view (first_wanted_with view (bytes ∷ [])) (Ok x) → (r : Result B Halt) →
+    bytes ≡ handle → HaltsFirst modes view (first_wanted_with view (bytes ∷ [])) (Ok x) → (r : Result B Missing) →
     HaltsFirst modes view (first_wanted_with view (handle ∷ [])) r
 first-read {A} modes view handle bytes x is first r =
     first-past modes view (first_wanted_with view (handle ∷ [])) x
     (subst (λ h. HaltsFirst {A = A} modes view (first_wanted_with view (h ∷ [])) (Ok x)) is first) r
 
 -- and what halts halts so whatever was to come of it
-pub first-halts : (A B : Type 0) (modes : ModesValue) (view : ViewValue) (wanted : Option Addr) (halt : Halt) →
+pub first-halts : (A B : Type 0) (modes : ModesValue) (view : ViewValue) (wanted : Option Addr) (halt : Missing) →
     HaltsFirst {A = A} modes view wanted (Err halt) → HaltsFirst {A = B} modes view wanted (Err halt)
 first-halts A B modes view None halt first = tt
 first-halts A B modes view (Some a) halt first = first
@@ -139,7 +139,7 @@ first-halts A B modes view (Some a) halt first = first
 -- ---- a file, and a range of it
 module _ (d : DraftValue) (handle : List ℕ) (x : Known) (names : Knows d (λ k. known.Names d.ctx handle k x)) where
   -- what is named is the file, and lives
-  lives : (f : File) → f.known ≡ x → x.attributes.kind ≡ types.Regular → IsLiving d f
+  lives : (f : KnownFile) → f.known ≡ x → x.attributes.kind ≡ types.Regular → IsLiving d f
   lives f is kind =
       subst (λ (y : Known). Knows d (λ k. IsFileAt k.state y.number y.export)) (sym is) (λ s k w.
       let named = names s k w in
@@ -150,14 +150,15 @@ module _ (d : DraftValue) (handle : List ℕ) (x : Known) (names : Knows d (λ k
         exported = refl;
       })
 
-  pub file-of : (r : Result File faults.LockFault) → IfOk r (λ (f : File). f.known ≡ x) →
-      IfOk r (λ (f : File). x.attributes.kind ≡ types.Regular) → IfOk r (λ (f : File). IsLiving d f)
+  pub file-of : (r : Result KnownFile faults.LockFault) → IfOk r (λ (f : KnownFile). f.known ≡ x) →
+      IfOk r (λ (f : KnownFile). x.attributes.kind ≡ types.Regular) → IfOk r (λ (f : KnownFile). IsLiving d f)
   file-of (Ok f) is regular = lives f is regular
   file-of (Err e) is regular = tt
 
-  pub place-of : (lock : NlmLock) (r : Result Place faults.LockFault) → HasNumber lock.file x.number →
-      IfOk r (λ (p : Place). (p.file.known ≡ x) × (p.range ≡ range_of lock)) →
-      IfOk r (λ (p : Place). fits_offsets lock ≡ true) → IfOk r (λ (p : Place). x.attributes.kind ≡ types.Regular) →
+  pub place-of : (lock : NlmLock) (r : Result FileRange faults.LockFault) → HasNumber lock.file x.number →
+      IfOk r (λ (p : FileRange). (p.file.known ≡ x) × (p.range ≡ range_of lock)) →
+      IfOk r (λ (p : FileRange). fits_offsets lock ≡ true)
+      → IfOk r (λ (p : FileRange). x.attributes.kind ≡ types.Regular) →
       IfOk r (IsPlaceOf d lock)
   place-of lock (Ok p) number is fits regular = record {
     lives = lives p.file is.0 regular;
@@ -167,7 +168,7 @@ module _ (d : DraftValue) (handle : List ℕ) (x : Known) (names : Knows d (λ k
   }
   place-of lock (Err e) number is fits regular = tt
 
-pub file-number : (handle : List ℕ) (x : Known) (r : Result File faults.LockFault) → HasNumber handle x.number →
-    IfOk r (λ (f : File). f.known ≡ x) → IfOk r (λ (f : File). HasNumber handle f.known.number)
+pub file-number : (handle : List ℕ) (x : Known) (r : Result KnownFile faults.LockFault) → HasNumber handle x.number →
+    IfOk r (λ (f : KnownFile). f.known ≡ x) → IfOk r (λ (f : KnownFile). HasNumber handle f.known.number)
 file-number handle x (Ok f) number is = subst (λ (y : Known). HasNumber handle y.number) (sym is) number
 file-number handle x (Err e) number is = tt

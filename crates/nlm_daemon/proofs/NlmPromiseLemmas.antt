@@ -11,13 +11,14 @@ use Rattle.nfs_objects.specs.Fits.{Fits}
 use Rattle.nfs_objects.specs.Knows.{Possible}
 use Rattle.nfs_objects.specs.Promise.{Given, Held, IsPromised}
 use Rattle.nfs_objects.specs.Sound.{Sound}
-use Rattle.nfs_objects.specs.Stands.{Kept, Represents}
+use Rattle.nfs_objects.specs.Stands.{StoreMeaning, Represents}
 use Rattle.nfs_objects.specs.Store.{Store, with_writes}
 use Rattle.nfs_objects.specs.Values.{ChangeValue, DraftValue, done_value}
 use Rattle.nlm_daemon.specs.Comes.{ComesTo, KnowsEnd, TurnsSending}
 
 -- where nothing was written yet, the store stands for what it stands for once the draft is written
-pub possible-before : (d : DraftValue) → d.writes ≡ [] → (s : Store) (k : Kept) → Fits d.view s → Represents s k →
+pub possible-before : (d : DraftValue) → d.writes ≡ [] → (s : Store) (k : StoreMeaning) → Fits d.view s
+    → Represents s k →
     Sound k →
     Possible d s k
 possible-before d none s k fits stands sound = record {
@@ -49,9 +50,9 @@ comes-unchanged d IsEnd status ends quiet = record {
 
 -- a change comes to what it is an end of, in each state that is possible
 pub sent-comes : {Status : Type 0} (old new : DraftValue) (IsEnd : State → Status → List Message → State → Type 0)
-    (status : Status) (IsSo : Kept → Type 0) (messages : List Message) (op : Kept → Kept) →
-    TurnsSending IsSo old new messages op → ((k : Kept) → Sound k → Sound (op k)) →
-    ((s : Store) (k : Kept) → Possible old s k → WellFormed k.state →
+    (status : Status) (IsSo : StoreMeaning → Type 0) (messages : List Message) (op : StoreMeaning → StoreMeaning) →
+    TurnsSending IsSo old new messages op → ((k : StoreMeaning) → Sound k → Sound (op k)) →
+    ((s : Store) (k : StoreMeaning) → Possible old s k → WellFormed k.state →
     IsSo k × IsEnd k.state status messages (op k).state) → ComesTo old new IsEnd status
 sent-comes old new IsEnd status IsSo messages op sending sound comes = record {
   messages = messages;
@@ -74,7 +75,8 @@ sent-comes old new IsEnd status IsSo messages op sending sound comes = record {
 
 -- an end of one kind that is one of another
 pub comes-as : {Status : Type 0} (old new : DraftValue) (P Q : State → Status → List Message → State → Type 0)
-    (status : Status) → ((s : Store) (k : Kept) → Possible old s k → WellFormed k.state → (messages : List Message)
+    (status : Status) → ((s : Store) (k : StoreMeaning) → Possible old s k → WellFormed k.state
+    → (messages : List Message)
     (after : State) → P k.state status messages after → Q k.state status messages after) →
     ComesTo old new P status → ComesTo old new Q status
 comes-as old new P Q status means comes = record {
@@ -91,7 +93,7 @@ module _ {Status : Type 0} (old d : DraftValue) (IsEnd : State → Status → Li
   pub promised-comes : (call : Call) (reply : Reply) (own : List Message) (change : ChangeValue) →
       change.writes ≡ d.writes → change.messages ≡ d.messages ++ own → change.reply ≡ reply →
       Held d.view d.writes → Given d.view d.writes →
-      ((s : Store) (k : Kept) → Possible old s k → WellFormed k.state →
+      ((s : Store) (k : StoreMeaning) → Possible old s k → WellFormed k.state →
       IsEnd k.state status comes.messages (comes.op k).state →
       Step k.state old.ctx call reply (comes.messages ++ own) (comes.op k).state) →
       IsPromised (done_value call old.ctx old.view change)

@@ -27,8 +27,8 @@ use Rattle.nfs_objects.specs.Values.{ChangeValue, DraftValue, ModesValue, ViewVa
 use Rattle.nfs_objects.specs.declared.address.Addr.{Addr}
 use Rattle.nfs_objects.specs.declared.address.Addr.TheVariants as addresses
 use Rattle.nfs_objects.specs.declared.change.Change.{Change}
-use Rattle.nfs_objects.specs.declared.change.Halt.{Halt}
-use Rattle.nfs_objects.specs.declared.change.Halt.TheVariants as halts
+use Rattle.nfs_objects.specs.declared.change.Missing.{Missing}
+use Rattle.nfs_objects.specs.declared.change.Missing.TheVariants as halts
 use Rattle.nfs_objects.specs.declared.modes.Mode.TheVariants.{Exclusive}
 use Rattle.nfs_inodes.proofs.NamedHaltLemmas.{asking}
 use Rattle.nfs_inodes.proofs.ReaderHaltLemmas.{lacking-unseen}
@@ -139,7 +139,7 @@ wanted-alone view = by (unless_seen view addresses.Exports)
     by None = refl
 
 -- what the view has seen the draft does not lack
-pub exports-known : (d : DraftValue) → d.writes ≡ [] → unless_seen d.view addresses.Exports ≡ None → (halt : Halt) →
+pub exports-known : (d : DraftValue) → d.writes ≡ [] → unless_seen d.view addresses.Exports ≡ None → (halt : Missing) →
     Lacks d addresses.Exports halt → ⊥
 exports-known d none seen halt lacks =
     let wanted : unless_seen d.view addresses.Exports ≡ Some addresses.Exports =
@@ -148,13 +148,14 @@ exports-known d none seen halt lacks =
 
 -- ---- how calls halt
 -- where each halt is want of memory, nothing is asked for
-pub asks-nothing : {A : Type 0} (P : A → Type 0) (r : Result A Halt) → MatchResult r P (λ halt. halt ≡ halts.Memory) →
+pub asks-nothing : {A : Type 0} (P : A → Type 0) (r : Result A Missing)
+    → MatchResult r P (λ halt. halt ≡ halts.Memory) →
     AsksNothing r
 asks-nothing P (Ok x) is = tt
 asks-nothing {A} P (Err halt) is = subst (λ h. AsksNothing {A = A} (Err h)) (sym is) tt
 
 -- what is answered is the call's end, or there is no memory for it
-pub ends-memory : (call : Call) (d : DraftValue) (ctx : Ctx) (r : Result Change Halt) (P : ChangeValue → Type 0) →
+pub ends-memory : (call : Call) (d : DraftValue) (ctx : Ctx) (r : Result Change Missing) (P : ChangeValue → Type 0) →
     MatchResult r (λ change. P (change_value change)) (λ halt. halt ≡ halts.Memory) →
     ((change : ChangeValue) → P change → IsPromised (done_value call ctx d.view change)) → EndsCall call ctx d.view r
 ends-memory call d ctx (Ok change) P is promised = promised (change_value change) is
@@ -163,14 +164,14 @@ ends-memory call d ctx (Err halt) P is promised =
 
 module _ (call : Call) (d : DraftValue) (begins : Begins call d) where
   -- what is wanted first
-  pub ends-first : (wanted : Option Addr) → first_wanted call d.view ≡ wanted → (r : Result Change Halt) →
+  pub ends-first : (wanted : Option Addr) → first_wanted call d.view ≡ wanted → (r : Result Change Missing) →
       HaltsFirst d.modes d.view wanted r → EndsFirst call d.view r
   ends-first wanted is r first =
       subst (λ modes. HaltsFirst modes d.view (first_wanted call d.view) r) begins.modes
       (subst (λ w. HaltsFirst d.modes d.view w r) (sym is) first)
 
   -- it asks for what it names
-  pub ends-stopped : (places : List Addr) → named_by call d.view ≡ places → (halt : Halt) → StopsAt d places halt →
+  pub ends-stopped : (places : List Addr) → named_by call d.view ≡ places → (halt : Missing) → StopsAt d places halt →
       EndsCall call d.ctx d.view (Err halt)
   ends-stopped places named halt stops =
       asking d call halt begins places
@@ -179,18 +180,18 @@ module _ (call : Call) (d : DraftValue) (begins : Begins call d) where
 
   -- where it brings no handle
   module _ (alone : IsAlone call) where
-    pub alone-ends : (halt : Halt) → StopsAt d (addresses.Exports ∷ []) halt → EndsCall call d.ctx d.view (Err halt)
+    pub alone-ends : (halt : Missing) → StopsAt d (addresses.Exports ∷ []) halt → EndsCall call d.ctx d.view (Err halt)
     alone-ends halt stops = ends-stopped (addresses.Exports ∷ []) (alone.named d.view) halt stops
 
     alone-wanted : first_wanted call d.view ≡ unless_seen d.view addresses.Exports
     alone-wanted = alone.first d.view ∙ wanted-alone d.view
 
-    pub alone-first : (r : Result Change Halt) → HaltsFirst d.modes d.view (unless_seen d.view addresses.Exports) r →
+    pub alone-first : (r : Result Change Missing) → HaltsFirst d.modes d.view (unless_seen d.view addresses.Exports) r →
         EndsFirst call d.view r
     alone-first r first = ends-first (unless_seen d.view addresses.Exports) alone-wanted r first
 
     -- where the view has the exports, they are not asked for
-    pub alone-never : first_wanted call d.view ≡ None → (halt : Halt) → Lacks d addresses.Exports halt → ⊥
+    pub alone-never : first_wanted call d.view ≡ None → (halt : Missing) → Lacks d addresses.Exports halt → ⊥
     alone-never none halt lacks = exports-known d begins.none (sym alone-wanted ∙ none) halt lacks
 
   -- it holds locks alone
@@ -201,7 +202,7 @@ module _ (call : Call) (d : DraftValue) (begins : Begins call d) where
 abbrev front : (handle : List ℕ) → Option Handle → List Addr
 front handle o = elim o [ None ↦ [] | Some h ↦ locks_at h.fileid ]
 
-module _ (d : DraftValue) (handle : List ℕ) (halt : Halt) where
+module _ (d : DraftValue) (handle : List ℕ) (halt : Missing) where
   abbrev places : List Addr
   places = lock_places d.view handle
 

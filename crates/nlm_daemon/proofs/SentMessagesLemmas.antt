@@ -11,7 +11,7 @@ use Rattle.nfs_machine.specs.WellFormed.{WellFormed}
 use Rattle.nfs_objects.specs.Fits.{Fits}
 use Rattle.nfs_objects.specs.Knows.{Possible, TurnsWhere}
 use Rattle.nfs_objects.specs.Sound.{Sound}
-use Rattle.nfs_objects.specs.Stands.{Kept, Represents}
+use Rattle.nfs_objects.specs.Stands.{StoreMeaning, Represents}
 use Rattle.nfs_objects.specs.Store.{Store, with_writes}
 use Rattle.nfs_objects.specs.Values.{DraftValue}
 use Rattle.nlm_daemon.specs.Comes.{Sends, TurnsSending}
@@ -63,7 +63,8 @@ put-is : (old mid new : DraftValue) (messages : List Message) → mid.messages �
 put-is old mid new messages same sends =
     (λ i. record mid { messages = same i }) ∙ (λ i. record (sym sends.rest i) { messages = old.messages })
 
-pub put-sends : (IsSo : Kept → Type 0) (old mid new : DraftValue) (messages : List Message) (op : Kept → Kept) →
+pub put-sends : (IsSo : StoreMeaning → Type 0) (old mid new : DraftValue) (messages : List Message) (op : StoreMeaning
+    → StoreMeaning) →
     TurnsWhere IsSo old mid op → Sends mid new messages → TurnsSending IsSo old new messages op
 put-sends IsSo old mid new messages op turns sends = record {
   turns = subst (λ (d : DraftValue). TurnsWhere IsSo old d op) (put-is old mid new messages turns.messages sends) turns;
@@ -71,12 +72,13 @@ put-sends IsSo old mid new messages op turns sends = record {
 }
 
 -- ---- changes of sound and well-formed states
-abbrev pub IsFormed : Kept → Type 0
+abbrev pub IsFormed : StoreMeaning → Type 0
 IsFormed k = Sound k × WellFormed k.state
 
 -- messages, and nothing that is put
-pub sends-before : (old new : DraftValue) (messages : List Message) (op : Kept → Kept) (IsSo : Kept → Type 0) →
-    Sends old new messages → ((s : Store) (k : Kept) → Represents (with_writes s old.writes) k → IsSo k →
+pub sends-before : (old new : DraftValue) (messages : List Message) (op : StoreMeaning → StoreMeaning)
+    (IsSo : StoreMeaning → Type 0) →
+    Sends old new messages → ((s : Store) (k : StoreMeaning) → Represents (with_writes s old.writes) k → IsSo k →
     Represents (with_writes s old.writes) (op k)) → TurnsSending IsSo old new messages op
 sends-before old new messages op IsSo sends stays = record {
   turns = record {
@@ -92,8 +94,9 @@ sends-before old new messages op IsSo sends stays = record {
 }
 
 -- one behind another, where what the first leaves is so
-pub sends-both : (old mid new : DraftValue) (f g : Kept → Kept) (IsSo : Kept → Type 0) (messages more : List Message) →
-    ((s : Store) (k : Kept) → Possible old s k → WellFormed k.state → IsSo (f k)) →
+pub sends-both : (old mid new : DraftValue) (f g : StoreMeaning → StoreMeaning) (IsSo : StoreMeaning
+    → Type 0) (messages more : List Message) →
+    ((s : Store) (k : StoreMeaning) → Possible old s k → WellFormed k.state → IsSo (f k)) →
     TurnsSending IsFormed old mid messages f → TurnsSending IsSo mid new more g →
     TurnsSending IsFormed old new (messages ++ more) (λ k. g (f k))
 sends-both old mid new f g IsSo messages more so first second = record {

@@ -11,10 +11,10 @@ use Rattle.nfs_objects.specs.Values.{DraftValue}
 use Rattle.nfs_inodes.specs.Known.{HasNumber, shell}
 use Rattle.nfs_inodes.specs.Locks.{IsFileAt}
 use Rattle.nfs_inodes.specs.declared.found.Known.{Known}
-use Rattle.nfs_inodes.specs.declared.kinds.File.{File}
+use Rattle.nfs_inodes.specs.declared.kinds.KnownFile.{KnownFile}
 use Rattle.nlm_daemon.specs.declared.checking.LockFault.{LockFault}
 use Rattle.nlm_daemon.specs.declared.checking.LockFault.TheVariants as faults
-use Rattle.nlm_daemon.specs.declared.checking.Place.{Place}
+use Rattle.nlm_daemon.specs.declared.checking.FileRange.{FileRange}
 
 abbrev pub fault_value : LockFault → machine.LockFault
 fault_value faults.StaleHandle = machine.StaleHandle
@@ -36,20 +36,20 @@ judged exports object number fits writes =
     Ok number
 
 -- the number of the file, or the fault
-abbrev pub file_found : Result File LockFault → Result ℕ machine.LockFault
+abbrev pub file_found : Result KnownFile LockFault → Result ℕ machine.LockFault
 file_found (Ok file) = Ok file.known.number
 file_found (Err fault) = Err (fault_value fault)
 
-abbrev pub place_found : Result Place LockFault → Result ℕ machine.LockFault
+abbrev pub place_found : Result FileRange LockFault → Result ℕ machine.LockFault
 place_found (Ok place) = Ok place.file.known.number
 place_found (Err fault) = Err (fault_value fault)
 
 -- the draft knows that the file lives
-abbrev pub IsLiving : DraftValue → File → Type 0
+abbrev pub IsLiving : DraftValue → KnownFile → Type 0
 IsLiving d file = Knows d (λ k. IsFileAt k.state file.known.number file.known.export)
 
 -- the handle names it besides, and the range is the call's, which fits offsets
-pub record IsPlaceOf (d : DraftValue) (lock : NlmLock) (place : Place) : Type 0 where
+pub record IsPlaceOf (d : DraftValue) (lock : NlmLock) (place : FileRange) : Type 0 where
   pub lives : IsLiving d place.file
   pub number : HasNumber lock.file place.file.known.number
   pub range : place.range ≡ range_of lock

@@ -6,7 +6,7 @@ use Rattle.nfs_machine.specs.WellFormed.{WellFormed}
 use Rattle.nfs_objects.specs.Calls.{locks_of}
 use Rattle.nfs_objects.specs.Knows.{Possible, TurnsWhere}
 use Rattle.nfs_objects.specs.Sound.{Sound}
-use Rattle.nfs_objects.specs.Stands.{Kept}
+use Rattle.nfs_objects.specs.Stands.{StoreMeaning}
 use Rattle.nfs_objects.specs.Store.{Store}
 use Rattle.nfs_objects.specs.Values.{DraftValue, ViewValue}
 use Rattle.nfs_objects.specs.declared.address.Addr.{Addr}
@@ -22,7 +22,8 @@ pub record Sends (old new : DraftValue) (messages : List Message) : Type 0 where
 
 -- One draft came of the other by writes that do so to what the store stands for, where this is so of that, and by these
 -- messages.
-pub record TurnsSending (IsSo : Kept → Type 0) (old new : DraftValue) (messages : List Message) (op : Kept → Kept) :
+pub record TurnsSending (IsSo : StoreMeaning → Type 0) (old new : DraftValue) (messages : List Message)
+    (op : StoreMeaning → StoreMeaning) :
     Type 0 where
   pub turns : TurnsWhere IsSo old (record new { messages = old.messages }) op
   pub sent : new.messages ≡ old.messages ++ messages
@@ -32,14 +33,14 @@ pub record TurnsSending (IsSo : Kept → Type 0) (old new : DraftValue) (message
 pub record ComesTo {Status : Type 0} (old new : DraftValue)
     (IsEnd : State → Status → List Message → State → Type 0) (status : Status) : Type 0 where
   pub messages : List Message
-  pub op : Kept → Kept
+  pub op : StoreMeaning → StoreMeaning
   pub turns : TurnsSending (λ k. Sound k × WellFormed k.state) old new messages op
-  pub sound : (s : Store) (k : Kept) → Possible old s k → WellFormed k.state → Sound (op k)
-  pub ends : (s : Store) (k : Kept) → Possible old s k → WellFormed k.state →
+  pub sound : (s : Store) (k : StoreMeaning) → Possible old s k → WellFormed k.state → Sound (op k)
+  pub ends : (s : Store) (k : StoreMeaning) → Possible old s k → WellFormed k.state →
       IsEnd k.state status messages (op k).state
 
 -- the same of a call that changes nothing
 abbrev pub KnowsEnd : {Status : Type 0} → DraftValue → (State → Status → List Message → State → Type 0) →
     Status → Type 0
-KnowsEnd d IsEnd status = (s : Store) (k : Kept) → Possible d s k → WellFormed k.state →
+KnowsEnd d IsEnd status = (s : Store) (k : StoreMeaning) → Possible d s k → WellFormed k.state →
     IsEnd k.state status [] k.state

@@ -7,7 +7,7 @@ ghost use Rattle.nlm_daemon.specs.Answering.{IsAnswered, callback_of, is_message
 
 use bytes::Bytes;
 use nfs_machine::Reply;
-use nfs_objects::{Change, Draft, Halt};
+use nfs_objects::{Change, Draft, Missing};
 use side_wire::{Callback, Message, NlmReply, NlmResult, NlmStatus};
 use std::alloc::{AllocError, Global};
 
@@ -37,10 +37,10 @@ pub(crate) fn answer(
     procedure: Procedure,
     cookie: &Bytes,
     status: NlmStatus,
-) -> Result<Change, Halt>
+) -> Result<Change, Missing>
     ensures { MatchResult result
         (λ change. IsAnswered draft.entry procedure cookie.now status (change_value change))
-        (λ halt. halt ≡ Halt.Memory) }
+        (λ halt. halt ≡ Missing.Memory) }
 {
     send_result(&mut draft, procedure, cookie, status)?;
     let reply = reply(procedure, cookie, status)?;

@@ -13,8 +13,8 @@ ghost use Rattle.nfs_inodes.specs.Stops.{StopsAt, brought_by};
 ghost use Rattle.nlm_daemon.specs.Checks.{IsLiving, IsPlaceOf, file_found, judged, may_write, place_found};
 
 use bytes::Bytes;
-use nfs_inodes::{File, Known, exports, is_writable, named, regular};
-use nfs_objects::{Draft, Halt, LivingExport};
+use nfs_inodes::{Known, KnownFile, exports, is_writable, named, regular};
+use nfs_objects::{Draft, LivingExport, Missing};
 use nfs_wire::FileType;
 use nlm_ranges::LockRange;
 use side_wire::{NlmLock, NlmStatus, TestStatus};
@@ -63,8 +63,8 @@ impl LockFault {
 
 /// A range of a file.
 #[derive(Drop)]
-pub(crate) struct Place<'a> {
-    pub file: File,
+pub(crate) struct FileRange<'a> {
+    pub file: KnownFile,
     pub range: LockRange<'a>,
 }
 
@@ -74,11 +74,11 @@ pub(crate) struct Place<'a> {
 /// # Errors
 ///
 /// `Need` of the exports, or of what the handle names; and `Memory`.
-pub(crate) fn place_of<'a>(
+pub(crate) fn file_range<'a>(
     draft: &Draft<'_>,
     lock: &'a NlmLock,
     writes: bool,
-) -> Result<Result<Place<'a>, LockFault>, Halt>
+) -> Result<Result<FileRange<'a>, LockFault>, Missing>
     requires { draft.now.writes ≡ [] }
     ensures checked { MatchResult result
         (λ found. Knows draft.now (λ k.
@@ -92,16 +92,16 @@ pub(crate) fn place_of<'a>(
         Ok(known) => known,
         Err(_) => return Ok(Err(LockFault::StaleHandle)),
     };
-    Ok(judged_place(exports(draft)?, &known, lock, writes))
+    Ok(judged_range(exports(draft)?, &known, lock, writes))
 }
 
 /// The checks of an object that a call's lock names.
-fn judged_place<'a>(
+fn judged_range<'a>(
     exports: &[LivingExport],
     known: &Known,
     lock: &'a NlmLock,
     writes: bool,
-) -> Result<Place<'a>, LockFault>
+) -> Result<FileRange<'a>, LockFault>
     ensures place { IfOk result (λ place. (place.file.known ≡ known.now) × (place.range ≡ range_of lock.now)) }
     ensures fits { IfOk result (λ place. fits_offsets lock.now ≡ true) }
     ensures regular { IfOk result (λ place. known.now.attributes.kind ≡ FileType.Regular) }
@@ -118,7 +118,7 @@ fn judged_place<'a>(
     if !may_write(exports, known, writes) {
         return Err(LockFault::ReadOnly);
     }
-    Ok(Place { file, range })
+    Ok(FileRange { file, range })
 }
 
 /// The file that a handle names, or why the call is refused; its export may not be read only where the call asks to
@@ -131,7 +131,7 @@ pub(crate) fn file_of(
     draft: &Draft<'_>,
     handle: &Bytes,
     writes: bool,
-) -> Result<Result<File, LockFault>, Halt>
+) -> Result<Result<KnownFile, LockFault>, Missing>
     requires { draft.now.writes ≡ [] }
     ensures checked { MatchResult result
         (λ found. Knows draft.now (λ k.
@@ -150,7 +150,11 @@ pub(crate) fn file_of(
 }
 
 /// The checks of an object that a call's share names.
-fn judged_file(exports: &[LivingExport], known: &Known, writes: bool) -> Result<File, LockFault>
+fn judged_file(
+    exports: &[LivingExport],
+    known: &Known,
+    writes: bool,
+) -> Result<KnownFile, LockFault>
     ensures file { IfOk result (λ file. file.known ≡ known.now) }
     ensures regular { IfOk result (λ file. known.now.attributes.kind ≡ FileType.Regular) }
     ensures checks { (content : Content) → type_of content ≡ known.now.attributes.kind →

@@ -6,8 +6,8 @@ ghost use Rattle.nfs_objects.specs.Knows.{Knows, TurnsWhere};
 ghost use Rattle.nfs_inodes.specs.Locks.{HasLocks, MayHave, locks_set};
 ghost use Rattle.nfs_inodes.specs.Stops.{StopsAt};
 
-use nfs_inodes::{File, locks_of, set_locks};
-use nfs_objects::{Addr, Draft, Halt, Mode};
+use nfs_inodes::{KnownFile, locks_of, set_locks};
+use nfs_objects::{Addr, Draft, Missing, Mode};
 use nlm_ranges::{LockedFile, OneFile};
 
 /// What a file has, which may be nothing.
@@ -15,7 +15,7 @@ use nlm_ranges::{LockedFile, OneFile};
 /// # Errors
 ///
 /// `Need` of the exports or of what holds it, and `Memory`.
-pub(crate) fn all_locks_of(draft: &Draft<'_>, file: &File) -> Result<OneFile, Halt>
+pub(crate) fn all_locks_of(draft: &Draft<'_>, file: &KnownFile) -> Result<OneFile, Missing>
     ensures { MatchResult result
         (λ locks. Knows draft.now (λ k. HasLocks k.state file.now.known.number locks))
         (StopsAt draft.now (Addr.Exports ∷ locks_at file.now.known.number)) }
@@ -37,7 +37,7 @@ pub(crate) fn put(
     number: u64,
     export: u32,
     locks: OneFile,
-) -> Result<(), Halt>
+) -> Result<(), Missing>
     requires { draft.old.modes.locks ≡ Mode.Exclusive }
     ensures { MatchResult result
         (λ _. TurnsWhere (λ k. MayHave k.state (record { number = number; export = export; file = locks }))

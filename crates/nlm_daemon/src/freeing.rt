@@ -18,7 +18,7 @@ ghost use Rattle.nlm_daemon.specs.Freeing.{AddsBucket, AddsFreed, AddsOne, AreFr
 use crate::granting::send_grants;
 use nfs_inodes::{Asking, exports, lives, set_bucket};
 use nfs_machine::Reply;
-use nfs_objects::{Addr, Change, Draft, Halt, LivingExport, Mode};
+use nfs_objects::{Addr, Change, Draft, LivingExport, Missing, Mode};
 use nlm_ranges::{LOCK_BUCKETS, LockedFile, LockedFiles, bucket_index};
 use side_wire::{FreeAllArguments, NlmCall, NlmReply};
 use std::alloc::{AllocError, Global};
@@ -28,7 +28,7 @@ use std::alloc::{AllocError, Global};
 /// # Errors
 ///
 /// `Need` of the exports, of all buckets at once, and `Memory`.
-pub(crate) fn attempt(mut draft: Draft<'_>, arguments: &FreeAllArguments) -> Result<Change, Halt>
+pub(crate) fn attempt(mut draft: Draft<'_>, arguments: &FreeAllArguments) -> Result<Change, Missing>
     requires { Begins (calls.Nlm (NlmCall.FreeAll arguments.now)) draft }
     ensures ends { EndsCall (calls.Nlm (NlmCall.FreeAll arguments.now)) draft.entry.ctx draft.entry.view result }
     ensures first { EndsFirst (calls.Nlm (NlmCall.FreeAll arguments.now)) draft.entry.view result }
@@ -43,7 +43,7 @@ pub(crate) fn attempt(mut draft: Draft<'_>, arguments: &FreeAllArguments) -> Res
 /// # Errors
 ///
 /// `Need` of the exports, of all buckets at once, and `Memory`. The draft is of no use then.
-fn free_all(draft: &mut Draft<'_>, caller_name: &[u8]) -> Result<(), Halt>
+fn free_all(draft: &mut Draft<'_>, caller_name: &[u8]) -> Result<(), Missing>
     requires none { draft.old.writes ≡ [] }
     requires alone { draft.old.modes.locks ≡ Mode.Exclusive }
     ensures frees { MatchResult result
@@ -77,7 +77,7 @@ fn settle_all(draft: &mut Draft<'_>, freed: &[LockedFile]) -> Result<Vec<LockedF
 }
 
 /// Puts those of these files that are in the bucket with this index.
-fn put_bucket(draft: &mut Draft<'_>, index: u8, files: &[LockedFile]) -> Result<(), Halt>
+fn put_bucket(draft: &mut Draft<'_>, index: u8, files: &[LockedFile]) -> Result<(), Missing>
     requires { draft.old.modes.locks ≡ Mode.Exclusive }
     ensures { MatchResult result
         (λ _. TurnsWhere (λ k. MayAllHave k.state (of_bucket index files.now)) draft.old draft.new
@@ -103,7 +103,7 @@ fn of_bucket(alloc: Global, index: u8, files: &[LockedFile]) -> Result<Vec<Locke
 }
 
 /// Asks for all buckets that the draft lacks, at once.
-pub(crate) fn ask_buckets(draft: &Draft<'_>) -> Result<(), Halt>
+pub(crate) fn ask_buckets(draft: &Draft<'_>) -> Result<(), Missing>
     ensures { MatchResult result
         (λ _. (index : ℕ) → index < bucket_count → IsSome (known_at draft.now (Addr.Locks index)))
         (StopsAt draft.now (buckets_below bucket_count)) }
@@ -116,7 +116,7 @@ pub(crate) fn ask_buckets(draft: &Draft<'_>) -> Result<(), Halt>
 }
 
 /// The files of which a caller has anything, without that, by their numbers.
-fn all_freed(draft: &Draft<'_>, caller_name: &[u8]) -> Result<Vec<LockedFile>, Halt>
+fn all_freed(draft: &Draft<'_>, caller_name: &[u8]) -> Result<Vec<LockedFile>, Missing>
     ensures freed { IfOk result (λ freed. Knows draft.now (λ k. WellFormed k.state →
         AreFreed k.state caller_name.now freed.items)) }
     ensures stops { IfErr result (StopsAt draft.now (Addr.Exports ∷ buckets_below bucket_count)) }
@@ -137,7 +137,7 @@ fn add_bucket(
     index: u8,
     caller_name: &[u8],
     freed: &mut Vec<LockedFile>,
-) -> Result<(), Halt>
+) -> Result<(), Missing>
     requires { index < bucket_count }
     ensures { MatchResult result
         (λ _. AddsBucket draft.now exports.now caller_name.now index freed.old.items freed.new.items)

@@ -25,7 +25,7 @@ use crate::filing::put;
 use bytes::Bytes;
 use nfs_inodes::{exports, lives};
 use nfs_machine::Reply;
-use nfs_objects::{Addr, Change, Draft, Halt, LivingExport, Mode};
+use nfs_objects::{Addr, Change, Draft, LivingExport, Missing, Mode};
 use nlm_ranges::{Going, LockRequest, LockedFile, LockedFiles, Settled, bucket_index};
 use side_wire::{Callback, Message, NlmCall, NlmReply, NlmResult, NlmStatus, TestArguments};
 use std::alloc::{AllocError, Global};
@@ -40,7 +40,7 @@ pub(crate) fn attempt(
     draft: Draft<'_>,
     procedure: Procedure,
     arguments: &TestArguments,
-) -> Result<Change, Halt>
+) -> Result<Change, Missing>
     requires grants { is_granting procedure ≡ true }
     requires begins { Begins (granting_call procedure arguments.now) draft }
     ensures ends { EndsCall (granting_call procedure arguments.now) draft.entry.ctx draft.entry.view result }
@@ -56,7 +56,7 @@ pub(crate) fn attempt(
 /// # Errors
 ///
 /// `Need` of the exports or of what the file has, and `Memory`.
-pub(crate) fn attempt_res(mut draft: Draft<'_>, answer: &NlmResult) -> Result<Change, Halt>
+pub(crate) fn attempt_res(mut draft: Draft<'_>, answer: &NlmResult) -> Result<Change, Missing>
     requires { Begins (calls.Nlm (NlmCall.GrantedRes answer.now)) draft }
     ensures ends { EndsCall (calls.Nlm (NlmCall.GrantedRes answer.now)) draft.entry.ctx draft.entry.view result }
     ensures first { EndsFirst (calls.Nlm (NlmCall.GrantedRes answer.now)) draft.entry.view result }
@@ -71,13 +71,13 @@ pub(crate) fn attempt_res(mut draft: Draft<'_>, answer: &NlmResult) -> Result<Ch
 
 /// A grant that is not answered yet.
 #[derive(Drop)]
-pub(crate) struct Pending {
+pub(crate) struct FoundGrant {
     pub file: LockedFile,
     pub request: Arc<LockRequest>,
 }
 
 /// The grant that the caller's host answers with this cookie; None where no grant of that cookie was made for it.
-fn answered(draft: &Draft<'_>, cookie: &Bytes) -> Result<Option<Pending>, Halt>
+fn answered(draft: &Draft<'_>, cookie: &Bytes) -> Result<Option<FoundGrant>, Missing>
     ensures { MatchResult result
         (λ found. Knows draft.now (λ k. WellFormed k.state →
         FindsGrant k.state draft.now.ctx.host cookie.now found))
@@ -117,7 +117,7 @@ fn pending_in(
     exports: &[LivingExport],
     mut files: LockedFiles<'_>,
     number: u64,
-) -> Result<Option<Pending>, AllocError>
+) -> Result<Option<FoundGrant>, AllocError>
     ensures { IfOk result (FindsPending exports.now files.entry number) }
 {
     while let Some(file) = files.next() {
@@ -133,7 +133,7 @@ fn pending_of(
     exports: &[LivingExport],
     file: &LockedFile,
     number: u64,
-) -> Result<Option<Pending>, AllocError>
+) -> Result<Option<FoundGrant>, AllocError>
     ensures { IfOk result (FindsPending exports.now (file.now ∷ []) number) }
 {
     if !lives(exports, file.export()) {
@@ -142,7 +142,7 @@ fn pending_of(
     let Some(request) = file.file().pending().find(Going::Under(number)) else {
         return Ok(None);
     };
-    Ok(Some(Pending {
+    Ok(Some(FoundGrant {
         file: file.clone()?,
         request: Arc::try_clone(request)?,
     }))
@@ -153,7 +153,7 @@ fn pending_of(
 /// # Errors
 ///
 /// `Need` of what has to be held for it, and `Memory`. The draft is of no use then.
-fn end_grant(draft: &mut Draft<'_>, pending: &Pending, status: NlmStatus) -> Result<(), Halt>
+fn end_grant(draft: &mut Draft<'_>, pending: &FoundGrant, status: NlmStatus) -> Result<(), Missing>
     requires alone { draft.old.modes.locks ≡ Mode.Exclusive }
     requires knows { Knows draft.old (λ k. WellFormed k.state → IsPendingNow k.state pending.now) }
     ensures { MatchResult result
@@ -190,7 +190,7 @@ pub(crate) fn put_settled(
     number: u64,
     export: u32,
     settled: Settled,
-) -> Result<(), Halt>
+) -> Result<(), Missing>
     requires { draft.old.modes.locks ≡ Mode.Exclusive }
     ensures { MatchResult result
         (λ _. TurnsSending (λ k. MayHave k.state (record { number = number; export = export; file = settled.file }))

@@ -29,7 +29,7 @@ mod unlocking;
 
 use crate::answering::Procedure;
 use nfs_machine::{Call, Ctx};
-use nfs_objects::{Change, Draft, Halt, LOCKING, Outcome, READING, View, outcome};
+use nfs_objects::{Change, Draft, LOCKING, Missing, Outcome, READING, View, outcome};
 use side_wire::NlmCall;
 use std::alloc::{AllocError, Global};
 
@@ -49,7 +49,12 @@ pub fn attempt(alloc: Global, call: &NlmCall, ctx: &Ctx, view: &View) -> Result<
     outcome(ended(alloc, call, ctx, view))
 }
 
-fn ended<'a>(alloc: Global, call: &'a NlmCall, ctx: &'a Ctx, view: &'a View) -> Result<Change, Halt>
+fn ended<'a>(
+    alloc: Global,
+    call: &'a NlmCall,
+    ctx: &'a Ctx,
+    view: &'a View,
+) -> Result<Change, Missing>
     requires { Suits (modes_of (Call.Nlm call.now)) view.now }
     ensures ends { EndsCall (Call.Nlm call.now) ctx.now view.now result }
     ensures first { EndsFirst (Call.Nlm call.now) view.now result }
@@ -84,7 +89,7 @@ fn changes_locks(call: &NlmCall) -> bool
 }
 
 /// A call that changes nothing of locks.
-fn read(draft: Draft<'_>, call: &NlmCall) -> Result<Change, Halt>
+fn read(draft: Draft<'_>, call: &NlmCall) -> Result<Change, Missing>
     requires reads { changes_locks call.now ≡ false }
     requires begins { Begins (Call.Nlm call.now) draft }
     ensures ends { EndsCall (Call.Nlm call.now) draft.entry.ctx draft.entry.view result }
@@ -109,7 +114,7 @@ fn read(draft: Draft<'_>, call: &NlmCall) -> Result<Change, Halt>
 }
 
 /// A call that may change what files have of locks.
-fn changed(draft: Draft<'_>, call: &NlmCall) -> Result<Change, Halt>
+fn changed(draft: Draft<'_>, call: &NlmCall) -> Result<Change, Missing>
     requires changes { changes_locks call.now ≡ true }
     requires begins { Begins (Call.Nlm call.now) draft }
     ensures ends { EndsCall (Call.Nlm call.now) draft.entry.ctx draft.entry.view result }

@@ -15,11 +15,11 @@ ghost use Rattle.nlm_daemon.specs.Checks.{IsPlaceOf};
 ghost use Rattle.nlm_daemon.specs.Comes.{ComesTo, lock_places};
 
 use crate::answering::{Procedure, answer};
-use crate::checking::{Place, place_of};
+use crate::checking::{FileRange, file_range};
 use crate::filing::all_locks_of;
 use crate::granting::put_settled;
 use nfs_inodes::{next_number, set_locks_spending};
-use nfs_objects::{Change, Draft, Halt, Mode};
+use nfs_objects::{Change, Draft, Missing, Mode};
 use nlm_ranges::{LockRequest, LockedFile, OneFile};
 use side_wire::{LockArguments, NlmStatus};
 
@@ -32,7 +32,7 @@ pub(crate) fn attempt(
     mut draft: Draft<'_>,
     procedure: Procedure,
     arguments: &LockArguments,
-) -> Result<Change, Halt>
+) -> Result<Change, Missing>
     requires locks { is_locking procedure ≡ true }
     requires begins { Begins (locking_call procedure arguments.now) draft }
     ensures ends { EndsCall (locking_call procedure arguments.now) draft.entry.ctx draft.entry.view result }
@@ -47,7 +47,7 @@ fn lock(
     draft: &mut Draft<'_>,
     arguments: &LockArguments,
     by_message: bool,
-) -> Result<NlmStatus, Halt>
+) -> Result<NlmStatus, Missing>
     requires none { draft.old.writes ≡ [] }
     requires alone { draft.old.modes.locks ≡ Mode.Exclusive }
     ensures ends { MatchResult result
@@ -56,7 +56,7 @@ fn lock(
     ensures first { HaltsFirst draft.old.modes draft.old.view
         (first_wanted_with draft.old.view (arguments.now.lock.file ∷ [])) result }
 {
-    let place = match place_of(draft, &arguments.lock, arguments.exclusive)? {
+    let place = match file_range(draft, &arguments.lock, arguments.exclusive)? {
         Ok(place) => place,
         Err(fault) => return Ok(fault.status()),
     };
@@ -79,11 +79,11 @@ fn lock(
 /// What LOCK comes to that conflicts with what is held: it waits, if it would, unless it waits already.
 fn held_up(
     draft: &mut Draft<'_>,
-    place: &Place<'_>,
+    place: &FileRange<'_>,
     locks: &OneFile,
     arguments: &LockArguments,
     by_message: bool,
-) -> Result<NlmStatus, Halt>
+) -> Result<NlmStatus, Missing>
     requires alone { draft.old.modes.locks ≡ Mode.Exclusive }
     requires place { IsPlaceOf draft.old arguments.now.lock place.now }
     requires knows { Knows draft.old (λ k. HasLocks k.state place.now.file.known.number locks.now) }

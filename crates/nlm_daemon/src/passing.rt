@@ -10,11 +10,11 @@ ghost use Rattle.nlm_daemon.specs.Answering.{is_passed, reply_passed};
 
 use nfs_inodes::exports;
 use nfs_machine::Reply;
-use nfs_objects::{Change, Draft, Halt};
+use nfs_objects::{Change, Draft, Missing};
 use side_wire::{NlmCall, NlmReply};
 
 /// NULL does nothing.
-pub(crate) fn null(draft: Draft<'_>) -> Result<Change, Halt>
+pub(crate) fn null(draft: Draft<'_>) -> Result<Change, Missing>
     requires { Begins (calls.Nlm NlmCall.Null) draft }
     ensures ends { EndsCall (calls.Nlm NlmCall.Null) draft.entry.ctx draft.entry.view result }
     ensures first { EndsFirst (calls.Nlm NlmCall.Null) draft.entry.view result }
@@ -29,7 +29,7 @@ pub(crate) fn null(draft: Draft<'_>) -> Result<Change, Halt>
 /// # Errors
 ///
 /// `Need` of the exports, and `Memory`.
-pub(crate) fn pass(draft: Draft<'_>, call: &NlmCall) -> Result<Change, Halt>
+pub(crate) fn pass(draft: Draft<'_>, call: &NlmCall) -> Result<Change, Missing>
     requires passes { is_passed call.now ≡ true }
     requires begins { Begins (calls.Nlm call.now) draft }
     ensures ends { EndsCall (calls.Nlm call.now) draft.entry.ctx draft.entry.view result }

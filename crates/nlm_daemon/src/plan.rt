@@ -9,14 +9,14 @@ ghost use Rattle.nfs_objects.specs.Modes.{Suits, modes_of};
 ghost use Rattle.nfs_inodes.specs.Wants.{IsWanted};
 ghost use Rattle.nlm_daemon.specs.Plans.{MayGoOn, file_named};
 
-use crate::checking::{file_of, place_of};
+use crate::checking::{file_of, file_range};
 use crate::freeing::ask_buckets;
 use crate::granting::number_in;
 use crate::sharing::is_writing;
 use bytes::Bytes;
 use nfs_inodes::wishes::Want;
 use nfs_machine::{Call, Ctx, Handle};
-use nfs_objects::{Addr, Draft, Halt, Modes, View};
+use nfs_objects::{Addr, Draft, Missing, Modes, View};
 use nlm_ranges::bucket_index;
 use side_wire::{FreeAllArguments, NlmCall, NlmLock, NlmResult};
 use std::alloc::Global;
@@ -35,10 +35,10 @@ pub enum Plan {
 }
 
 /// What is wanted, and where the plan is once it is taken. None where the plan is over, as far as the view tells.
-type Next = Option<(Want, Plan)>;
+type NextWant = Option<(Want, Plan)>;
 
 /// What a call that is there in its plan wants next.
-pub fn next(alloc: Global, call: &Call, ctx: &Ctx, view: &View, plan: Plan) -> Next
+pub fn next(alloc: Global, call: &Call, ctx: &Ctx, view: &View, plan: Plan) -> NextWant
     requires { Suits (modes_of call.now) view.now }
     ensures { IfSome result (λ next. IsWanted (modes_of call.now) (named_by call.now view.now)
         (new_numbers call.now view.now) view.now next.0) }
@@ -51,7 +51,7 @@ pub fn next(alloc: Global, call: &Call, ctx: &Ctx, view: &View, plan: Plan) -> N
 }
 
 /// The same of its draft.
-fn go_on(draft: &Draft<'_>, call: &NlmCall, plan: Plan) -> Next
+fn go_on(draft: &Draft<'_>, call: &NlmCall, plan: Plan) -> NextWant
     requires { draft.now.writes ≡ [] }
     ensures { MayGoOn call.now draft.now result }
 {
@@ -64,18 +64,18 @@ fn go_on(draft: &Draft<'_>, call: &NlmCall, plan: Plan) -> Next
 }
 
 /// The exports, which all but NULL read first.
-fn first(draft: &Draft<'_>, call: &NlmCall) -> Next
+fn first(draft: &Draft<'_>, call: &NlmCall) -> NextWant
     ensures { MayGoOn call.now draft.now result }
 {
     if let NlmCall::Null = call {
         return None;
     }
-    let wish = draft.lacked(Addr::Exports)?;
+    let wish = draft.missing(Addr::Exports)?;
     Some((Want::Address(wish), Plan::File))
 }
 
 /// What the handle of a call names, or what it reads of locks where it names no file.
-fn file(draft: &Draft<'_>, call: &NlmCall) -> Next
+fn file(draft: &Draft<'_>, call: &NlmCall) -> NextWant
     ensures { MayGoOn call.now draft.now result }
 {
     match call {
@@ -86,35 +86,35 @@ fn file(draft: &Draft<'_>, call: &NlmCall) -> Next
 }
 
 /// What all files have, which FREE_ALL reads.
-fn buckets(draft: &Draft<'_>) -> Next
+fn buckets(draft: &Draft<'_>) -> NextWant
     ensures { (call : FreeAllArguments) → MayGoOn (NlmCall.FreeAll call) draft.now result }
 {
     match ask_buckets(draft) {
-        Err(Halt::Need(asked)) => Some((Want::Addresses(asked), Plan::Over)),
+        Err(Missing::Need(asked)) => Some((Want::Addresses(asked), Plan::Over)),
         _ => None,
     }
 }
 
 /// What the file of the grant that a host answers has.
-fn granted(draft: &Draft<'_>, answer: &NlmResult) -> Next
+fn granted(draft: &Draft<'_>, answer: &NlmResult) -> NextWant
     ensures { MayGoOn (NlmCall.GrantedRes answer.now) draft.now result }
 {
     let number = number_in(&answer.cookie)?;
-    let wish = draft.lacked(Addr::Locks(bucket_index(number)))?;
+    let wish = draft.missing(Addr::Locks(bucket_index(number)))?;
     Some((Want::Address(wish), Plan::Over))
 }
 
 /// What the handle of a call names.
-fn named(draft: &Draft<'_>, call: &NlmCall) -> Next
+fn named(draft: &Draft<'_>, call: &NlmCall) -> NextWant
     ensures { MayGoOn call.now draft.now result }
 {
     let number = file_named(call)?;
-    let wish = draft.lacked(Addr::Inode(number))?;
+    let wish = draft.missing(Addr::Inode(number))?;
     Some((Want::Address(wish), Plan::Locks))
 }
 
 /// What the file that the handle of a call names has, where the checks of the call pass.
-fn locks(draft: &Draft<'_>, call: &NlmCall) -> Next
+fn locks(draft: &Draft<'_>, call: &NlmCall) -> NextWant
     requires { draft.now.writes ≡ [] }
     ensures { MayGoOn call.now draft.now result }
 {
@@ -122,7 +122,7 @@ fn locks(draft: &Draft<'_>, call: &NlmCall) -> Next
         return None;
     }
     let number = file_named(call)?;
-    let wish = draft.lacked(Addr::Locks(bucket_index(number)))?;
+    let wish = draft.missing(Addr::Locks(bucket_index(number)))?;
     Some((Want::Address(wish), Plan::Over))
 }
 
@@ -156,7 +156,7 @@ fn passes(draft: &Draft<'_>, call: &NlmCall) -> bool
 fn has_place(draft: &Draft<'_>, lock: &NlmLock, writes: bool) -> bool
     requires { draft.now.writes ≡ [] }
 {
-    matches!(place_of(draft, lock, writes), Ok(Ok(_)))
+    matches!(file_range(draft, lock, writes), Ok(Ok(_)))
 }
 
 /// Whether those of a call pass that names the file of a share.

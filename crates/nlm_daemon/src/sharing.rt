@@ -13,7 +13,7 @@ use crate::answering::{Procedure, answer};
 use crate::checking::file_of;
 use crate::filing::{all_locks_of, put};
 use nfs_inodes::locks_of;
-use nfs_objects::{Change, Draft, Halt, Mode};
+use nfs_objects::{Change, Draft, Missing, Mode};
 use side_wire::{NlmCall, NlmStatus, ShareAccess, ShareArguments, ShareMode};
 
 /// Tries SHARE: a share that conflicts is denied, and any other takes the place of the sharer's own of the file.
@@ -21,7 +21,7 @@ use side_wire::{NlmCall, NlmStatus, ShareAccess, ShareArguments, ShareMode};
 /// # Errors
 ///
 /// `Need` of the exports, of what the handle names or of what the file has, and `Memory`.
-pub(crate) fn share(mut draft: Draft<'_>, arguments: &ShareArguments) -> Result<Change, Halt>
+pub(crate) fn share(mut draft: Draft<'_>, arguments: &ShareArguments) -> Result<Change, Missing>
     requires { Begins (calls.Nlm (NlmCall.Share arguments.now)) draft }
     ensures ends { EndsCall (calls.Nlm (NlmCall.Share arguments.now)) draft.entry.ctx draft.entry.view result }
     ensures first { EndsFirst (calls.Nlm (NlmCall.Share arguments.now)) draft.entry.view result }
@@ -31,7 +31,7 @@ pub(crate) fn share(mut draft: Draft<'_>, arguments: &ShareArguments) -> Result<
 }
 
 /// What SHARE comes to.
-fn shared(draft: &mut Draft<'_>, arguments: &ShareArguments) -> Result<NlmStatus, Halt>
+fn shared(draft: &mut Draft<'_>, arguments: &ShareArguments) -> Result<NlmStatus, Missing>
     requires none { draft.old.writes ≡ [] }
     requires alone { draft.old.modes.locks ≡ Mode.Exclusive }
     ensures ends { MatchResult result
@@ -66,7 +66,7 @@ pub(crate) fn is_writing(access: ShareAccess) -> bool
 /// # Errors
 ///
 /// `Need` of the exports, of what the handle names or of what the file has, and `Memory`.
-pub(crate) fn unshare(mut draft: Draft<'_>, arguments: &ShareArguments) -> Result<Change, Halt>
+pub(crate) fn unshare(mut draft: Draft<'_>, arguments: &ShareArguments) -> Result<Change, Missing>
     requires { Begins (calls.Nlm (NlmCall.Unshare arguments.now)) draft }
     ensures ends { EndsCall (calls.Nlm (NlmCall.Unshare arguments.now)) draft.entry.ctx draft.entry.view result }
     ensures first { EndsFirst (calls.Nlm (NlmCall.Unshare arguments.now)) draft.entry.view result }
@@ -76,7 +76,7 @@ pub(crate) fn unshare(mut draft: Draft<'_>, arguments: &ShareArguments) -> Resul
 }
 
 /// What UNSHARE comes to.
-fn unshared(draft: &mut Draft<'_>, arguments: &ShareArguments) -> Result<NlmStatus, Halt>
+fn unshared(draft: &mut Draft<'_>, arguments: &ShareArguments) -> Result<NlmStatus, Missing>
     requires none { draft.old.writes ≡ [] }
     requires alone { draft.old.modes.locks ≡ Mode.Exclusive }
     ensures ends { MatchResult result

@@ -10,11 +10,11 @@ ghost use Rattle.nlm_daemon.specs.Comes.{KnowsEnd, lock_places};
 ghost use Rattle.nlm_daemon.specs.Holders.{holder_of};
 
 use crate::answering::post;
-use crate::checking::place_of;
+use crate::checking::file_range;
 use bytes::Bytes;
 use nfs_inodes::locks_of;
 use nfs_machine::Reply;
-use nfs_objects::{Change, Draft, Halt};
+use nfs_objects::{Change, Draft, Missing};
 use nlm_ranges::HeldLock;
 use side_wire::{Callback, LockHolder, NlmCall, NlmReply, TestArguments, TestResult, TestStatus};
 use std::alloc::AllocError;
@@ -24,7 +24,7 @@ use std::alloc::AllocError;
 /// # Errors
 ///
 /// `Need` of the exports, of what the handle names or of what the file has, and `Memory`.
-pub(crate) fn attempt(draft: Draft<'_>, arguments: &TestArguments) -> Result<Change, Halt>
+pub(crate) fn attempt(draft: Draft<'_>, arguments: &TestArguments) -> Result<Change, Missing>
     requires { Begins (calls.Nlm (NlmCall.Test arguments.now)) draft }
     ensures ends { EndsCall (calls.Nlm (NlmCall.Test arguments.now)) draft.entry.ctx draft.entry.view result }
     ensures first { EndsFirst (calls.Nlm (NlmCall.Test arguments.now)) draft.entry.view result }
@@ -45,7 +45,7 @@ pub(crate) fn attempt(draft: Draft<'_>, arguments: &TestArguments) -> Result<Cha
 pub(crate) fn attempt_by_message(
     mut draft: Draft<'_>,
     arguments: &TestArguments,
-) -> Result<Change, Halt>
+) -> Result<Change, Missing>
     requires { Begins (calls.Nlm (NlmCall.TestMsg arguments.now)) draft }
     ensures ends { EndsCall (calls.Nlm (NlmCall.TestMsg arguments.now)) draft.entry.ctx draft.entry.view result }
     ensures first { EndsFirst (calls.Nlm (NlmCall.TestMsg arguments.now)) draft.entry.view result }
@@ -57,7 +57,7 @@ pub(crate) fn attempt_by_message(
 }
 
 /// What TEST comes to. Where the lock could not be had, one is shown that stands in its way.
-fn tested(draft: &Draft<'_>, arguments: &TestArguments) -> Result<TestStatus, Halt>
+fn tested(draft: &Draft<'_>, arguments: &TestArguments) -> Result<TestStatus, Missing>
     requires { draft.now.writes ≡ [] }
     ensures ends { MatchResult result
         (KnowsEnd draft.now (λ m. TestEnds m draft.now.ctx arguments.now))
@@ -65,7 +65,7 @@ fn tested(draft: &Draft<'_>, arguments: &TestArguments) -> Result<TestStatus, Ha
     ensures first { HaltsFirst draft.now.modes draft.now.view
         (first_wanted_with draft.now.view (arguments.now.lock.file ∷ [])) result }
 {
-    let place = match place_of(draft, &arguments.lock, false)? {
+    let place = match file_range(draft, &arguments.lock, false)? {
         Ok(place) => place,
         Err(fault) => return Ok(fault.test_status()),
     };

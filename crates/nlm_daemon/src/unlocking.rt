@@ -9,11 +9,11 @@ ghost use Rattle.nlm_daemon.specs.Answering.{canceling_call, is_canceling, is_un
 ghost use Rattle.nlm_daemon.specs.Comes.{ComesTo, lock_places};
 
 use crate::answering::{Procedure, answer};
-use crate::checking::place_of;
+use crate::checking::file_range;
 use crate::filing::put;
 use crate::granting::put_settled;
 use nfs_inodes::locks_of;
-use nfs_objects::{Change, Draft, Halt, Mode};
+use nfs_objects::{Change, Draft, Missing, Mode};
 use side_wire::{CancelArguments, NlmStatus, UnlockArguments};
 
 /// Tries CANCEL or CANCEL_MSG: an equal request, if one waits, waits no more.
@@ -25,7 +25,7 @@ pub(crate) fn cancel(
     mut draft: Draft<'_>,
     procedure: Procedure,
     arguments: &CancelArguments,
-) -> Result<Change, Halt>
+) -> Result<Change, Missing>
     requires cancels { is_canceling procedure ≡ true }
     requires begins { Begins (canceling_call procedure arguments.now) draft }
     ensures ends { EndsCall (canceling_call procedure arguments.now) draft.entry.ctx draft.entry.view result }
@@ -36,7 +36,7 @@ pub(crate) fn cancel(
 }
 
 /// What CANCEL comes to.
-fn canceled(draft: &mut Draft<'_>, arguments: &CancelArguments) -> Result<NlmStatus, Halt>
+fn canceled(draft: &mut Draft<'_>, arguments: &CancelArguments) -> Result<NlmStatus, Missing>
     requires none { draft.old.writes ≡ [] }
     requires alone { draft.old.modes.locks ≡ Mode.Exclusive }
     ensures ends { MatchResult result
@@ -45,7 +45,7 @@ fn canceled(draft: &mut Draft<'_>, arguments: &CancelArguments) -> Result<NlmSta
     ensures first { HaltsFirst draft.old.modes draft.old.view
         (first_wanted_with draft.old.view (arguments.now.lock.file ∷ [])) result }
 {
-    let place = match place_of(draft, &arguments.lock, false)? {
+    let place = match file_range(draft, &arguments.lock, false)? {
         Ok(place) => place,
         Err(fault) => return Ok(fault.status()),
     };
@@ -71,7 +71,7 @@ pub(crate) fn unlock(
     mut draft: Draft<'_>,
     procedure: Procedure,
     arguments: &UnlockArguments,
-) -> Result<Change, Halt>
+) -> Result<Change, Missing>
     requires unlocks { is_unlocking procedure ≡ true }
     requires begins { Begins (unlocking_call procedure arguments.now) draft }
     ensures ends { EndsCall (unlocking_call procedure arguments.now) draft.entry.ctx draft.entry.view result }
@@ -82,7 +82,7 @@ pub(crate) fn unlock(
 }
 
 /// What UNLOCK comes to.
-fn unlocked(draft: &mut Draft<'_>, arguments: &UnlockArguments) -> Result<NlmStatus, Halt>
+fn unlocked(draft: &mut Draft<'_>, arguments: &UnlockArguments) -> Result<NlmStatus, Missing>
     requires none { draft.old.writes ≡ [] }
     requires alone { draft.old.modes.locks ≡ Mode.Exclusive }
     ensures ends { MatchResult result
@@ -91,7 +91,7 @@ fn unlocked(draft: &mut Draft<'_>, arguments: &UnlockArguments) -> Result<NlmSta
     ensures first { HaltsFirst draft.old.modes draft.old.view
         (first_wanted_with draft.old.view (arguments.now.lock.file ∷ [])) result }
 {
-    let place = match place_of(draft, &arguments.lock, false)? {
+    let place = match file_range(draft, &arguments.lock, false)? {
         Ok(place) => place,
         Err(fault) => return Ok(fault.status()),
     };

@@ -18,14 +18,14 @@ use std::sync::Arc;
 
 /// A request that is listed, and what of it is compared before the request itself is looked at.
 #[derive(Drop)]
-pub(crate) struct Listed {
+pub(crate) struct ListedRequest {
     number: u64,
     process: i32,
     offset: u64,
     request: Arc<LockRequest>,
 }
 
-impl Model for Listed {
+impl Model for ListedRequest {
     ghost use Rattle.std.specs.Arc.{arc_value};
     ghost use Rattle.nfs_machine.specs.State.{Request};
     ghost use Rattle.nlm_ranges.specs.Requests.{IsListed};
@@ -37,11 +37,11 @@ impl Model for Listed {
     ghost invariant = { λ l. IsListed (arc_value l.request) l.number l.process l.offset };
 }
 
-impl Clone for Listed {
+impl Clone for ListedRequest {
     ghost is_clone = { λ listed copy. copy ≡ listed };
 
-    fn clone(&self) -> Result<Listed, AllocError> {
-        Ok(Listed {
+    fn clone(&self) -> Result<ListedRequest, AllocError> {
+        Ok(ListedRequest {
             number: self.number,
             process: self.process,
             offset: self.offset,
@@ -50,21 +50,21 @@ impl Clone for Listed {
     }
 }
 
-impl Listed {
+impl ListedRequest {
     ghost use Rattle.nfs_machine.specs.Locks.{lies_within};
     ghost use Rattle.nfs_machine.specs.LockSteps.{is_request};
     ghost use Rattle.nfs_machine.specs.OneFile.{requested};
     ghost use Rattle.nlm_ranges.specs.Requests.{goes};
 
     /// The request, to be listed.
-    pub(crate) fn of(request: Arc<LockRequest>) -> Listed
+    pub(crate) fn of(request: Arc<LockRequest>) -> ListedRequest
         ensures { result ≡ arc_value request }
     {
         let number = request.number();
         let asked = request.asked();
         let process = asked.process;
         let offset = asked.offset;
-        Listed {
+        ListedRequest {
             number,
             process,
             offset,
@@ -120,7 +120,7 @@ impl Listed {
 /// Requests that stand behind each other in a list. Copies share them.
 #[derive(Drop)]
 pub(crate) struct Batch {
-    requests: Arc<Vec<Listed>>,
+    requests: Arc<Vec<ListedRequest>>,
 }
 
 impl Model for Batch {
@@ -145,7 +145,7 @@ impl Clone for Batch {
 
 impl Batch {
     /// A batch of these requests.
-    pub(crate) fn of(alloc: Global, requests: Vec<Listed>) -> Result<Batch, AllocError>
+    pub(crate) fn of(alloc: Global, requests: Vec<ListedRequest>) -> Result<Batch, AllocError>
         ensures { IfOk result (λ batch. batch ≡ requests.items) }
     {
         Ok(Batch {
@@ -154,7 +154,7 @@ impl Batch {
     }
 
     /// The requests.
-    pub(crate) fn requests(&self) -> &[Listed]
+    pub(crate) fn requests(&self) -> &[ListedRequest]
         ensures { result.now ≡ self.now }
     {
         self.requests.as_slice()
@@ -184,7 +184,11 @@ impl Batch {
     }
 
     /// The requests without these.
-    pub(crate) fn without(&self, alloc: Global, going: Going<'_>) -> Result<Vec<Listed>, AllocError>
+    pub(crate) fn without(
+        &self,
+        alloc: Global,
+        going: Going<'_>,
+    ) -> Result<Vec<ListedRequest>, AllocError>
         ensures { IfOk result (λ others. others.items ≡ all_but (goes going.entry) self.now) }
     {
         others(alloc, self.requests(), going)
@@ -195,7 +199,7 @@ impl Batch {
         &self,
         alloc: Global,
         other: &Batch,
-    ) -> Result<Vec<Listed>, AllocError>
+    ) -> Result<Vec<ListedRequest>, AllocError>
         ensures { IfOk result (λ requests. requests.items ≡ self.now ++ other.now) }
     {
         let mut requests = Vec::new(alloc);
@@ -206,14 +210,14 @@ impl Batch {
 }
 
 /// Whether one of these is among the requests.
-fn any_of(requests: &[Listed], going: Going<'_>) -> bool
+fn any_of(requests: &[ListedRequest], going: Going<'_>) -> bool
     ensures { result ≡ list_any (goes going.entry) requests.now }
 {
     requests.iter().any(|listed| listed.is_one_of(going))
 }
 
 /// The earliest of these among the requests.
-fn earliest<'a>(requests: &'a [Listed], going: Going<'_>) -> Option<&'a Arc<LockRequest>>
+fn earliest<'a>(requests: &'a [ListedRequest], going: Going<'_>) -> Option<&'a Arc<LockRequest>>
     ensures none { IfNone result (list_any (goes going.entry) requests.now ≡ false) }
     ensures some { IfSome result (λ request.
         find (goes going.entry) requests.now ≡ Some (arc_value request.now)) }
@@ -227,7 +231,7 @@ fn earliest<'a>(requests: &'a [Listed], going: Going<'_>) -> Option<&'a Arc<Lock
 }
 
 /// Whether each of the requests conflicts with what is held.
-fn are_held_up(requests: &[Listed], locks: &LockTable) -> bool
+fn are_held_up(requests: &[ListedRequest], locks: &LockTable) -> bool
     ensures { result ≡ true → AllByRecursion (IsHeldUp locks.now) requests.now }
 {
     for listed in requests {
@@ -239,7 +243,11 @@ fn are_held_up(requests: &[Listed], locks: &LockTable) -> bool
 }
 
 /// The requests without these.
-fn others(alloc: Global, requests: &[Listed], going: Going<'_>) -> Result<Vec<Listed>, AllocError>
+fn others(
+    alloc: Global,
+    requests: &[ListedRequest],
+    going: Going<'_>,
+) -> Result<Vec<ListedRequest>, AllocError>
     ensures { IfOk result (λ others. others.items ≡ all_but (goes going.entry) requests.now) }
 {
     let mut others = Vec::new(alloc);
@@ -252,7 +260,10 @@ fn others(alloc: Global, requests: &[Listed], going: Going<'_>) -> Result<Vec<Li
 }
 
 /// Adds copies of these.
-fn push_listed(requests: &mut Vec<Listed>, others: &[Listed]) -> Result<(), AllocError>
+fn push_listed(
+    requests: &mut Vec<ListedRequest>,
+    others: &[ListedRequest],
+) -> Result<(), AllocError>
     ensures { OnOk result (requests.new.items ≡ requests.old.items ++ others.now) }
 {
     for other in others {
@@ -265,12 +276,12 @@ fn push_listed(requests: &mut Vec<Listed>, others: &[Listed]) -> Result<(), Allo
 pub(crate) fn list_all(
     alloc: Global,
     requests: &[Arc<LockRequest>],
-) -> Result<Vec<Listed>, AllocError>
+) -> Result<Vec<ListedRequest>, AllocError>
     ensures { IfOk result (λ all. all.items ≡ map arc_value requests.now) }
 {
     let mut all = Vec::with_capacity(alloc, requests.len())?;
     for request in requests {
-        all.push(Listed::of(Arc::try_clone(request)?))?;
+        all.push(ListedRequest::of(Arc::try_clone(request)?))?;
     }
     Ok(all)
 }
@@ -278,7 +289,7 @@ pub(crate) fn list_all(
 /// Adds these requests.
 pub(crate) fn push_shared(
     requests: &mut Vec<Arc<LockRequest>>,
-    others: &[Listed],
+    others: &[ListedRequest],
 ) -> Result<(), AllocError>
     ensures { OnOk result
         (map arc_value requests.new.items ≡ map arc_value requests.old.items ++ others.now) }

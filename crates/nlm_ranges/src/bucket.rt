@@ -13,7 +13,7 @@ ghost use Rattle.nlm_ranges.specs.Parts.{part_index};
 
 use crate::files::{LockedFiles, are_same};
 use crate::locked::LockedFile;
-use crate::part::{Part, files_at, others, push_parts, with_file, with_part};
+use crate::part::{BucketPart, files_at, others, push_parts, with_file, with_part};
 use std::alloc::{AllocError, Global};
 use std::marker::Model;
 
@@ -31,7 +31,7 @@ const GIVEN_MOST: u64 = 1 << 58;
 #[derive(Drop)]
 pub struct LockBucket {
     given: u64,
-    parts: Vec<Part>,
+    parts: Vec<BucketPart>,
 }
 
 impl Model for LockBucket {

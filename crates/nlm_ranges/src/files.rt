@@ -6,14 +6,14 @@ ghost use Rattle.nlm_ranges.specs.Parts.{files_of};
 ghost use Rattle.nlm_ranges.specs.Same.{same_locked};
 
 use crate::locked::LockedFile;
-use crate::part::Part;
+use crate::part::BucketPart;
 use std::marker::Model;
 
 /// The files of a bucket that are left, one after the other.
 #[derive(Drop)]
 pub struct LockedFiles<'a> {
     front: &'a [LockedFile],
-    parts: &'a [Part],
+    parts: &'a [BucketPart],
 }
 
 impl<'a> Model for LockedFiles<'a> {
@@ -28,7 +28,7 @@ impl<'a> Model for LockedFiles<'a> {
 
 impl<'a> LockedFiles<'a> {
     /// The files of these parts.
-    pub(crate) fn of(parts: &'a [Part]) -> LockedFiles<'a>
+    pub(crate) fn of(parts: &'a [BucketPart]) -> LockedFiles<'a>
         ensures { result ≡ files_of parts.now }
     {
         LockedFiles { front: &[], parts }

@@ -6,15 +6,15 @@ ghost use Rattle.nlm_ranges.specs.Cutting.{joined};
 ghost use Rattle.nlm_ranges.specs.Same.{same_lock};
 
 use crate::held::HeldLock;
-use crate::piece::Piece;
+use crate::piece::LockPiece;
 use std::marker::Model;
 
 /// The locks of a table that are left, one after the other.
 #[derive(Drop)]
 pub struct Locks<'a> {
     front: &'a [HeldLock],
-    pieces: &'a [Piece],
-    behind: &'a [Piece],
+    pieces: &'a [LockPiece],
+    behind: &'a [LockPiece],
 }
 
 impl<'a> Model for Locks<'a> {
@@ -29,7 +29,7 @@ impl<'a> Model for Locks<'a> {
 
 impl<'a> Locks<'a> {
     /// The locks of these pieces, and then of those.
-    pub(crate) fn of(pieces: &'a [Piece], behind: &'a [Piece]) -> Locks<'a>
+    pub(crate) fn of(pieces: &'a [LockPiece], behind: &'a [LockPiece]) -> Locks<'a>
         ensures { result ≡ joined pieces.now ++ joined behind.now }
     {
         Locks {

@@ -10,7 +10,7 @@ ghost use Rattle.nlm_ranges.specs.Cutting.{Inserts, cut, is_of_caller, is_touche
 ghost use Rattle.nlm_ranges.specs.Held.{GoesOn, IsGivenBack, Precedes};
 
 use crate::held::HeldLock;
-use crate::piece::Piece;
+use crate::piece::LockPiece;
 use crate::range::LockRange;
 use std::alloc::{AllocError, Global};
 use std::marker::Model;
@@ -21,7 +21,7 @@ const PIECE_LIMIT: usize = 128;
 /// Locks of one mode, in pieces.
 #[derive(Drop)]
 pub(crate) struct LockList {
-    pieces: Vec<Piece>,
+    pieces: Vec<LockPiece>,
 }
 
 impl Model for LockList {
@@ -45,7 +45,7 @@ impl LockList {
     }
 
     /// The pieces that the locks stand in.
-    pub(crate) fn pieces(&self) -> &[Piece]
+    pub(crate) fn pieces(&self) -> &[LockPiece]
         ensures { joined result.now ≡ self.now }
     {
         &self.pieces
@@ -154,7 +154,7 @@ impl LockList {
 }
 
 /// Whether the pieces have no locks.
-fn are_empty(pieces: &[Piece]) -> bool
+fn are_empty(pieces: &[LockPiece]) -> bool
     ensures { result ≡ (length (joined pieces.now) == 0) }
 {
     for piece in pieces {
@@ -167,7 +167,7 @@ fn are_empty(pieces: &[Piece]) -> bool
 
 /// A lock that stands in the way of the range.
 fn first_in_way<'a>(
-    pieces: &'a [Piece],
+    pieces: &'a [LockPiece],
     range: &LockRange<'_>,
     exclusive: bool,
 ) -> Option<&'a HeldLock>
@@ -184,7 +184,7 @@ fn first_in_way<'a>(
 }
 
 /// The lock of the range's owner that has this offset.
-fn first_at<'a>(pieces: &'a [Piece], range: &LockRange<'_>, offset: u64) -> Option<&'a HeldLock>
+fn first_at<'a>(pieces: &'a [LockPiece], range: &LockRange<'_>, offset: u64) -> Option<&'a HeldLock>
     ensures { IfSome result (λ lock. Contains (joined pieces.now) lock.now
         × (is_in lock.now.range range.now.owner offset ≡ true)) }
 {
@@ -197,14 +197,18 @@ fn first_at<'a>(pieces: &'a [Piece], range: &LockRange<'_>, offset: u64) -> Opti
 }
 
 /// Whether a piece has a lock of the range's owner that has an offset of the range.
-fn any_touched(pieces: &[Piece], range: &LockRange<'_>) -> bool
+fn any_touched(pieces: &[LockPiece], range: &LockRange<'_>) -> bool
     ensures { result ≡ list_any (list_any (is_touched range.now)) pieces.now }
 {
     pieces.iter().any(|piece| piece.is_touched(range))
 }
 
 /// What is left of the pieces where the range's owner gives the range back.
-fn rest_of(alloc: Global, pieces: &[Piece], range: &LockRange<'_>) -> Result<Vec<Piece>, AllocError>
+fn rest_of(
+    alloc: Global,
+    pieces: &[LockPiece],
+    range: &LockRange<'_>,
+) -> Result<Vec<LockPiece>, AllocError>
     ensures { IfOk result (λ rest. joined rest.items ≡ flat_map (cut range.now) (joined pieces.now)) }
 {
     let mut rest = Vec::new(alloc);
@@ -215,7 +219,11 @@ fn rest_of(alloc: Global, pieces: &[Piece], range: &LockRange<'_>) -> Result<Vec
 }
 
 /// What is left of the pieces where a caller has nothing more.
-fn others_of(alloc: Global, pieces: &[Piece], caller_name: &[u8]) -> Result<Vec<Piece>, AllocError>
+fn others_of(
+    alloc: Global,
+    pieces: &[LockPiece],
+    caller_name: &[u8],
+) -> Result<Vec<LockPiece>, AllocError>
     ensures { IfOk result (λ others. joined others.items
         ≡ filter (λ l. not (is_of_caller caller_name.now l)) (joined pieces.now)) }
 {
@@ -229,10 +237,10 @@ fn others_of(alloc: Global, pieces: &[Piece], caller_name: &[u8]) -> Result<Vec<
 /// The pieces with the range's lock.
 fn with_lock(
     alloc: Global,
-    pieces: &[Piece],
+    pieces: &[LockPiece],
     range: &LockRange<'_>,
     exclusive: bool,
-) -> Result<Vec<Piece>, AllocError>
+) -> Result<Vec<LockPiece>, AllocError>
     ensures { IfOk result (λ new. Inserts (joined pieces.now)
         (record { range = range.now; exclusive = exclusive }) (joined new.items)) }
 {
@@ -240,7 +248,7 @@ fn with_lock(
     let mut new = Vec::new(alloc);
     add_pieces(alloc, &mut new, before)?;
     let Some((piece, behind)) = from.split_first() else {
-        let none = Piece::of(alloc, Vec::new(alloc))?;
+        let none = LockPiece::of(alloc, Vec::new(alloc))?;
         add_locks(alloc, &mut new, none.with_lock(alloc, range, exclusive)?)?;
         return Ok(new);
     };
@@ -250,7 +258,7 @@ fn with_lock(
 }
 
 /// The place of the last piece that begins before the range, or of the first one.
-fn place_of(pieces: &[Piece], range: &LockRange<'_>) -> usize
+fn place_of(pieces: &[LockPiece], range: &LockRange<'_>) -> usize
     ensures { result ≤ length pieces.now }
 {
     let above = pieces.partition_point(|piece| piece.first() <= range.first());
@@ -258,7 +266,7 @@ fn place_of(pieces: &[Piece], range: &LockRange<'_>) -> usize
 }
 
 /// Adds a piece. It is joined to the last where both fit into one, and left out where it is empty.
-fn add_piece(alloc: Global, pieces: &mut Vec<Piece>, piece: Piece) -> Result<(), AllocError>
+fn add_piece(alloc: Global, pieces: &mut Vec<LockPiece>, piece: LockPiece) -> Result<(), AllocError>
     ensures { OnOk result (joined pieces.new.items ≡ joined pieces.old.items ++ piece) }
 {
     if piece.locks().is_empty() {
@@ -266,7 +274,7 @@ fn add_piece(alloc: Global, pieces: &mut Vec<Piece>, piece: Piece) -> Result<(),
     }
     match pieces.split_last() {
         Some((last, _)) if fit_together(last, &piece) => {
-            let both = Piece::of(alloc, last.joined_with(alloc, &piece)?)?;
+            let both = LockPiece::of(alloc, last.joined_with(alloc, &piece)?)?;
             pieces.pop();
             pieces.push(both)?;
         }
@@ -276,13 +284,17 @@ fn add_piece(alloc: Global, pieces: &mut Vec<Piece>, piece: Piece) -> Result<(),
 }
 
 /// Whether the locks of both fit into one piece.
-fn fit_together(piece: &Piece, other: &Piece) -> bool {
+fn fit_together(piece: &LockPiece, other: &LockPiece) -> bool {
     let locks = piece.locks().len();
     locks.saturating_add(other.locks().len()) <= PIECE_LIMIT
 }
 
 /// Adds these pieces in turn.
-fn add_pieces(alloc: Global, pieces: &mut Vec<Piece>, others: &[Piece]) -> Result<(), AllocError>
+fn add_pieces(
+    alloc: Global,
+    pieces: &mut Vec<LockPiece>,
+    others: &[LockPiece],
+) -> Result<(), AllocError>
     ensures { OnOk result (joined pieces.new.items ≡ joined pieces.old.items ++ joined others.now) }
 {
     for other in others {
@@ -294,25 +306,25 @@ fn add_pieces(alloc: Global, pieces: &mut Vec<Piece>, others: &[Piece]) -> Resul
 /// Adds these locks, in two pieces where one can't have them.
 fn add_locks(
     alloc: Global,
-    pieces: &mut Vec<Piece>,
+    pieces: &mut Vec<LockPiece>,
     mut locks: Vec<HeldLock>,
 ) -> Result<(), AllocError>
     ensures { OnOk result (joined pieces.new.items ≡ joined pieces.old.items ++ locks.items) }
 {
     if locks.len() <= PIECE_LIMIT {
-        return add_piece(alloc, pieces, Piece::of(alloc, locks)?);
+        return add_piece(alloc, pieces, LockPiece::of(alloc, locks)?);
     }
     let behind = locks.split_off(locks.len() / 2)?;
-    add_piece(alloc, pieces, Piece::of(alloc, locks)?)?;
-    add_piece(alloc, pieces, Piece::of(alloc, behind)?)?;
+    add_piece(alloc, pieces, LockPiece::of(alloc, locks)?)?;
+    add_piece(alloc, pieces, LockPiece::of(alloc, behind)?)?;
     Ok(())
 }
 
 /// Adds what is left of a piece where the range's owner gives the range back.
 fn add_rest(
     alloc: Global,
-    pieces: &mut Vec<Piece>,
-    piece: &Piece,
+    pieces: &mut Vec<LockPiece>,
+    piece: &LockPiece,
     range: &LockRange<'_>,
 ) -> Result<(), AllocError>
     ensures { OnOk result
@@ -329,8 +341,8 @@ fn add_rest(
 /// Adds what is left of a piece where a caller has nothing more.
 fn add_others(
     alloc: Global,
-    pieces: &mut Vec<Piece>,
-    piece: &Piece,
+    pieces: &mut Vec<LockPiece>,
+    piece: &LockPiece,
     caller_name: &[u8],
 ) -> Result<(), AllocError>
     ensures { OnOk result (joined pieces.new.items

@@ -13,12 +13,12 @@ use std::sync::Arc;
 
 /// Files of a bucket with one index, and that index. Copies share the files.
 #[derive(Drop)]
-pub(crate) struct Part {
+pub(crate) struct BucketPart {
     index: u8,
     files: Arc<Vec<LockedFile>>,
 }
 
-impl Model for Part {
+impl Model for BucketPart {
     ghost use Rattle.std.specs.Arc.{arc_value};
     ghost use Rattle.nlm_ranges.specs.Parts.{PartValue};
 
@@ -27,23 +27,27 @@ impl Model for Part {
     ghost view = { λ p. record { index = p.index; files = (arc_value p.files).items } };
 }
 
-impl Clone for Part {
+impl Clone for BucketPart {
     ghost is_clone = { λ part copy. copy ≡ part };
 
-    fn clone(&self) -> Result<Part, AllocError> {
-        Ok(Part {
+    fn clone(&self) -> Result<BucketPart, AllocError> {
+        Ok(BucketPart {
             index: self.index,
             files: Arc::try_clone(&self.files)?,
         })
     }
 }
 
-impl Part {
+impl BucketPart {
     /// The part of these files.
-    pub(crate) fn of(alloc: Global, index: u8, files: Vec<LockedFile>) -> Result<Part, AllocError>
+    pub(crate) fn of(
+        alloc: Global,
+        index: u8,
+        files: Vec<LockedFile>,
+    ) -> Result<BucketPart, AllocError>
         ensures { IfOk result (λ part. part ≡ record { index = index; files = files.items }) }
     {
-        Ok(Part {
+        Ok(BucketPart {
             index,
             files: Arc::new(alloc, files)?,
         })
@@ -65,7 +69,7 @@ impl Part {
 }
 
 /// The files of the part with this index, if there is one.
-pub(crate) fn files_at(parts: &[Part], index: u8) -> &[LockedFile]
+pub(crate) fn files_at(parts: &[BucketPart], index: u8) -> &[LockedFile]
     ensures { result.now ≡ files_at index parts.now }
 {
     match parts.iter().find(|part| part.index() == index) {
@@ -77,10 +81,10 @@ pub(crate) fn files_at(parts: &[Part], index: u8) -> &[LockedFile]
 /// The parts where that with this index has these files. A part without files is not listed.
 pub(crate) fn with_part(
     alloc: Global,
-    parts: &[Part],
+    parts: &[BucketPart],
     index: u8,
     files: Vec<LockedFile>,
-) -> Result<Vec<Part>, AllocError>
+) -> Result<Vec<BucketPart>, AllocError>
     ensures { IfOk result (λ new. new.items ≡ with_part index files.items parts.now) }
 {
     let (before, from) = parts.split_at(place_of(parts, index));
@@ -95,7 +99,7 @@ pub(crate) fn with_part(
 }
 
 /// The place of the part with this index, or the one behind all where there is none.
-fn place_of(parts: &[Part], index: u8) -> usize
+fn place_of(parts: &[BucketPart], index: u8) -> usize
     ensures place { result ≡ position_or_len (λ p. p.index == index) parts.now }
     ensures within { result ≤ length parts.now }
 {
@@ -106,7 +110,10 @@ fn place_of(parts: &[Part], index: u8) -> usize
 }
 
 /// Adds copies of these parts.
-pub(crate) fn push_parts(parts: &mut Vec<Part>, others: &[Part]) -> Result<(), AllocError>
+pub(crate) fn push_parts(
+    parts: &mut Vec<BucketPart>,
+    others: &[BucketPart],
+) -> Result<(), AllocError>
     ensures { OnOk result (parts.new.items ≡ parts.old.items ++ others.now) }
 {
     for other in others {
@@ -118,7 +125,7 @@ pub(crate) fn push_parts(parts: &mut Vec<Part>, others: &[Part]) -> Result<(), A
 /// Adds a part of these files, if there are any.
 fn push_part(
     alloc: Global,
-    parts: &mut Vec<Part>,
+    parts: &mut Vec<BucketPart>,
     index: u8,
     files: Vec<LockedFile>,
 ) -> Result<(), AllocError>
@@ -127,7 +134,7 @@ fn push_part(
     if files.is_empty() {
         return Ok(());
     }
-    parts.push(Part::of(alloc, index, files)?)?;
+    parts.push(BucketPart::of(alloc, index, files)?)?;
     Ok(())
 }
 

@@ -19,13 +19,13 @@ use std::sync::Arc;
 
 /// Locks, and between which offsets all of them are. Copies share the locks.
 #[derive(Drop)]
-pub(crate) struct Piece {
+pub(crate) struct LockPiece {
     first: u64,
     last: u64,
     locks: Arc<Vec<HeldLock>>,
 }
 
-impl Model for Piece {
+impl Model for LockPiece {
     ghost use Rattle.std.specs.Prelude.{List};
     ghost use Rattle.std.specs.Arc.{arc_value};
     ghost use Rattle.std.specs.List.{AllByRecursion};
@@ -39,11 +39,11 @@ impl Model for Piece {
     ghost invariant = { λ p. AllByRecursion (IsBetween p.first p.last) (arc_value p.locks).items };
 }
 
-impl Clone for Piece {
+impl Clone for LockPiece {
     ghost is_clone = { λ piece copy. copy ≡ piece };
 
-    fn clone(&self) -> Result<Piece, AllocError> {
-        Ok(Piece {
+    fn clone(&self) -> Result<LockPiece, AllocError> {
+        Ok(LockPiece {
             first: self.first,
             last: self.last,
             locks: Arc::try_clone(&self.locks)?,
@@ -51,17 +51,17 @@ impl Clone for Piece {
     }
 }
 
-impl Piece {
+impl LockPiece {
     ghost use Rattle.nfs_machine.specs.LockLaws.{stands_in_way};
     ghost use Rattle.nfs_machine.specs.Locks.{is_in};
     ghost use Rattle.nlm_ranges.specs.Cutting.{Inserts, cut, is_of_caller, is_touched};
 
     /// A piece of these locks.
-    pub(crate) fn of(alloc: Global, locks: Vec<HeldLock>) -> Result<Piece, AllocError>
+    pub(crate) fn of(alloc: Global, locks: Vec<HeldLock>) -> Result<LockPiece, AllocError>
         ensures { IfOk result (λ piece. piece ≡ locks.items) }
     {
         let (first, last) = ends(&locks);
-        Ok(Piece {
+        Ok(LockPiece {
             first,
             last,
             locks: Arc::new(alloc, locks)?,
@@ -162,7 +162,7 @@ impl Piece {
     pub(crate) fn joined_with(
         &self,
         alloc: Global,
-        other: &Piece,
+        other: &LockPiece,
     ) -> Result<Vec<HeldLock>, AllocError>
         ensures { IfOk result (λ locks. locks.items ≡ self.now ++ other.now) }
     {

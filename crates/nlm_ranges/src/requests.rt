@@ -11,7 +11,7 @@ ghost use Rattle.nlm_ranges.specs.Cutting.{joined};
 ghost use Rattle.nlm_ranges.specs.Requests.{goes};
 ghost use Rattle.nlm_ranges.specs.Same.{equal_requests};
 
-use crate::batch::{Batch, Listed, list_all, push_shared};
+use crate::batch::{Batch, ListedRequest, list_all, push_shared};
 use crate::locks::LockTable;
 use crate::range::LockRange;
 use crate::request::LockRequest;
@@ -157,7 +157,7 @@ impl RequestList {
         ensures { IfOk result (λ list. list ≡ self.now ++ arc_value request ∷ []) }
     {
         let mut requests = Vec::with_capacity(alloc, 1)?;
-        requests.push(Listed::of(request))?;
+        requests.push(ListedRequest::of(request))?;
         let last = Batch::of(alloc, requests)?;
         let mut batches = copied(alloc, &self.batches)?;
         add_batch(alloc, &mut batches, last)?;
@@ -213,7 +213,7 @@ impl RequestList {
 /// The requests of a list that are left, one after the other.
 #[derive(Drop)]
 pub struct Requests<'a> {
-    front: &'a [Listed],
+    front: &'a [ListedRequest],
     batches: &'a [Batch],
 }
 

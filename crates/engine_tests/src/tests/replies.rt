@@ -5,7 +5,7 @@ ghost use Rattle.nfs_replies.specs.Kept.{reply_for};
 ghost use Rattle.nfs_replies.specs.Replies.{kept_of};
 
 use bytes::Bytes;
-use nfs_replies::{Capacity, Hashed, RecordKey, Replies, Sought};
+use nfs_replies::{Capacity, Hashed, HashedRef, RecordKey, Replies};
 use nfs_tables::Placing;
 use std::alloc::{AllocError, Global};
 use std::test::Fail;
@@ -55,7 +55,7 @@ fn answered(
     let bytes = Bytes::from_static(bytes);
     let reply = Bytes::from_static(reply);
     let key = RecordKey::new(&KEY);
-    if let Some(kept) = replies.find(&host, Sought::new(key, &bytes))? {
+    if let Some(kept) = replies.find(&host, HashedRef::new(key, &bytes))? {
         return Ok(kept);
     }
     replies.keep(alloc, &host, Hashed::new(key, bytes), reply.clone()?)?;
@@ -216,7 +216,7 @@ fn a_refused_growth_changes_nothing(rt: HostRuntime) -> Result<(), Fail> {
         if replies
             .find(
                 &key,
-                Sought::new(RecordKey::new(&KEY), &Bytes::from_static(record)),
+                HashedRef::new(RecordKey::new(&KEY), &Bytes::from_static(record)),
             )?
             .is_none()
         {
@@ -231,7 +231,7 @@ fn a_refused_growth_changes_nothing(rt: HostRuntime) -> Result<(), Fail> {
     ] {
         let key = Bytes::from_static(host);
         let record = Bytes::from_static(record);
-        let found = replies.find(&key, Sought::new(RecordKey::new(&KEY), &record))?;
+        let found = replies.find(&key, HashedRef::new(RecordKey::new(&KEY), &record))?;
         assert_eq!(rt; found.is_some(), is_kept);
     }
     Ok(())
@@ -248,7 +248,7 @@ fn records_are_told_apart_by_all_their_bytes(rt: HostRuntime) -> Result<(), Fail
             let mut bytes = Vec::from_elem(rt.alloc(), 7, length)?;
             bytes.push(last)?;
             let bytes = Bytes::from_vec(bytes)?;
-            assert!(rt; replies.find(&host, Sought::new(key, &bytes))?.is_none());
+            assert!(rt; replies.find(&host, HashedRef::new(key, &bytes))?.is_none());
             replies.keep(rt.alloc(), &host, Hashed::new(key, bytes.clone()?), bytes)?;
         }
     }
@@ -257,7 +257,7 @@ fn records_are_told_apart_by_all_their_bytes(rt: HostRuntime) -> Result<(), Fail
             let mut bytes = Vec::from_elem(rt.alloc(), 7, length)?;
             bytes.push(last)?;
             let bytes = Bytes::from_vec(bytes)?;
-            let found = replies.find(&host, Sought::new(key, &bytes))?;
+            let found = replies.find(&host, HashedRef::new(key, &bytes))?;
             assert!(rt; found == Some(bytes));
         }
     }
@@ -272,21 +272,25 @@ fn a_record_of_another_key_is_hashed_again(rt: HostRuntime) -> Result<(), Fail> 
     let (own, other) = (RecordKey::new(&KEY), RecordKey::new(&OTHER_KEY));
     let (first, second) = (Bytes::from_static(CREATE), Bytes::from_static(LONG));
     let reply = Bytes::from_static(OK);
-    assert!(rt; replies.find(&host, Sought::new(other, &first))?.is_none());
+    assert!(rt;
+        replies
+            .find(&host, HashedRef::new(other, &first))?
+            .is_none()
+    );
     replies.keep(
         rt.alloc(),
         &host,
         Hashed::new(other, first.clone()?),
         reply.clone()?,
     )?;
-    assert!(rt; replies.find(&host, Sought::new(own, &second))?.is_none());
+    assert!(rt; replies.find(&host, HashedRef::new(own, &second))?.is_none());
     replies.keep(rt.alloc(), &host, Hashed::new(own, second.clone()?), reply)?;
     for key in [own, other] {
-        assert!(rt; replies.find(&host, Sought::new(key, &first))?.is_some());
-        assert!(rt; replies.find(&host, Sought::new(key, &second))?.is_some());
+        assert!(rt; replies.find(&host, HashedRef::new(key, &first))?.is_some());
+        assert!(rt; replies.find(&host, HashedRef::new(key, &second))?.is_some());
         assert!(rt;
             replies
-                .find(&host, Sought::new(key, &Bytes::from_static(LONGER)))?
+                .find(&host, HashedRef::new(key, &Bytes::from_static(LONGER)))?
                 .is_none()
         );
     }

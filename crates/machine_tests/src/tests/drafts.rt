@@ -163,7 +163,7 @@ fn numbered(alloc: Global) -> Result<View, AllocError>
 }
 
 /// The number that a draft with this view gives.
-fn fresh(alloc: Global, view: View) -> Result<Reserved, Halt>
+fn fresh(alloc: Global, view: View) -> Result<Reserved, Missing>
     requires { Suits changing view }
 {
     let ctx = ctx(1);
@@ -175,7 +175,7 @@ fn fresh(alloc: Global, view: View) -> Result<Reserved, Halt>
     fresh
 }
 
-fn is_reserved(fresh: Result<Reserved, Halt>) -> bool {
+fn is_reserved(fresh: Result<Reserved, Missing>) -> bool {
     match fresh {
         Ok(reserved) => reserved == RESERVED,
         Err(halt) => {
@@ -229,7 +229,7 @@ fn message_goes(alloc: Global) -> Result<bool, AllocError> {
 }
 
 /// How many numbers are wanted, where that is the outcome of a call that ended so; None for want of memory.
-fn wanted(ended: Result<Change, Halt>) -> Option<u32> {
+fn wanted(ended: Result<Change, Missing>) -> Option<u32> {
     match outcome(ended) {
         Ok(outcome) => {
             let count = fresh_count(&outcome);
@@ -249,7 +249,7 @@ fn fresh_count(outcome: &Outcome) -> u32 {
 
 /// Whether a halt is an outcome, but for want of memory.
 fn halts_are_outcomes() -> bool {
-    wanted(Err(Halt::Fresh(1))) == Some(1) && wanted(Err(Halt::from(AllocError))).is_none()
+    wanted(Err(Missing::Fresh(1))) == Some(1) && wanted(Err(Missing::from(AllocError))).is_none()
 }
 
 #[test]

@@ -32,7 +32,7 @@ enum Look {
 }
 
 /// Whether it is shown so before and after a call that does not change it.
-fn stays(draft: &Draft<'_>, before: &Known) -> Result<bool, Halt> {
+fn stays(draft: &Draft<'_>, before: &Known) -> Result<bool, Missing> {
     let weak = WeakAttributes {
         size: 0,
         modified: TIME,
@@ -48,7 +48,7 @@ fn leads(
     name: &[u8],
     number: Option<u64>,
     entered: Option<u64>,
-) -> Result<bool, Halt>
+) -> Result<bool, Missing>
     requires { draft.now.writes ≡ [] }
 {
     let Some(known) = object(draft, 9)? else {
@@ -61,7 +61,7 @@ fn leads(
 }
 
 /// The cookie of the next entry of directory 9.
-fn next(draft: &Draft<'_>) -> Result<Option<u64>, Halt> {
+fn next(draft: &Draft<'_>) -> Result<Option<u64>, Missing> {
     let Some(known) = object(draft, 9)? else {
         return Ok(None);
     };
@@ -72,7 +72,7 @@ fn next(draft: &Draft<'_>) -> Result<Option<u64>, Halt> {
 }
 
 /// The status that a call with this handle gets, if any.
-fn refused(draft: &Draft<'_>, handle: &[u8]) -> Result<Option<NfsStatus>, Halt>
+fn refused(draft: &Draft<'_>, handle: &[u8]) -> Result<Option<NfsStatus>, Missing>
     requires { draft.now.writes ≡ [] }
 {
     match named(draft, handle)? {
@@ -81,7 +81,7 @@ fn refused(draft: &Draft<'_>, handle: &[u8]) -> Result<Option<NfsStatus>, Halt>
     }
 }
 
-fn is_told(draft: &Draft<'_>, look: &Look) -> Result<bool, Halt>
+fn is_told(draft: &Draft<'_>, look: &Look) -> Result<bool, Missing>
     requires { draft.now.writes ≡ [] }
 {
     match *look {
@@ -96,7 +96,7 @@ fn is_told(draft: &Draft<'_>, look: &Look) -> Result<bool, Halt>
 }
 
 /// Whether a draft tells all of this.
-fn are_told(draft: &Draft<'_>, looks: &[Look]) -> Result<bool, Halt>
+fn are_told(draft: &Draft<'_>, looks: &[Look]) -> Result<bool, Missing>
     requires { draft.now.writes ≡ [] }
 {
     for look in looks {

@@ -7,7 +7,7 @@ ghost use Rattle.nfs_inodes.specs.Kinds.{IsShown};
 
 use super::*;
 use nfs_inodes::{
-    File, add_entry, file_wanted, lose_link, make_object, new_cookie, object, read, regular,
+    KnownFile, add_entry, file_wanted, lose_link, make_object, new_cookie, object, read, regular,
     resize, take_entry, write,
 };
 use nfs_objects::object::living;
@@ -88,7 +88,7 @@ fn start_inode(alloc: Global, start: Start) -> Result<Inode, AllocError> {
 }
 
 /// Regular file 9.
-fn file(draft: &Draft<'_>) -> Result<Option<File>, Halt>
+fn file(draft: &Draft<'_>) -> Result<Option<KnownFile>, Missing>
     ensures { IfOk result (λ file. IfSome file (λ file. IsShown draft.now file.known)) }
 {
     match object(draft, 9)? {
@@ -97,7 +97,7 @@ fn file(draft: &Draft<'_>) -> Result<Option<File>, Halt>
     }
 }
 
-fn resized(draft: &mut Draft<'_>, size: u64) -> Result<bool, Halt>
+fn resized(draft: &mut Draft<'_>, size: u64) -> Result<bool, Missing>
     requires none { draft.old.writes ≡ [] }
     requires alone { draft.old.modes ≡ changing }
 {
@@ -109,7 +109,7 @@ fn resized(draft: &mut Draft<'_>, size: u64) -> Result<bool, Halt>
 }
 
 /// Writes at most 100 bytes, and at least one.
-fn written(draft: &mut Draft<'_>, offset: u8, bytes: &[u8]) -> Result<bool, Halt>
+fn written(draft: &mut Draft<'_>, offset: u8, bytes: &[u8]) -> Result<bool, Missing>
     requires { draft.old.modes ≡ changing }
 {
     if bytes.is_empty() || bytes.len() > 100 {
@@ -123,7 +123,7 @@ fn written(draft: &mut Draft<'_>, offset: u8, bytes: &[u8]) -> Result<bool, Halt
 }
 
 /// Directory 9.
-fn place(draft: &Draft<'_>) -> Result<Option<nfs_inodes::Directory>, Halt>
+fn place(draft: &Draft<'_>) -> Result<Option<nfs_inodes::KnownDirectory>, Missing>
     ensures exported { IfOk result (λ place. IfSome place (λ place. ShowsExport draft.now place.known.export)) }
     ensures shown { IfOk result (λ place. IfSome place (λ place. IsShown draft.now place.known)) }
 {
@@ -134,7 +134,7 @@ fn place(draft: &Draft<'_>) -> Result<Option<nfs_inodes::Directory>, Halt>
 }
 
 /// Adds `a`, which leads to 7, and `b`, which leads to 8, to directory 9, and takes `b` out.
-fn come_and_go(draft: &mut Draft<'_>) -> Result<bool, Halt>
+fn come_and_go(draft: &mut Draft<'_>) -> Result<bool, Missing>
     requires none { draft.old.writes ≡ [] }
     requires alone { draft.old.modes ≡ changing }
 {
@@ -154,7 +154,7 @@ const SIZED: CreateHow = CreateHow::Unchecked(SetAttributes {
 });
 
 /// Makes the file `x` in directory 9, which is given number 10.
-fn made(draft: &mut Draft<'_>) -> Result<bool, Halt>
+fn made(draft: &mut Draft<'_>) -> Result<bool, Missing>
     requires none { draft.old.writes ≡ [] }
     requires alone { draft.old.modes ≡ changing }
 {
@@ -166,7 +166,7 @@ fn made(draft: &mut Draft<'_>) -> Result<bool, Halt>
 }
 
 /// Changes object 9. False says that it is of another kind, or that the new file was given another number.
-fn changed(draft: &mut Draft<'_>, change: Change) -> Result<bool, Halt>
+fn changed(draft: &mut Draft<'_>, change: Change) -> Result<bool, Missing>
     requires none { draft.old.writes ≡ [] }
     requires alone { draft.old.modes ≡ changing }
 {
@@ -183,7 +183,7 @@ fn changed(draft: &mut Draft<'_>, change: Change) -> Result<bool, Halt>
 }
 
 /// Whether file 9 has these bytes from this place on, of which at most so many are read.
-fn ends(draft: &Draft<'_>, start: u64, count: u32, bytes: &'static [u8]) -> Result<bool, Halt> {
+fn ends(draft: &Draft<'_>, start: u64, count: u32, bytes: &'static [u8]) -> Result<bool, Missing> {
     let Some(file) = file(draft)? else {
         return Ok(false);
     };
@@ -195,7 +195,12 @@ fn ends(draft: &Draft<'_>, start: u64, count: u32, bytes: &'static [u8]) -> Resu
 }
 
 /// Whether object 9 has so many links, and was modified and changed at these times.
-fn has_links(draft: &Draft<'_>, links: u32, modified: Time, changed: Time) -> Result<bool, Halt> {
+fn has_links(
+    draft: &Draft<'_>,
+    links: u32,
+    modified: Time,
+    changed: Time,
+) -> Result<bool, Missing> {
     match object(draft, 9)? {
         Some(Known { attributes, .. }) => Ok(
             attributes.links == links
@@ -214,7 +219,7 @@ fn led(draft: &Draft<'_>, name: &[u8]) -> Option<u64> {
 }
 
 /// The cookie of the next entry of directory 9.
-fn next(draft: &Draft<'_>) -> Result<Option<u64>, Halt> {
+fn next(draft: &Draft<'_>) -> Result<Option<u64>, Missing> {
     match place(draft)? {
         Some(place) => new_cookie(draft, &place),
         None => Ok(None),
@@ -222,7 +227,7 @@ fn next(draft: &Draft<'_>) -> Result<Option<u64>, Halt> {
 }
 
 /// Whether number 10 is a file of 3 zeros, of user 1 and group 1, with mode 0644.
-fn is_new(draft: &Draft<'_>) -> Result<bool, Halt> {
+fn is_new(draft: &Draft<'_>) -> Result<bool, Missing> {
     let Some(known) = object(draft, 10)? else {
         return Ok(false);
     };
@@ -234,7 +239,7 @@ fn is_new(draft: &Draft<'_>) -> Result<bool, Halt> {
     )
 }
 
-fn finds(draft: &Draft<'_>, find: &Find) -> Result<bool, Halt> {
+fn finds(draft: &Draft<'_>, find: &Find) -> Result<bool, Missing> {
     match *find {
         Find::Bytes(bytes) => ends(draft, 0, 100, bytes),
         Find::OtherBytes(bytes) => Ok(!ends(draft, 0, 100, bytes)?),
@@ -248,7 +253,7 @@ fn finds(draft: &Draft<'_>, find: &Find) -> Result<bool, Halt> {
     }
 }
 
-fn finds_all(draft: &Draft<'_>, list: &[Find]) -> Result<bool, Halt> {
+fn finds_all(draft: &Draft<'_>, list: &[Find]) -> Result<bool, Missing> {
     for find in list {
         if !finds(draft, find)? {
             return Ok(false);
@@ -258,7 +263,7 @@ fn finds_all(draft: &Draft<'_>, list: &[Find]) -> Result<bool, Halt> {
 }
 
 /// Whether the change comes to all of this.
-fn turns(draft: &mut Draft<'_>, change: Change, finds: &[Find]) -> Result<bool, Halt>
+fn turns(draft: &mut Draft<'_>, change: Change, finds: &[Find]) -> Result<bool, Missing>
     requires none { draft.old.writes ≡ [] }
     requires alone { draft.old.modes ≡ changing }
 {
@@ -266,7 +271,7 @@ fn turns(draft: &mut Draft<'_>, change: Change, finds: &[Find]) -> Result<bool, 
 }
 
 /// The same where these stand at first.
-fn tried(alloc: Global, case: &Case) -> Result<bool, Halt> {
+fn tried(alloc: Global, case: &Case) -> Result<bool, Missing> {
     let view = viewed(alloc, start_inode(alloc, case.start)?, case.beside)?;
     let ctx = ctx(1);
     let mut draft = Draft::new(alloc, &ctx, &view, CHANGING);

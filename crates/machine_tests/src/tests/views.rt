@@ -7,7 +7,7 @@ use super::*;
 use nfs_objects::modes::covers;
 use nfs_objects::object::{living, mount_table};
 use nfs_objects::{Modes, RoomyView};
-use nfs_wire::{Place, RenameArguments};
+use nfs_wire::{DirOp, RenameArguments};
 
 /// The first row that is not so: what is held alone may be used in each mode, and else as it is held.
 fn first_wrong_cover() -> Option<usize> {
@@ -26,8 +26,8 @@ fn first_wrong_cover() -> Option<usize> {
 }
 
 /// A name in directory 9.
-fn in_directory(name: &'static [u8]) -> Place {
-    Place {
+fn in_directory(name: &'static [u8]) -> DirOp {
+    DirOp {
         directory: Bytes::from_static(HANDLE),
         name: Bytes::from_static(name),
     }

@@ -18,7 +18,7 @@ use bytes::Bytes;
 use nfs_machine::NameKey;
 use nfs_objects::hashing::{bucket_of, part_among, source_of};
 use nfs_objects::{
-    Addr, Counts, Draft, Entries, EntryMap, EntryPage, Halt, Leaf, NamePlace, PAGE_COOKIES,
+    Addr, Draft, Entries, EntryMap, EntryPage, Leaf, Missing, NameCounts, NamePlace, PAGE_COOKIES,
     PageList,
 };
 use std::alloc::{AllocError, Global};
@@ -85,7 +85,7 @@ pub(crate) fn with_entry(
     map: &EntryMap,
     name: &[u8],
     leaf: Leaf,
-) -> Result<EntryMap, Halt>
+) -> Result<EntryMap, Missing>
     requires alone { MayChange draft.old (Addr.Inode number) }
     requires lives { DirectoryLives draft.old number map.now }
     ensures lists { MatchResult result
@@ -115,7 +115,7 @@ fn add_to_page(
     pages: &PageList,
     name: &Bytes,
     leaf: Leaf,
-) -> Result<PageList, Halt>
+) -> Result<PageList, Missing>
     requires { MayChange draft.old (Addr.Inode number) }
     ensures { MatchResult result
         (λ wider. PagesGain draft.old draft.new number pages.now wider (entry name.now leaf))
@@ -137,10 +137,10 @@ fn add_to_part(
     draft: &mut Draft<'_>,
     number: u64,
     key: &NameKey,
-    counts: &Counts,
+    counts: &NameCounts,
     name: &Bytes,
     leaf: Leaf,
-) -> Result<Counts, Halt>
+) -> Result<NameCounts, Missing>
     requires alone { MayChange draft.old (Addr.Inode number) }
     requires lives { PartsLive draft.old number (bucket_of name.now) (width_in counts.now (bucket_of name.now)) }
     ensures { MatchResult result
@@ -188,7 +188,7 @@ fn divide(
     key: &NameKey,
     bucket: u8,
     width: u32,
-) -> Result<(), Halt>
+) -> Result<(), Missing>
     requires alone { MayChange draft.old (Addr.Inode number) }
     requires some { 0 < width }
     requires small { width ≤ 2 ^ 29 }

@@ -6,7 +6,7 @@ ghost use Rattle.nfs_objects.specs.declared.address.Addr.{Addr as Address};
 ghost use Rattle.nfs_inodes.specs.Asking.{IsAsking, with_wish};
 ghost use Rattle.nfs_inodes.specs.Stops.{StopsAt};
 
-use nfs_objects::{Addr, Draft, Halt, Mode};
+use nfs_objects::{Addr, Draft, Missing, Mode};
 use std::alloc::{AllocError, Global};
 
 /// What is asked for so far, each address once.
@@ -34,7 +34,7 @@ impl Asking {
         ensures ok { OnOk result (self.new.asked.items ≡ with_wish draft.now address self.old.asked.items) }
         ensures err { OnErr result (self.new.asked.items ≡ self.old.asked.items) }
     {
-        match draft.lacked(address) {
+        match draft.missing(address) {
             Some(wish) => Ok(self.asked.push(wish)?),
             None => Ok(()),
         }
@@ -45,7 +45,7 @@ impl Asking {
     /// # Errors
     ///
     /// `Need` of all that was asked for.
-    pub fn ask(self) -> Result<(), Halt>
+    pub fn ask(self) -> Result<(), Missing>
         ensures nothing { OnOk result (self.asked.items ≡ []) }
         ensures stops { (d : DraftValue) (named : List Address) → IsAsking d named self.asked.items →
             IfErr result (StopsAt d named) }
@@ -53,7 +53,7 @@ impl Asking {
         if self.asked.is_empty() {
             Ok(())
         } else {
-            Err(Halt::Need(self.asked))
+            Err(Missing::Need(self.asked))
         }
     }
 }

@@ -21,7 +21,7 @@ ghost use Rattle.nfs_inodes.specs.Stops.{StopsAt};
 use crate::content::asking::Asking;
 use bytes::Bytes;
 use nfs_objects::block::{add_part, window, written};
-use nfs_objects::{Addr, BLOCK_SIZE, Bits, Draft, FileMap, Halt, MAP_BLOCKS};
+use nfs_objects::{Addr, BLOCK_SIZE, Bits, Draft, FileMap, MAP_BLOCKS, Missing};
 use nfs_wire::Pieces;
 use std::alloc::AllocError;
 
@@ -85,7 +85,11 @@ impl Range {
 }
 
 /// What a block of a file has; None where it is absent, as all blocks are whose map page is.
-fn stored<'d>(draft: &'d Draft<'_>, file: Mapped<'_>, index: u64) -> Result<Option<&'d Bytes>, Halt>
+fn stored<'d>(
+    draft: &'d Draft<'_>,
+    file: Mapped<'_>,
+    index: u64,
+) -> Result<Option<&'d Bytes>, Missing>
     requires mapped { HasMap draft.now file.number file.map.now }
     requires known { has file.map.now.pages (index / 512) ≡ true →
         IsSome (known_at draft.now (Addr.Block file.number index)) }
@@ -114,7 +118,11 @@ fn bytes_of(block: Option<&Bytes>) -> &[u8]
 /// # Errors
 ///
 /// `Need` of all blocks of the range that were not read, and `Memory`.
-pub(crate) fn read_range(draft: &Draft<'_>, file: Mapped<'_>, range: Range) -> Result<Pieces, Halt>
+pub(crate) fn read_range(
+    draft: &Draft<'_>,
+    file: Mapped<'_>,
+    range: Range,
+) -> Result<Pieces, Missing>
     requires mapped { HasMap draft.now file.number file.map.now }
     requires within { range.offset + range.count ≤ file.map.now.size }
     ensures { MatchResult result
@@ -127,7 +135,7 @@ pub(crate) fn read_range(draft: &Draft<'_>, file: Mapped<'_>, range: Range) -> R
 }
 
 /// Asks for the blocks of a range, as far as its map pages are there.
-fn ask_range(draft: &Draft<'_>, file: Mapped<'_>, range: Range) -> Result<(), Halt>
+fn ask_range(draft: &Draft<'_>, file: Mapped<'_>, range: Range) -> Result<(), Missing>
     ensures { MatchResult result
         (λ _. KnowsMapped draft.now file.entry.number file.entry.map.now.pages range.offset range.count)
         (StopsAt draft.now (blocks_at file.entry.number range.offset)) }
@@ -143,7 +151,7 @@ fn ask_range(draft: &Draft<'_>, file: Mapped<'_>, range: Range) -> Result<(), Ha
 }
 
 /// The bytes of a range, shared with the blocks.
-fn gathered(draft: &Draft<'_>, file: Mapped<'_>, range: Range) -> Result<Pieces, Halt>
+fn gathered(draft: &Draft<'_>, file: Mapped<'_>, range: Range) -> Result<Pieces, Missing>
     requires mapped { HasMap draft.now file.number file.map.now }
     requires within { range.offset + range.count ≤ file.map.now.size }
     requires known { KnowsMapped draft.now file.number file.map.now.pages range.offset range.count }
@@ -234,7 +242,7 @@ pub(crate) fn write_range(
     pages: Bits,
     range: Range,
     data: &[u8],
-) -> Result<Bits, Halt>
+) -> Result<Bits, Missing>
     requires alone { MayChange draft.old (Addr.Inode number) }
     requires pages { HasPages draft.old number pages }
     requires whole { range.count ≡ length «data».now }
@@ -252,7 +260,12 @@ pub(crate) fn write_range(
 }
 
 /// Writes bytes over the blocks of a range.
-fn write_blocks(draft: &mut Draft<'_>, number: u64, range: Range, data: &[u8]) -> Result<(), Halt>
+fn write_blocks(
+    draft: &mut Draft<'_>,
+    number: u64,
+    range: Range,
+    data: &[u8],
+) -> Result<(), Missing>
     requires alone { MayChange draft.old (Addr.Inode number) }
     requires whole { range.count ≡ length «data».now }
     requires known { KnowsRange draft.old number range.offset range.count }
@@ -281,7 +294,7 @@ fn write_block(
     index: u64,
     at: usize,
     part: &[u8],
-) -> Result<(), Halt>
+) -> Result<(), Missing>
     requires alone { MayChange draft.old (Addr.Inode number) }
     requires within { at + length part.now ≤ 4096 }
     requires known { IsSome (known_at draft.old (Addr.Block number index)) }
@@ -295,7 +308,12 @@ fn write_block(
 }
 
 /// What a map page tells once this range is written; None where it stays.
-fn map_after(draft: &Draft<'_>, number: u64, range: Range, page: u64) -> Result<Option<Bits>, Halt>
+fn map_after(
+    draft: &Draft<'_>,
+    number: u64,
+    range: Range,
+    page: u64,
+) -> Result<Option<Bits>, Missing>
     requires known { KnowsRange draft.now number range.offset range.count }
     requires behind { first_of range.offset < page * 512 + 512 }
     requires before { page * 512 < end_of range.offset range.count }
@@ -314,7 +332,7 @@ fn map_after(draft: &Draft<'_>, number: u64, range: Range, page: u64) -> Result<
 }
 
 /// What the last map page tells once this range is written, where it is not the first one; None where it stays.
-fn back_after(draft: &Draft<'_>, number: u64, range: Range) -> Result<Option<Bits>, Halt>
+fn back_after(draft: &Draft<'_>, number: u64, range: Range) -> Result<Option<Bits>, Missing>
     requires known { KnowsRange draft.now number range.offset range.count }
     ensures { MatchResult result
         (IsBackAfter draft.now number (first_of range.offset) (end_of range.offset range.count)
@@ -328,7 +346,7 @@ fn back_after(draft: &Draft<'_>, number: u64, range: Range) -> Result<Option<Bit
 }
 
 /// Whether each of these blocks is there.
-fn are_there(draft: &Draft<'_>, number: u64, first: u64, end: u64) -> Result<bool, Halt>
+fn are_there(draft: &Draft<'_>, number: u64, first: u64, end: u64) -> Result<bool, Missing>
     requires { (i : ℕ) → first ≤ i → i < end → IsSome (known_at draft.now (Addr.Block number i)) }
     ensures { MatchResult result
         (λ there. there ≡ true → (i : ℕ) → first ≤ i → i < end → HasBlock draft.now number i)

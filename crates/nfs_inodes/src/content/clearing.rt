@@ -10,7 +10,7 @@ ghost use Rattle.nfs_inodes.specs.Entered.{EntriesStand, Frees, IsEmptied, is_en
 ghost use Rattle.nfs_inodes.specs.Stops.{StopsAt};
 
 use nfs_objects::object::living;
-use nfs_objects::{Addr, Draft, Halt};
+use nfs_objects::{Addr, Draft, Missing};
 
 /// Frees all pages and parts of what stands at a number, which is to go; what is no directory has none, and neither has
 /// a directory with no entry, as all that go in a call.
@@ -18,7 +18,7 @@ use nfs_objects::{Addr, Draft, Halt};
 /// # Errors
 ///
 /// `Need` of each of them in turn, and `Memory`. The draft is of no use then.
-pub(crate) fn clear_entries(draft: &mut Draft<'_>, number: u64) -> Result<(), Halt>
+pub(crate) fn clear_entries(draft: &mut Draft<'_>, number: u64) -> Result<(), Missing>
     requires alone { MayChange draft.old (Addr.Inode number) }
     requires stands { EntriesStand draft.old number }
     ensures { MatchResult result (λ _. IsEmptied draft.old draft.new number)
@@ -38,7 +38,7 @@ pub(crate) fn clear_entries(draft: &mut Draft<'_>, number: u64) -> Result<(), Ha
 }
 
 /// Frees what stands at an address, where that is a page or a part of the directory at a number.
-fn clear_at(draft: &mut Draft<'_>, number: u64, address: Addr) -> Result<(), Halt>
+fn clear_at(draft: &mut Draft<'_>, number: u64, address: Addr) -> Result<(), Missing>
     requires alone { MayChange draft.old (Addr.Inode number) }
     requires lives { IsSome (known_at draft.old address) ⊎ IsThere draft.old.view address }
     ensures { MatchResult result (λ _. Frees draft.old draft.new number (address ∷ [])) (StopsAt draft.old []) }

@@ -15,7 +15,7 @@ ghost use Rattle.nfs_inodes.specs.Stops.{StillStands, StopsAt};
 use crate::content::asking::Asking;
 use crate::content::blocks::BLOCK;
 use nfs_objects::block::cut;
-use nfs_objects::{Addr, Bits, Draft, FileMap, Halt, MAP_BLOCKS};
+use nfs_objects::{Addr, Bits, Draft, FileMap, MAP_BLOCKS, Missing};
 use std::alloc::AllocError;
 
 /// Cuts a file off that gets smaller. Which map pages are there then.
@@ -29,7 +29,7 @@ pub(crate) fn cut_to(
     pages: Bits,
     old_size: u64,
     size: u64,
-) -> Result<Bits, Halt>
+) -> Result<Bits, Missing>
     requires alone { MayChange draft.old (Addr.Inode number) }
     requires pages { HasPages draft.old number pages }
     requires stands { StillStands draft.old }
@@ -53,7 +53,7 @@ pub(crate) fn cut_off(
     number: u64,
     pages: Bits,
     size: u64,
-) -> Result<Bits, Halt>
+) -> Result<Bits, Missing>
     requires alone { MayChange draft.old (Addr.Inode number) }
     requires pages { HasPages draft.old number pages }
     requires stands { StillStands draft.old }
@@ -87,7 +87,7 @@ fn cut_next(
     bits: Bits,
     size: u64,
     left: Bits,
-) -> Result<Bits, Halt>
+) -> Result<Bits, Missing>
     requires alone { MayChange draft.old (Addr.Inode number) }
     requires small { page < 512 }
     requires known { IsSome (known_at draft.old (Addr.Map number page)) }
@@ -107,7 +107,7 @@ fn cut_next(
 /// # Errors
 ///
 /// `Need` of that, and `Memory`.
-pub(crate) fn ask_cut(draft: &Draft<'_>, number: u64, pages: Bits, size: u64) -> Result<(), Halt>
+pub(crate) fn ask_cut(draft: &Draft<'_>, number: u64, pages: Bits, size: u64) -> Result<(), Missing>
     requires pages { HasPages draft.now number pages }
     requires stands { StillStands draft.now }
     ensures { IfErr result (StopsAt draft.now []) }
@@ -125,7 +125,7 @@ fn read_maps(
     pages: Bits,
     first: u64,
     end: u64,
-) -> Result<Vec<Bits>, Halt>
+) -> Result<Vec<Bits>, Missing>
     requires pages { HasPages draft.now number pages }
     requires stands { StillStands draft.now }
     requires small { end ≤ 512 }
@@ -143,7 +143,13 @@ fn read_maps(
 }
 
 /// Asks for the map pages that are there from one on, up to another.
-fn ask_maps(draft: &Draft<'_>, number: u64, pages: Bits, first: u64, end: u64) -> Result<(), Halt>
+fn ask_maps(
+    draft: &Draft<'_>,
+    number: u64,
+    pages: Bits,
+    first: u64,
+    end: u64,
+) -> Result<(), Missing>
     requires pages { HasPages draft.now number pages }
     requires stands { StillStands draft.now }
     ensures { MatchResult result
@@ -201,7 +207,7 @@ fn add_maps(
 }
 
 /// Which blocks a map page tells of; none where it is not there.
-fn map_told(draft: &Draft<'_>, number: u64, pages: Bits, page: u64) -> Result<Bits, Halt>
+fn map_told(draft: &Draft<'_>, number: u64, pages: Bits, page: u64) -> Result<Bits, Missing>
     requires pages { HasPages draft.now number pages }
     requires known { has pages page ≡ true → IsSome (known_at draft.now (Addr.Map number page)) }
     ensures { MatchResult result (ShowsMap draft.now number page) (StopsAt draft.now []) }
@@ -221,7 +227,7 @@ fn ask_blocks(
     first: u64,
     end: u64,
     from: u64,
-) -> Result<(), Halt>
+) -> Result<(), Missing>
     requires maps { ShowsMaps draft.now number first end maps.now }
     requires small { end ≤ 512 }
     requires stands { StillStands draft.now }
@@ -277,7 +283,7 @@ fn cut_page(
     page: u64,
     bits: Bits,
     size: u64,
-) -> Result<bool, Halt>
+) -> Result<bool, Missing>
     requires alone { MayChange draft.old (Addr.Inode number) }
     requires small { page < 512 }
     requires known { IsSome (known_at draft.old (Addr.Map number page)) }
@@ -297,7 +303,7 @@ fn cut_blocks(
     page: u64,
     bits: Bits,
     size: u64,
-) -> Result<(), Halt>
+) -> Result<(), Missing>
     requires alone { MayChange draft.old (Addr.Inode number) }
     requires small { page < 512 }
     requires told { KnowsTold draft.old number page bits (size / 4096) }
@@ -315,7 +321,7 @@ fn cut_blocks(
 }
 
 /// Cuts off a block that is there, of which so many bytes stay at most.
-fn cut_block(draft: &mut Draft<'_>, number: u64, index: u64, left: u64) -> Result<(), Halt>
+fn cut_block(draft: &mut Draft<'_>, number: u64, index: u64, left: u64) -> Result<(), Missing>
     requires alone { MayChange draft.old (Addr.Inode number) }
     requires known { IsSome (known_at draft.old (Addr.Block number index)) }
     ensures { MatchResult result

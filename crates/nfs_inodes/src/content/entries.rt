@@ -17,9 +17,9 @@ ghost use Rattle.nfs_inodes.specs.Stops.{ReadsInode, StopsAt};
 
 use crate::content::taking::leaf_of;
 use crate::found::inode;
-use crate::kinds::Directory;
+use crate::kinds::KnownDirectory;
 use crate::names::{is_above, is_self};
-use nfs_objects::{Addr, Content, Draft, Halt};
+use nfs_objects::{Addr, Content, Draft, Missing};
 
 /// The number that a name's entry leads to in a directory; None where there is no such entry. Something lives there in
 /// every store that the view fits. Beside the directory's header it reads the part of the name, if there is one.
@@ -27,7 +27,11 @@ use nfs_objects::{Addr, Content, Draft, Halt};
 /// # Errors
 ///
 /// `Need` of the exports, the directory's address or its part, and `Memory`.
-pub fn entry(draft: &Draft<'_>, directory: &Directory, name: &[u8]) -> Result<Option<u64>, Halt>
+pub fn entry(
+    draft: &Draft<'_>,
+    directory: &KnownDirectory,
+    name: &[u8],
+) -> Result<Option<u64>, Missing>
     requires none { draft.now.writes ≡ [] }
     requires known { Knows draft.now (λ k. IsKnown k.state directory.now.known) }
     ensures entry { MatchResult result
@@ -52,7 +56,7 @@ pub fn entry(draft: &Draft<'_>, directory: &Directory, name: &[u8]) -> Result<Op
 }
 
 /// The parent of the directory at a number; a root is its own.
-pub(crate) fn parent(draft: &Draft<'_>, number: u64) -> Result<u64, Halt>
+pub(crate) fn parent(draft: &Draft<'_>, number: u64) -> Result<u64, Missing>
     ensures parent { MatchResult result
         (λ parent. Knows draft.now (λ k. k.parents number ≡ parent))
         (StopsAt draft.now (addresses_of draft.now.view number)) }
@@ -79,7 +83,11 @@ fn parent_of(content: &Content) -> u64
 /// # Errors
 ///
 /// `Need` of the exports, the directory's address or its part, and `Memory`.
-pub fn leads_to(draft: &Draft<'_>, directory: &Directory, name: &[u8]) -> Result<Option<u64>, Halt>
+pub fn leads_to(
+    draft: &Draft<'_>,
+    directory: &KnownDirectory,
+    name: &[u8],
+) -> Result<Option<u64>, Missing>
     requires none { draft.now.writes ≡ [] }
     requires known { Knows draft.now (λ k. IsKnown k.state directory.now.known) }
     ensures leads { MatchResult result
@@ -103,7 +111,7 @@ pub fn leads_to(draft: &Draft<'_>, directory: &Directory, name: &[u8]) -> Result
 /// # Errors
 ///
 /// `Need` of the exports or the directory's address, and `Memory`.
-pub fn is_empty(draft: &Draft<'_>, directory: &Directory) -> Result<bool, Halt>
+pub fn is_empty(draft: &Draft<'_>, directory: &KnownDirectory) -> Result<bool, Missing>
     ensures { MatchResult result
         (λ empty. Knows draft.now (λ k.
         (length (entries_of (content_at k.state directory.now.known.number)) == 0) ≡ empty))
@@ -130,7 +138,7 @@ fn is_empty_in(content: &Content) -> bool
 /// # Errors
 ///
 /// `Need` of the exports or the directory's address, and `Memory`.
-pub fn new_cookie(draft: &Draft<'_>, directory: &Directory) -> Result<Option<u64>, Halt>
+pub fn new_cookie(draft: &Draft<'_>, directory: &KnownDirectory) -> Result<Option<u64>, Missing>
     ensures cookie { MatchResult result
         (λ cookie. Knows draft.now (λ k.
         new_cookie (last_cookie_of (content_at k.state directory.now.known.number)) ≡ cookie))
@@ -141,7 +149,7 @@ pub fn new_cookie(draft: &Draft<'_>, directory: &Directory) -> Result<Option<u64
 }
 
 /// The greatest cookie that a directory ever used.
-fn last_cookie(draft: &Draft<'_>, directory: &Directory) -> Result<u64, Halt>
+fn last_cookie(draft: &Draft<'_>, directory: &KnownDirectory) -> Result<u64, Missing>
     ensures cookie { MatchResult result
         (λ last. Knows draft.now (λ k. last_cookie_of (content_at k.state directory.now.known.number) ≡ last))
         (StopsAt draft.now (addresses_of draft.now.view directory.now.known.number)) }

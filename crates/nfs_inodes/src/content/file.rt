@@ -27,12 +27,12 @@ use crate::content::cut::{add_cut_maps, ask_cut, cut_off, cut_to};
 use crate::content::{KeptFile, file_at, with_content};
 use crate::data::TRANSFER_LIMIT;
 use crate::found::{Known, inode};
-use crate::kinds::File;
+use crate::kinds::KnownFile;
 use crate::times::now;
 use crate::usage::{ask_counted, count, counted, share_of};
 use bytes::Bytes;
 use nfs_objects::object::living;
-use nfs_objects::{Addr, Bits, Content, Draft, FileMap, Halt, Inode, Usage};
+use nfs_objects::{Addr, Bits, Content, Draft, FileMap, Inode, Missing, Usage};
 use nfs_wire::{NfsStatus, Pieces, ReadData};
 use std::alloc::{AllocError, Global};
 
@@ -42,7 +42,12 @@ use std::alloc::{AllocError, Global};
 /// # Errors
 ///
 /// `Need` of what holds the bytes, and `Memory`.
-pub fn read(draft: &Draft<'_>, file: &File, offset: u64, count: u32) -> Result<ReadData, Halt>
+pub fn read(
+    draft: &Draft<'_>,
+    file: &KnownFile,
+    offset: u64,
+    count: u32,
+) -> Result<ReadData, Missing>
     ensures { MatchResult result
         (λ found. Knows draft.now (λ k.
         found ≡ read_at (bytes_of (content_at k.state file.now.known.number)) offset count))
@@ -59,7 +64,12 @@ pub fn read(draft: &Draft<'_>, file: &File, offset: u64, count: u32) -> Result<R
 }
 
 /// The same of a file as it is kept.
-fn read_file(draft: &Draft<'_>, file: Mapped<'_>, offset: u64, count: u32) -> Result<ReadData, Halt>
+fn read_file(
+    draft: &Draft<'_>,
+    file: Mapped<'_>,
+    offset: u64,
+    count: u32,
+) -> Result<ReadData, Missing>
     requires { HasMap draft.now file.number file.map.now }
     ensures { MatchResult result
         (λ found. Knows draft.now (λ k. found ≡ read_at (bytes_at k.state file.entry.number) offset count))
@@ -99,7 +109,7 @@ fn nothing_read(alloc: Global) -> ReadData
 /// # Errors
 ///
 /// `Need` of what holds the text, and `Memory`.
-pub fn text(draft: &Draft<'_>, known: &Known) -> Result<Result<Bytes, NfsStatus>, Halt>
+pub fn text(draft: &Draft<'_>, known: &Known) -> Result<Result<Bytes, NfsStatus>, Missing>
     ensures { MatchResult result
         (λ text. Knows draft.now (λ k. text_in (content_at k.state known.now.number) ≡ text))
         (StopsAt draft.now (addresses_of draft.now.view known.now.number)) }
@@ -124,7 +134,12 @@ fn text_in(content: &Content) -> Result<Result<Bytes, NfsStatus>, AllocError>
 /// # Errors
 ///
 /// `Need` of what has to be held for it, and `Memory`. The draft is of no use then.
-pub fn write(draft: &mut Draft<'_>, file: &File, offset: u64, bytes: &[u8]) -> Result<(), Halt>
+pub fn write(
+    draft: &mut Draft<'_>,
+    file: &KnownFile,
+    offset: u64,
+    bytes: &[u8],
+) -> Result<(), Missing>
     requires alone { draft.old.modes ≡ changing }
     requires shown { IsShown draft.old file.now.known }
     requires some { 0 < length bytes.now }
@@ -167,7 +182,7 @@ pub fn write(draft: &mut Draft<'_>, file: &File, offset: u64, bytes: &[u8]) -> R
 /// # Errors
 ///
 /// `Need` of what has to be held for it, and `Memory`. The draft is of no use then.
-pub fn resize(draft: &mut Draft<'_>, file: &File, size: u64) -> Result<(), Halt>
+pub fn resize(draft: &mut Draft<'_>, file: &KnownFile, size: u64) -> Result<(), Missing>
     requires none { draft.old.writes ≡ [] }
     requires alone { draft.old.modes ≡ changing }
     requires shown { IsShown draft.old file.now.known }
@@ -196,7 +211,7 @@ pub fn resize(draft: &mut Draft<'_>, file: &File, size: u64) -> Result<(), Halt>
 /// # Errors
 ///
 /// `Need` of that, and `Memory`.
-pub fn ask_resize(draft: &Draft<'_>, file: &File, size: u64) -> Result<(), Halt>
+pub fn ask_resize(draft: &Draft<'_>, file: &KnownFile, size: u64) -> Result<(), Missing>
     requires none { draft.now.writes ≡ [] }
     requires shown { IsShown draft.now file.now.known }
     ensures { IfErr result (StopsAt draft.now (counted_at draft.now file.now.known.number)) }
@@ -212,7 +227,7 @@ pub fn ask_resize(draft: &Draft<'_>, file: &File, size: u64) -> Result<(), Halt>
 
 /// Asks at once for what a file has beside its blocks that gets this size: what its group uses, where that changes, and
 /// the map pages that go or get less.
-fn ask_sized(draft: &Draft<'_>, number: u64, kept: KeptFile<'_>, size: u64) -> Result<(), Halt>
+fn ask_sized(draft: &Draft<'_>, number: u64, kept: KeptFile<'_>, size: u64) -> Result<(), Missing>
     requires kept { HasFile draft.now number kept.inode.now kept.map.now }
     requires stands { StillStands draft.now }
     ensures { IfErr result (StopsAt draft.now (counted_at draft.now number)) }
@@ -229,7 +244,7 @@ fn ask_sized(draft: &Draft<'_>, number: u64, kept: KeptFile<'_>, size: u64) -> R
 /// # Errors
 ///
 /// `Need` of what has to be held for it, and `Memory`. The draft is of no use then.
-pub(crate) fn clear(draft: &mut Draft<'_>, number: u64) -> Result<(), Halt>
+pub(crate) fn clear(draft: &mut Draft<'_>, number: u64) -> Result<(), Missing>
     requires alone { MayChange draft.old (Addr.Inode number) }
     requires stands { StillStands draft.old }
     ensures { MatchResult result (λ _. IsCleared draft.old draft.new number)
@@ -241,7 +256,7 @@ pub(crate) fn clear(draft: &mut Draft<'_>, number: u64) -> Result<(), Halt>
 }
 
 /// The map pages of what stands at a number; what is no file has none.
-fn pages_at(draft: &Draft<'_>, number: u64) -> Result<Bits, Halt>
+fn pages_at(draft: &Draft<'_>, number: u64) -> Result<Bits, Missing>
     ensures { MatchResult result (HasPages draft.now number)
         (StopsAt draft.now (addresses_of draft.now.view number)) }
 {

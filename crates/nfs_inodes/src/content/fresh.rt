@@ -7,7 +7,7 @@ ghost use Rattle.nfs_objects.specs.Stands.{content_of, entry_map_in, map_in, par
 ghost use Rattle.nfs_inodes.specs.Asked.{content_asked};
 ghost use Rattle.nfs_inodes.specs.Makes.{first_parent};
 
-use crate::making::NewContent;
+use crate::new_objects::NewContent;
 use bytes::Bytes;
 use nfs_machine::NameKey;
 use nfs_objects::{Bits, Content, FileMap};

@@ -20,10 +20,10 @@ ghost use Rattle.nfs_inodes.specs.Stops.{StopsAt};
 
 use crate::content::asking::Asking;
 use crate::found::inode;
-use crate::kinds::Directory;
+use crate::kinds::KnownDirectory;
 use bytes::Bytes;
 use nfs_objects::{
-    Addr, Content, Draft, EntryMap, EntryPage, Halt, NamedLeaf, PAGE_COOKIES, PageList,
+    Addr, Content, Draft, EntryMap, EntryPage, Missing, NamedLeaf, PAGE_COOKIES, PageList,
 };
 use std::alloc::AllocError;
 use std::marker::Model;
@@ -42,14 +42,14 @@ pub enum EntryName<'d> {
 
 /// An entry of a directory.
 #[derive(Clone, Copy)]
-pub struct Listed<'d> {
+pub struct ListedEntry<'d> {
     pub name: EntryName<'d>,
     /// The number that the name leads to.
     pub number: u64,
     pub cookie: u64,
 }
 
-impl<'d> Listed<'d> {
+impl<'d> ListedEntry<'d> {
     /// How many bytes the name has.
     pub fn name_len(&self) -> usize
         ensures len { result ≡ length (name_of self.now.name) }
@@ -82,7 +82,7 @@ impl<'d> Listed<'d> {
 /// as a list.
 #[derive(Drop)]
 pub struct EntriesLeft<'d> {
-    entries: IntoIter<Listed<'d>>,
+    entries: IntoIter<ListedEntry<'d>>,
 }
 
 impl<'d> Model for EntriesLeft<'d> {
@@ -100,13 +100,13 @@ impl<'d> Iterator for EntriesLeft<'d> {
     ghost use Rattle.std.specs.Iterator.{YieldsFirstBy, item_count};
     ghost use Rattle.nfs_inodes.specs.Listing.{listed_entry};
 
-    type Item = Listed<'d>;
+    type Item = ListedEntry<'d>;
 
     ghost next_gives = { YieldsFirstBy listed_entry (λ left. left) };
 
     ghost remaining = { item_count (λ left. left) };
 
-    fn next(&mut self) -> Option<Listed<'d>> {
+    fn next(&mut self) -> Option<ListedEntry<'d>> {
         self.entries.next()
     }
 }
@@ -128,10 +128,10 @@ pub struct Left<'d> {
 /// `Need` of the exports, the directory's address or those pages, and `Memory`.
 pub fn entries_left<'d>(
     draft: &'d Draft<'_>,
-    directory: &Directory,
+    directory: &KnownDirectory,
     cookie: u64,
     enough: usize,
-) -> Result<Left<'d>, Halt>
+) -> Result<Left<'d>, Missing>
     requires none { draft.now.writes ≡ [] }
     requires known { Knows draft.now (λ k. IsKnown k.state directory.now.known) }
     ensures left { MatchResult result
@@ -171,7 +171,7 @@ pub fn entries_left<'d>(
 }
 
 /// These are all.
-fn all<'d>(entries: Vec<Listed<'d>>) -> Left<'d>
+fn all<'d>(entries: Vec<ListedEntry<'d>>) -> Left<'d>
     ensures entries { result.entries ≡ map listed_entry entries.entry.items }
     ensures all { result.is_all ≡ true }
 {
@@ -185,7 +185,7 @@ fn all<'d>(entries: Vec<Listed<'d>>) -> Left<'d>
 
 /// Adds `.` and `..`, as far as they are behind a cookie.
 fn add_dots(
-    left: &mut Vec<Listed<'_>>,
+    left: &mut Vec<ListedEntry<'_>>,
     number: u64,
     parent: u64,
     cookie: u64,
@@ -194,14 +194,14 @@ fn add_dots(
         ≡ map listed_entry left.old.items ++ dots_behind number parent cookie) }
 {
     if cookie < 1 {
-        left.push(Listed {
+        left.push(ListedEntry {
             name: EntryName::Own,
             number,
             cookie: 1,
         })?;
     }
     if cookie < 2 {
-        left.push(Listed {
+        left.push(ListedEntry {
             name: EntryName::Above,
             number: parent,
             cookie: 2,
@@ -221,7 +221,7 @@ fn page_at<'d>(
     map: &EntryMap,
     page: u64,
     missing: usize,
-) -> Result<Option<&'d EntryPage>, Halt>
+) -> Result<Option<&'d EntryPage>, Missing>
     requires lives { DirectoryLives draft.now number map.now }
     requires listed { lists map.now.pages page ≡ true }
     ensures { MatchResult result (λ entries. ShowsPage draft.now number page (option_copied entries))
@@ -231,7 +231,7 @@ fn page_at<'d>(
         directory: number,
         page,
     };
-    if draft.lacked(address).is_some() {
+    if draft.missing(address).is_some() {
         ask_pages(
             draft,
             number,
@@ -250,7 +250,7 @@ pub(crate) fn ask_pages(
     pages: &PageList,
     page: u64,
     count: usize,
-) -> Result<(), Halt>
+) -> Result<(), Missing>
     requires { (p : ℕ) → lists pages.now p ≡ true →
         IsSome (known_at draft.now (Addr.Page number p)) ⊎ IsThere draft.now.view (Addr.Page number p) }
     ensures { IfErr result (StopsAt draft.now []) }
@@ -275,7 +275,7 @@ pub(crate) fn ask_pages(
 
 /// Adds the entries of a page that are behind a cookie.
 fn add_behind<'d>(
-    left: &mut Vec<Listed<'d>>,
+    left: &mut Vec<ListedEntry<'d>>,
     page: &'d EntryPage,
     cookie: u64,
 ) -> Result<(), AllocError>
@@ -291,10 +291,10 @@ fn add_behind<'d>(
     Ok(())
 }
 
-fn to_listed<'d>(named: &'d NamedLeaf) -> Listed<'d>
+fn to_listed<'d>(named: &'d NamedLeaf) -> ListedEntry<'d>
     ensures { listed_entry result ≡ named.entry.now }
 {
-    Listed {
+    ListedEntry {
         name: EntryName::Added(&named.name),
         number: named.leaf.number,
         cookie: named.leaf.cookie,

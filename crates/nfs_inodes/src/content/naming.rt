@@ -24,19 +24,19 @@ use crate::content::asking::Asking;
 use crate::content::taking::{ask_taken, leaf_of, without_entry};
 use crate::content::{directory_at, with_content};
 use crate::found::inode;
-use crate::kinds::Directory;
+use crate::kinds::KnownDirectory;
 use crate::times::{now, touch};
-use nfs_objects::{Addr, Content, Draft, EntryMap, Halt, Inode, Leaf};
+use nfs_objects::{Addr, Content, Draft, EntryMap, Inode, Leaf, Missing};
 use nfs_wire::Time;
 
 /// Asks for what a directory has to hold to get a name with this cookie.
 pub(crate) fn ask_entry(
     draft: &Draft<'_>,
-    directory: &Directory,
+    directory: &KnownDirectory,
     name: &[u8],
     cookie: u64,
     asking: &mut Asking,
-) -> Result<(), Halt>
+) -> Result<(), Missing>
     requires shown { IsShown draft.now directory.now.known }
     requires stands { StillStands draft.now }
     ensures { MatchResult result
@@ -52,10 +52,10 @@ pub(crate) fn ask_entry(
 /// Asks for what a directory has to hold besides to lose a name.
 pub(crate) fn ask_loss(
     draft: &Draft<'_>,
-    directory: &Directory,
+    directory: &KnownDirectory,
     name: &[u8],
     asking: &mut Asking,
-) -> Result<(), Halt>
+) -> Result<(), Missing>
     requires shown { IsShown draft.now directory.now.known }
     requires stands { StillStands draft.now }
     ensures { MatchResult result
@@ -78,7 +78,7 @@ pub(crate) fn ask_loss(
 /// # Errors
 ///
 /// `Need` of that, and `Memory`.
-pub fn ask_left(draft: &Draft<'_>, directory: &Directory, name: &[u8]) -> Result<(), Halt>
+pub fn ask_left(draft: &Draft<'_>, directory: &KnownDirectory, name: &[u8]) -> Result<(), Missing>
     requires none { draft.now.writes ≡ [] }
     requires shown { IsShown draft.now directory.now.known }
     ensures { IfErr result (StopsAt draft.now (addresses_of draft.now.view directory.now.known.number)) }
@@ -95,10 +95,10 @@ pub fn ask_left(draft: &Draft<'_>, directory: &Directory, name: &[u8]) -> Result
 /// `Need` of that, and `Memory`.
 pub fn ask_given(
     draft: &Draft<'_>,
-    directory: &Directory,
+    directory: &KnownDirectory,
     name: &[u8],
     cookie: u64,
-) -> Result<(), Halt>
+) -> Result<(), Missing>
     requires none { draft.now.writes ≡ [] }
     requires shown { IsShown draft.now directory.now.known }
     ensures { IfErr result (StopsAt draft.now (grown_at draft.now directory.now.known.number name.now cookie)) }
@@ -116,12 +116,12 @@ pub fn ask_given(
 /// `Need` of what has to be held for it, and `Memory`. The draft is of no use then.
 pub fn add_entry(
     draft: &mut Draft<'_>,
-    directory: &Directory,
+    directory: &KnownDirectory,
     name: &[u8],
     number: u64,
     cookie: u64,
     links: u32,
-) -> Result<(), Halt>
+) -> Result<(), Missing>
     requires alone { draft.old.modes ≡ changing }
     requires shown { IsShown draft.old directory.now.known }
     requires stands { StillStands draft.old }
@@ -157,7 +157,11 @@ pub fn add_entry(
 /// # Errors
 ///
 /// `Need` of what has to be held for it, and `Memory`. The draft is of no use then.
-pub fn take_entry(draft: &mut Draft<'_>, directory: &Directory, name: &[u8]) -> Result<(), Halt>
+pub fn take_entry(
+    draft: &mut Draft<'_>,
+    directory: &KnownDirectory,
+    name: &[u8],
+) -> Result<(), Missing>
     requires alone { draft.old.modes ≡ changing }
     requires shown { IsShown draft.old directory.now.known }
     requires stands { StillStands draft.old }
@@ -183,10 +187,10 @@ pub fn take_entry(draft: &mut Draft<'_>, directory: &Directory, name: &[u8]) -> 
 /// `Need` of what has to be held for it, and `Memory`. The draft is of no use then.
 pub fn leave(
     draft: &mut Draft<'_>,
-    directory: &Directory,
+    directory: &KnownDirectory,
     name: &[u8],
     links: u32,
-) -> Result<(), Halt>
+) -> Result<(), Missing>
     requires alone { MayChange draft.old (Addr.Inode directory.now.known.number) }
     requires shown { IsShown draft.old directory.now.known }
     requires stands { StillStands draft.old }
@@ -215,13 +219,13 @@ pub fn leave(
 /// `Need` of what has to be held for it, and `Memory`. The draft is of no use then.
 pub fn give_name(
     draft: &mut Draft<'_>,
-    directory: &Directory,
+    directory: &KnownDirectory,
     left: Option<&[u8]>,
     name: &[u8],
     number: u64,
     cookie: u64,
     links: u32,
-) -> Result<(), Halt>
+) -> Result<(), Missing>
     requires alone { MayChange draft.old (Addr.Inode directory.now.known.number) }
     requires shown { IsShown draft.old directory.now.known }
     requires stands { StillStands draft.old }
@@ -248,7 +252,7 @@ fn staying(
     map: &EntryMap,
     name: &[u8],
     left: Option<&[u8]>,
-) -> Result<EntryMap, Halt>
+) -> Result<EntryMap, Missing>
     requires alone { MayChange draft.old (Addr.Inode number) }
     requires lives { DirectoryLives draft.old number map.now }
     ensures staying { MatchResult result
@@ -297,7 +301,7 @@ fn relinked(inode: &Inode, now: Time, content: Content, links: u32) -> Inode
 /// # Errors
 ///
 /// `Need` of what has to be held for it, and `Memory`. The draft is of no use then.
-pub fn rehome(draft: &mut Draft<'_>, number: u64, directory: u64) -> Result<(), Halt>
+pub fn rehome(draft: &mut Draft<'_>, number: u64, directory: u64) -> Result<(), Missing>
     requires { MayChange draft.old (Addr.Inode number) }
     ensures { MatchResult result
         (λ _. Turns draft.old draft.new (rehomed (time_of draft.old.ctx.moment) number directory))

@@ -14,7 +14,9 @@ ghost use Rattle.nfs_inodes.specs.Stops.{StopsAt};
 
 use crate::content::asking::Asking;
 use nfs_objects::hashing::source_of;
-use nfs_objects::{Addr, Counts, Draft, EntryMap, Halt, Leaf, NamePlace, PAGE_COOKIES, PageList};
+use nfs_objects::{
+    Addr, Draft, EntryMap, Leaf, Missing, NameCounts, NamePlace, PAGE_COOKIES, PageList,
+};
 use std::alloc::AllocError;
 
 /// What a name leads to, where this is the map of the directory at a number; None where it is not there.
@@ -27,7 +29,7 @@ pub(crate) fn leaf_of(
     number: u64,
     map: &EntryMap,
     name: &[u8],
-) -> Result<Option<Leaf>, Halt>
+) -> Result<Option<Leaf>, Missing>
     requires { DirectoryLives draft.now number map.now }
     ensures { MatchResult result (ShowsLeaf draft.now number map.now name.now) (StopsAt draft.now []) }
 {
@@ -106,7 +108,7 @@ pub(crate) fn without_entry(
     number: u64,
     map: &EntryMap,
     name: &[u8],
-) -> Result<EntryMap, Halt>
+) -> Result<EntryMap, Missing>
     requires alone { MayChange draft.old (Addr.Inode number) }
     requires lives { DirectoryLives draft.old number map.now }
     ensures lists { MatchResult result
@@ -140,7 +142,7 @@ fn take_from_page(
     map: &EntryMap,
     leaf: Leaf,
     name: &[u8],
-) -> Result<PageList, Halt>
+) -> Result<PageList, Missing>
     requires alone { MayChange draft.old (Addr.Inode number) }
     requires lives { DirectoryLives draft.old number map.now }
     ensures { MatchResult result
@@ -173,7 +175,7 @@ fn take_from_part(
     map: &EntryMap,
     place: NamePlace,
     name: &[u8],
-) -> Result<Counts, Halt>
+) -> Result<NameCounts, Missing>
     requires alone { MayChange draft.old (Addr.Inode number) }
     requires lives { DirectoryLives draft.old number map.now }
     requires place { IsPlace map.now name.now (Some place) }
@@ -205,7 +207,7 @@ fn take_from_part(
 }
 
 /// Takes away the last part of a bucket, which has so many then: its names go to the part that they belong to.
-fn join(draft: &mut Draft<'_>, number: u64, bucket: u8, width: u32) -> Result<(), Halt>
+fn join(draft: &mut Draft<'_>, number: u64, bucket: u8, width: u32) -> Result<(), Missing>
     requires alone { MayChange draft.old (Addr.Inode number) }
     requires some { 0 < width }
     requires small { width ≤ 2 ^ 29 }

@@ -1,6 +1,6 @@
 //! What the server counts while it serves, so that whoever operates it sees how it is.
 
-use crate::network::clerk::Answered;
+use crate::network::dispatcher::Answered;
 use nfs_engine::Incoming;
 use nfs_rpc::{Program, Record};
 use nfs_schedule::Answer;
@@ -67,7 +67,7 @@ const NLM: [&str; 24] = [
 
 /// What is counted beside calls.
 #[derive(Clone, Copy)]
-pub enum Event {
+pub enum CountedEvent {
     /// A call came again, and got the reply that is kept of it.
     Repeated,
     /// A call was refused, for want of memory or of a number.
@@ -122,26 +122,26 @@ const EVENTS: [&str; 16] = [
     "eras",
 ];
 
-impl Event {
+impl CountedEvent {
     /// Where its count stands.
     fn place(self) -> usize {
         match self {
-            Event::Repeated => 0,
-            Event::Refused => 1,
-            Event::Faulty => 2,
-            Event::Unanswered => 3,
-            Event::Opened => 4,
-            Event::Ended => 5,
-            Event::Failed => 6,
-            Event::Late => 7,
-            Event::Starved => 8,
-            Event::TurnedAway => 9,
-            Event::Datagram => 10,
-            Event::DatagramDropped => 11,
-            Event::Sent => 12,
-            Event::Dropped => 13,
-            Event::CallbackFailed => 14,
-            Event::Era => 15,
+            CountedEvent::Repeated => 0,
+            CountedEvent::Refused => 1,
+            CountedEvent::Faulty => 2,
+            CountedEvent::Unanswered => 3,
+            CountedEvent::Opened => 4,
+            CountedEvent::Ended => 5,
+            CountedEvent::Failed => 6,
+            CountedEvent::Late => 7,
+            CountedEvent::Starved => 8,
+            CountedEvent::TurnedAway => 9,
+            CountedEvent::Datagram => 10,
+            CountedEvent::DatagramDropped => 11,
+            CountedEvent::Sent => 12,
+            CountedEvent::Dropped => 13,
+            CountedEvent::CallbackFailed => 14,
+            CountedEvent::Era => 15,
         }
     }
 }
@@ -174,9 +174,9 @@ impl Counters {
     /// Counts what a record was answered, and its call by program and procedure.
     pub(crate) fn answered(&self, answered: &Answered) {
         match answered {
-            Ok(Answer::Early(_)) => self.happened(Event::Faulty),
+            Ok(Answer::Early(_)) => self.happened(CountedEvent::Faulty),
             Ok(answer) => self.count_answer(answer),
-            Err(_) => self.happened(Event::Unanswered),
+            Err(_) => self.happened(CountedEvent::Unanswered),
         }
     }
 
@@ -186,8 +186,8 @@ impl Counters {
             self.count_call(&received.message);
         }
         match answer {
-            Answer::Repeated(_) => self.happened(Event::Repeated),
-            Answer::Refused(_) => self.happened(Event::Refused),
+            Answer::Repeated(_) => self.happened(CountedEvent::Repeated),
+            Answer::Refused(_) => self.happened(CountedEvent::Refused),
             Answer::Executed(_) | Answer::Early(_) | Answer::Unanswered(_) => {}
         }
     }
@@ -200,22 +200,22 @@ impl Counters {
     }
 
     /// Counts this.
-    pub fn happened(&self, event: Event) {
+    pub fn happened(&self, event: CountedEvent) {
         count(&self.events, event.place());
     }
 
     /// How often this happened.
-    pub fn of(&self, event: Event) -> u64 {
+    pub fn of(&self, event: CountedEvent) -> u64 {
         counted(&self.events, event.place())
     }
 
     /// How many connections are open.
     pub fn connections(&self) -> u64 {
-        self.of(Event::Opened)
-            .saturating_sub(self.of(Event::Ended))
-            .saturating_sub(self.of(Event::Failed))
-            .saturating_sub(self.of(Event::Late))
-            .saturating_sub(self.of(Event::Starved))
+        self.of(CountedEvent::Opened)
+            .saturating_sub(self.of(CountedEvent::Ended))
+            .saturating_sub(self.of(CountedEvent::Failed))
+            .saturating_sub(self.of(CountedEvent::Late))
+            .saturating_sub(self.of(CountedEvent::Starved))
     }
 
     /// All counts as words `NAME=VALUE`; of the procedures those that were called.

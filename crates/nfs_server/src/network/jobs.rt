@@ -1,7 +1,7 @@
 //! What workers do: they answer datagrams.
 
-use crate::network::clerk::Clerk;
-use crate::network::counters::Event;
+use crate::network::counters::CountedEvent;
+use crate::network::dispatcher::Dispatcher;
 use crossbeam_channel::Receiver;
 use nfs_engine::Host;
 use nfs_pool::Naming;
@@ -29,7 +29,7 @@ pub(crate) struct Job {
     pub(crate) record: Record,
 }
 
-impl<L: Ledger + Naming, C: Clock> Clerk<L, C> {
+impl<L: Ledger + Naming, C: Clock> Dispatcher<L, C> {
     /// Does jobs, until nobody sends any more.
     pub(crate) fn work<R: Wait>(&mut self, rt: &R, alloc: Global, jobs: &Receiver<Job>) {
         for job in jobs.iter(rt) {
@@ -53,8 +53,8 @@ impl<L: Ledger + Naming, C: Clock> Clerk<L, C> {
                 drop(answer);
             }
             Err(_) => {
-                self.counters.happened(Event::DatagramDropped);
-                self.places.relieve(rt);
+                self.counters.happened(CountedEvent::DatagramDropped);
+                self.permits.relieve(rt);
             }
         }
     }

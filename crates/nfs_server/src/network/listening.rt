@@ -2,14 +2,14 @@
 
 use crate::clock::{Latest, ServerClock};
 use crate::exit::Exit;
-use crate::network::attendance::Attendance;
-use crate::network::bell::Bell;
-use crate::network::clerk::Clerk;
-use crate::network::counters::{Counters, Event};
+use crate::network::connection_count::ConnectionCount;
+use crate::network::counters::{CountedEvent, Counters};
+use crate::network::dispatcher::Dispatcher;
 use crate::network::jobs::Job;
-use crate::network::line::{Line, Socket};
-use crate::network::places::Places;
-use crate::network::reading::Reader;
+use crate::network::peer::{PeerLink, Socket};
+use crate::network::permits::Permits;
+use crate::network::reading::ConnectionThread;
+use crate::network::wakeup::Wakeup;
 use crate::options::{Network, Options, Transport};
 use crate::patience::Patience;
 use bytes::Bytes;
@@ -135,10 +135,10 @@ fn host_at(alloc: Global, address: IpAddr) -> Result<Host, AllocError> {
 /// What each thread that serves peers has.
 #[derive(Drop)]
 pub(crate) struct Service<L: Ledger + Naming> {
-    pub(crate) places: Places<L>,
+    pub(crate) permits: Permits<L>,
     pub(crate) jobs: Sender<Job>,
-    /// Rung when messages wait to be sent.
-    pub(crate) bell: Arc<Bell>,
+    /// Given when messages wait to be sent.
+    pub(crate) wakeup: Arc<Wakeup>,
     /// What is counted.
     pub(crate) counters: Arc<Counters>,
     /// The second at which every moment is, if any.
@@ -148,19 +148,19 @@ pub(crate) struct Service<L: Ledger + Naming> {
 }
 
 impl<L: Ledger + Naming> Service<L> {
-    /// These places and jobs, and a bell that is not rung. The server began at this moment.
+    /// These permits and jobs, and a wakeup that is not given. The server began at this moment.
     pub(crate) fn new(
         alloc: Global,
-        places: Places<L>,
+        permits: Permits<L>,
         jobs: Sender<Job>,
         counters: Arc<Counters>,
         clock: Option<u32>,
         begin: Moment,
     ) -> Result<Service<L>, AllocError> {
         Ok(Service {
-            places,
+            permits,
             jobs,
-            bell: Arc::new(alloc, Bell::new())?,
+            wakeup: Arc::new(alloc, Wakeup::new())?,
             counters,
             clock,
             latest: Arc::new(alloc, Latest::new(begin))?,
@@ -170,9 +170,9 @@ impl<L: Ledger + Naming> Service<L> {
     /// One more owner.
     pub(crate) fn share(&self) -> Result<Service<L>, AllocError> {
         Ok(Service {
-            places: self.places.share()?,
+            permits: self.permits.share()?,
             jobs: self.jobs.clone()?,
-            bell: Arc::try_clone(&self.bell)?,
+            wakeup: Arc::try_clone(&self.wakeup)?,
             counters: Arc::try_clone(&self.counters)?,
             clock: self.clock,
             latest: Arc::try_clone(&self.latest)?,
@@ -180,10 +180,10 @@ impl<L: Ledger + Naming> Service<L> {
     }
 
     /// What answers records, by this clock.
-    pub(crate) fn clerk<C: Drop>(&self, clock: C) -> Result<Clerk<L, C>, AllocError> {
-        Ok(Clerk {
-            places: self.places.share()?,
-            bell: Arc::try_clone(&self.bell)?,
+    pub(crate) fn dispatcher<C: Drop>(&self, clock: C) -> Result<Dispatcher<L, C>, AllocError> {
+        Ok(Dispatcher {
+            permits: self.permits.share()?,
+            wakeup: Arc::try_clone(&self.wakeup)?,
             counters: Arc::try_clone(&self.counters)?,
             clock: ServerClock::beside(clock, self.clock, &self.latest)?,
             last: 0,
@@ -202,23 +202,32 @@ pub(crate) fn let_in<
     listener: &TcpListener,
     network: &Network,
     service: &Service<L>,
-    attendance: &Arc<Attendance>,
+    connection_count: &Arc<ConnectionCount>,
 ) {
     let mut came: u64 = 0;
     for _ in rt.forever() {
         match listener.accept() {
             Ok((stream, peer)) => {
                 came = came.saturating_add(1);
-                if attendance.enter(rt, network.connections as usize) {
-                    service.counters.happened(Event::Opened);
+                if connection_count.enter(rt, network.connections as usize) {
+                    service.counters.happened(CountedEvent::Opened);
                     let patience = network.patience;
-                    if start(rt, alloc, stream, peer, patience, service, attendance).is_err() {
-                        service.counters.happened(Event::Starved);
-                        attendance.leave(rt);
-                        service.places.relieve(rt);
+                    if start(
+                        rt,
+                        alloc,
+                        stream,
+                        peer,
+                        patience,
+                        service,
+                        connection_count,
+                    ).is_err()
+                    {
+                        service.counters.happened(CountedEvent::Starved);
+                        connection_count.leave(rt);
+                        service.permits.relieve(rt);
                     }
                 } else {
-                    service.counters.happened(Event::TurnedAway);
+                    service.counters.happened(CountedEvent::TurnedAway);
                 }
             }
             Err(_) => thread::sleep(rt, Duration::from_millis(PAUSE)),
@@ -241,23 +250,23 @@ fn start<
     peer: SocketAddr,
     patience: Patience,
     service: &Service<L>,
-    attendance: &Arc<Attendance>,
+    connection_count: &Arc<ConnectionCount>,
 ) -> io::Result<()> {
     let host = host_at(alloc, peer.ip())?;
-    let mut reader = Reader {
-        line: Line {
+    let mut reader = ConnectionThread {
+        link: PeerLink {
             peer: Socket::new(stream, patience)?,
             host,
             patience,
         },
-        clerk: service.clerk(*rt)?,
+        dispatcher: service.dispatcher(*rt)?,
     };
-    let attendance = Arc::try_clone(attendance)?;
+    let connection_count = Arc::try_clone(connection_count)?;
     let rt = *rt;
     thread::spawn(&rt, move || {
         reader.work(&rt, alloc);
         drop(reader);
-        attendance.leave(&rt);
+        connection_count.leave(&rt);
     })?;
     Ok(())
 }
@@ -274,11 +283,11 @@ pub(crate) fn take_datagrams<R: Wait + Clock, L: Ledger + Naming>(
     for _ in rt.forever() {
         match socket.recv_from(buffer.as_mut_slice()) {
             Ok((count, peer)) => {
-                service.counters.happened(Event::Datagram);
+                service.counters.happened(CountedEvent::Datagram);
                 // One that can't be taken in is dropped.
                 if take(rt, alloc, socket, peer, &buffer[..count], service).is_err() {
-                    service.counters.happened(Event::DatagramDropped);
-                    service.places.relieve(rt);
+                    service.counters.happened(CountedEvent::DatagramDropped);
+                    service.permits.relieve(rt);
                 }
             }
             Err(error) if error.kind() == ErrorKind::Interrupted => {}

@@ -6,9 +6,9 @@ ghost use Rattle.std.specs.Prelude.{◌≡◌, ◌⊎◌, ℕ, List, Option, [],
 ghost use Rattle.nfs_streams.specs.Connections.{IsNew, waiting};
 ghost use Rattle.nfs_server.specs.Conversations.{GoesOn, IsCutOff};
 
-use crate::network::clerk::{Clerk, Closed};
-use crate::network::counters::Event;
-use crate::network::line::{Line, Peer};
+use crate::network::counters::CountedEvent;
+use crate::network::dispatcher::{Closed, Dispatcher};
+use crate::network::peer::{Peer, PeerLink};
 use crate::patience::Watch;
 use nfs_pool::Naming;
 use nfs_rpc::RecordError;
@@ -27,18 +27,18 @@ const BUFFER_SIZE: usize = 262_144;
 
 /// What reads a connection.
 #[derive(Drop)]
-pub(crate) struct Reader<L: Ledger + Naming, C, P> {
-    pub(crate) line: Line<P>,
-    pub(crate) clerk: Clerk<L, C>,
+pub(crate) struct ConnectionThread<L: Ledger + Naming, C, P> {
+    pub(crate) link: PeerLink<P>,
+    pub(crate) dispatcher: Dispatcher<L, C>,
 }
 
-impl<L: Ledger + Naming, C: Clock, P: Peer> Reader<L, C, P> {
+impl<L: Ledger + Naming, C: Clock, P: Peer> ConnectionThread<L, C, P> {
     /// Serves the connection to its end. Where that is for want of memory the era is ended.
     pub(crate) fn work<R: Wait + Clock>(&mut self, rt: &R, alloc: Global) {
         let served = self.read(rt, alloc);
-        self.clerk.counters.happened(end_of(served));
+        self.dispatcher.counters.happened(end_of(served));
         if let Err(Closed::Memory) = served {
-            self.clerk.places.relieve(rt);
+            self.dispatcher.permits.relieve(rt);
         }
     }
 
@@ -61,13 +61,13 @@ impl<L: Ledger + Naming, C: Clock, P: Peer> Reader<L, C, P> {
         connection: &mut Connection,
     ) -> Result<(), Closed>
         requires { IsNew connection.old }
-        ensures goes { OnOk result (GoesOn self.old.line.host self.old.clerk.last self.new.clerk.last
-            connection.old connection.new (P.unread self.old.line.peer) (P.unread self.new.line.peer)
-            (P.written self.old.line.peer) (P.written self.new.line.peer)) }
+        ensures goes { OnOk result (GoesOn self.old.link.host self.old.dispatcher.last self.new.dispatcher.last
+            connection.old connection.new (P.unread self.old.link.peer) (P.unread self.new.link.peer)
+            (P.written self.old.link.peer) (P.written self.new.link.peer)) }
         ensures all { OnOk result ((connection.new.records.queued ≡ []) ⊎ (connection.new ≡ connection.old)) }
         ensures sent { OnOk result (waiting connection.new ≡ []) }
-        ensures breaks { OnErr result (IsCutOff self.old.line.host self.old.clerk.last connection.old
-            (P.unread self.old.line.peer) (P.written self.old.line.peer) (P.written self.new.line.peer)) }
+        ensures breaks { OnErr result (IsCutOff self.old.link.host self.old.dispatcher.last connection.old
+            (P.unread self.old.link.peer) (P.written self.old.link.peer) (P.written self.new.link.peer)) }
     {
         let mut buffer = Vec::from_elem(alloc, 0u8, FIRST_SIZE)?;
         let mut now = Instant::now(rt)?;
@@ -98,17 +98,18 @@ impl<L: Ledger + Naming, C: Clock, P: Peer> Reader<L, C, P> {
         buffer: &mut [u8],
     ) -> Result<usize, Closed>
         ensures count { ReadsAtMost result buffer.new }
-        ensures reads { IfOk result (λ count. Consumes (P.unread self.old.line.peer) (P.unread self.new.line.peer)
+        ensures reads { IfOk result (λ count. Consumes (P.unread self.old.link.peer) (P.unread self.new.link.peer)
             (take count buffer.new)) }
-        ensures written { P.written self.new.line.peer ≡ P.written self.old.line.peer }
-        ensures same { (self.new.line.host ≡ self.old.line.host) × (self.new.clerk.last ≡ self.old.clerk.last) }
+        ensures written { P.written self.new.link.peer ≡ P.written self.old.link.peer }
+        ensures same { (self.new.link.host ≡ self.old.link.host)
+            × (self.new.dispatcher.last ≡ self.old.dispatcher.last) }
     {
         let mut now = now;
-        let patience = self.line.patience;
+        let patience = self.link.patience;
         'waits: for _ in rt.forever() {
             let seconds = watch.left(patience, now).ok_or(Closed::Late)?;
             // No wait is longer than that for a record: so in most reads the socket's own need not be set.
-            if let Some(count) = self.line.peer.read(seconds.min(patience.record), buffer)? {
+            if let Some(count) = self.link.peer.read(seconds.min(patience.record), buffer)? {
                 return Ok(count);
             }
             now = Instant::now(rt)?;
@@ -128,14 +129,14 @@ impl<L: Ledger + Naming, C: Clock, P: Peer> Reader<L, C, P> {
         ensures sent { OnOk result (waiting connection.old ≡ [] → waiting connection.new ≡ []) }
         ensures room { connection.new.full ≡ false }
         ensures goes { OnOk result ((unread left : Option (List ℕ)) → Consumes unread left piece.now →
-            GoesOn self.old.line.host self.old.clerk.last self.new.clerk.last connection.old connection.new
-            unread left (P.written self.old.line.peer) (P.written self.new.line.peer)) }
+            GoesOn self.old.link.host self.old.dispatcher.last self.new.dispatcher.last connection.old connection.new
+            unread left (P.written self.old.link.peer) (P.written self.new.link.peer)) }
         ensures breaks { OnErr result ((unread left : Option (List ℕ)) → Consumes unread left piece.now →
-            IsCutOff self.old.line.host self.old.clerk.last connection.old
-            unread (P.written self.old.line.peer) (P.written self.new.line.peer)) }
+            IsCutOff self.old.link.host self.old.dispatcher.last connection.old
+            unread (P.written self.old.link.peer) (P.written self.new.link.peer)) }
         ensures all { OnOk result (connection.new.records.queued ≡ []) }
-        ensures unread { P.unread self.new.line.peer ≡ P.unread self.old.line.peer }
-        ensures host { self.new.line.host ≡ self.old.line.host }
+        ensures unread { P.unread self.new.link.peer ≡ P.unread self.old.link.peer }
+        ensures host { self.new.link.host ≡ self.old.link.host }
     {
         let taken = connection.take_in(piece);
         let is_refused = self.answer_piece(rt, alloc, connection)?;
@@ -157,20 +158,20 @@ impl<L: Ledger + Naming, C: Clock, P: Peer> Reader<L, C, P> {
         ensures sent { OnOk result (waiting connection.old ≡ [] → waiting connection.new ≡ []) }
         ensures room { connection.new.full ≡ false }
         ensures goes { OnOk result ((unread : Option (List ℕ)) →
-            GoesOn self.old.line.host self.old.clerk.last self.new.clerk.last connection.old connection.new
-            unread unread (P.written self.old.line.peer) (P.written self.new.line.peer)) }
+            GoesOn self.old.link.host self.old.dispatcher.last self.new.dispatcher.last connection.old connection.new
+            unread unread (P.written self.old.link.peer) (P.written self.new.link.peer)) }
         ensures all { OnOk result (connection.new.records.queued ≡ []) }
         ensures breaks { OnErr result ((unread : Option (List ℕ)) →
-            IsCutOff self.old.line.host self.old.clerk.last connection.old
-            unread (P.written self.old.line.peer) (P.written self.new.line.peer)) }
-        ensures unread { P.unread self.new.line.peer ≡ P.unread self.old.line.peer }
-        ensures host { self.new.line.host ≡ self.old.line.host }
+            IsCutOff self.old.link.host self.old.dispatcher.last connection.old
+            unread (P.written self.old.link.peer) (P.written self.new.link.peer)) }
+        ensures unread { P.unread self.new.link.peer ≡ P.unread self.old.link.peer }
+        ensures host { self.new.link.host ≡ self.old.link.host }
     {
         let mut is_refused = false;
         'batches: for _ in rt.forever() {
             let answered = self
-                .clerk
-                .answer_all(rt, alloc, &mut self.line, connection)?;
+                .dispatcher
+                .answer_all(rt, alloc, &mut self.link, connection)?;
             let Some(refused) = answered else {
                 return Ok(is_refused);
             };
@@ -181,12 +182,12 @@ impl<L: Ledger + Naming, C: Clock, P: Peer> Reader<L, C, P> {
 }
 
 /// What is counted of the end of a connection.
-fn end_of(served: Result<(), Closed>) -> Event {
+fn end_of(served: Result<(), Closed>) -> CountedEvent {
     match served {
-        Ok(()) => Event::Ended,
-        Err(Closed::Failed) => Event::Failed,
-        Err(Closed::Late) => Event::Late,
-        Err(Closed::Memory) => Event::Starved,
+        Ok(()) => CountedEvent::Ended,
+        Err(Closed::Failed) => CountedEvent::Failed,
+        Err(Closed::Late) => CountedEvent::Late,
+        Err(Closed::Memory) => CountedEvent::Starved,
     }
 }
 

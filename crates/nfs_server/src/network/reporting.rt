@@ -1,6 +1,6 @@
 //! The thread that says how the server is: in lines on standard error.
 
-use crate::network::counters::{Counters, Event};
+use crate::network::counters::{CountedEvent, Counters};
 use std::alloc::Global;
 use std::rt::Clock;
 use std::sync::{Arc, Wait};
@@ -12,7 +12,7 @@ const REST: u64 = 10;
 
 /// A kind of trouble that whoever operates the server has to know of.
 struct Trouble {
-    event: Event,
+    event: CountedEvent,
     /// What happened so often.
     text: &'static str,
 }
@@ -20,23 +20,23 @@ struct Trouble {
 /// The kinds of trouble.
 const TROUBLES: [Trouble; 5] = [
     Trouble {
-        event: Event::TurnedAway,
+        event: CountedEvent::TurnedAway,
         text: "connections above --connections, closed at once",
     },
     Trouble {
-        event: Event::Refused,
+        event: CountedEvent::Refused,
         text: "calls refused, for want of memory or of a number",
     },
     Trouble {
-        event: Event::Starved,
+        event: CountedEvent::Starved,
         text: "connections closed for want of memory",
     },
     Trouble {
-        event: Event::CallbackFailed,
+        event: CountedEvent::CallbackFailed,
         text: "callbacks that failed",
     },
     Trouble {
-        event: Event::Dropped,
+        event: CountedEvent::Dropped,
         text: "messages dropped",
     },
 ];

@@ -2,12 +2,12 @@
 //! II).
 
 use crate::callbacks::Callbacks;
-use crate::network::clerk::{Clerk, is_refusal};
-use crate::network::counters::Event;
+use crate::network::counters::CountedEvent;
+use crate::network::dispatcher::{Dispatcher, is_refusal};
 use crate::network::failures::Failures;
-use crate::network::line::read_some;
 use crate::network::mailbox::Mailbox;
 use crate::network::messages::{Letter, addressed, call_of_answer};
+use crate::network::peer::read_some;
 use nfs_engine::{Host, Posted};
 use nfs_pool::Naming;
 use nfs_rpc::{Record, RecordError, Records};
@@ -39,8 +39,8 @@ const PAUSE: u64 = 50;
 
 /// What sends the messages to one host.
 #[derive(Drop)]
-pub(crate) struct Sender<L: Ledger + Naming, C> {
-    pub(crate) clerk: Clerk<L, C>,
+pub(crate) struct CallbackThread<L: Ledger + Naming, C> {
+    pub(crate) dispatcher: Dispatcher<L, C>,
     pub(crate) callbacks: Arc<Callbacks>,
     /// Where its messages wait.
     pub(crate) mailbox: Arc<Mailbox>,
@@ -48,7 +48,7 @@ pub(crate) struct Sender<L: Ledger + Naming, C> {
     pub(crate) failures: Failures,
 }
 
-impl<L: Ledger + Naming, C: Clock> Sender<L, C> {
+impl<L: Ledger + Naming, C: Clock> CallbackThread<L, C> {
     /// Sends messages as they come, the oldest first.
     pub(crate) fn work<R: Wait + Clock + Net<Listener = TcpListener, Stream = TcpStream>>(
         &mut self,
@@ -77,7 +77,7 @@ impl<L: Ledger + Naming, C: Clock> Sender<L, C> {
                     deliver(
                         rt,
                         alloc,
-                        &mut self.clerk,
+                        &mut self.dispatcher,
                         &mut self.failures,
                         &letter,
                         posted,
@@ -86,10 +86,10 @@ impl<L: Ledger + Naming, C: Clock> Sender<L, C> {
                     return;
                 }
                 Ok(None) => break,
-                Err(_) => self.clerk.make_room(rt),
+                Err(_) => self.dispatcher.make_room(rt),
             }
         }
-        self.clerk.counters.happened(Event::Dropped);
+        self.dispatcher.counters.happened(CountedEvent::Dropped);
     }
 }
 
@@ -101,26 +101,26 @@ fn deliver<
 >(
     rt: &R,
     alloc: Global,
-    clerk: &mut Clerk<L, C>,
+    dispatcher: &mut Dispatcher<L, C>,
     failures: &mut Failures,
     letter: &Letter<'_>,
     posted: &Posted,
 ) {
     let address = letter.callback.address;
     if is_passed_over(rt, failures, address) {
-        clerk.counters.happened(Event::Dropped);
+        dispatcher.counters.happened(CountedEvent::Dropped);
         return;
     }
-    match asked(rt, alloc, clerk, letter, posted) {
+    match asked(rt, alloc, dispatcher, letter, posted) {
         Ok(answer) => {
-            clerk.counters.happened(Event::Sent);
+            dispatcher.counters.happened(CountedEvent::Sent);
             if let Some(answer) = answer {
-                clerk.take_in(rt, alloc, &letter.callback.host, posted, &answer);
+                dispatcher.take_in(rt, alloc, &letter.callback.host, posted, &answer);
             }
         }
         Err(_) => {
-            clerk.counters.happened(Event::CallbackFailed);
-            clerk.counters.happened(Event::Dropped);
+            dispatcher.counters.happened(CountedEvent::CallbackFailed);
+            dispatcher.counters.happened(CountedEvent::Dropped);
             pass_over(rt, failures, address);
         }
     }
@@ -153,13 +153,13 @@ fn asked<
 >(
     rt: &R,
     alloc: Global,
-    clerk: &Clerk<L, C>,
+    dispatcher: &Dispatcher<L, C>,
     letter: &Letter<'_>,
     posted: &Posted,
 ) -> io::Result<Option<Record>> {
     let stream = connected(rt, letter.callback.address)?;
     (&stream).write_all(&letter.bytes)?;
-    match first_record(rt, alloc, clerk, &stream) {
+    match first_record(rt, alloc, dispatcher, &stream) {
         Err(_) if !matches!(&posted.message.call, Callback::Granted(_)) => Ok(None),
         answered => answered,
     }
@@ -181,14 +181,14 @@ fn connected<R: Net<Listener = TcpListener, Stream = TcpStream>>(
 fn first_record<L: Ledger + Naming, C: Clock, R: Wait + Clock>(
     rt: &R,
     alloc: Global,
-    clerk: &Clerk<L, C>,
+    dispatcher: &Dispatcher<L, C>,
     stream: &TcpStream,
 ) -> io::Result<Option<Record>> {
     let mut records = Records::new(alloc);
     let mut piece = [0u8; PIECE_SIZE];
     for _ in 0..MOST_PIECES {
         let count = read_some(stream, &mut piece)?;
-        if count == 0 || !clerk.feed(rt, &mut records, &piece[..count]) {
+        if count == 0 || !dispatcher.feed(rt, &mut records, &piece[..count]) {
             return Ok(None);
         }
         if let Some(record) = records.next() {
@@ -198,10 +198,10 @@ fn first_record<L: Ledger + Naming, C: Clock, R: Wait + Clock>(
     Ok(None)
 }
 
-impl<L: Ledger + Naming, C: Clock> Clerk<L, C> {
+impl<L: Ledger + Naming, C: Clock> Dispatcher<L, C> {
     /// Has what was recorded let go, and waits a while for memory.
     fn make_room<R: Wait + Clock>(&self, rt: &R) {
-        self.places.relieve(rt);
+        self.permits.relieve(rt);
         thread::sleep(rt, Duration::from_millis(PAUSE));
     }
 

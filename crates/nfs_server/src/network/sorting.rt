@@ -1,8 +1,8 @@
 //! The thread that takes messages out of the pool, and hands each on to the thread that sends those to its host.
 
 use crate::callbacks::Callbacks;
-use crate::network::clerk::Clerk;
-use crate::network::counters::Event;
+use crate::network::counters::CountedEvent;
+use crate::network::dispatcher::Dispatcher;
 use crate::network::mailbox::Mailbox;
 use nfs_engine::Posted;
 use nfs_pool::Naming;
@@ -10,13 +10,13 @@ use std::rt::Clock;
 use std::sync::ledger::Ledger;
 use std::sync::{Arc, Wait};
 
-/// How many messages are taken on one place, so that others have it soon.
+/// How many messages are taken on one permit, so that others have it soon.
 const MOST_MESSAGES: usize = 64;
 
 /// What hands messages on.
 #[derive(Drop)]
 pub(crate) struct Sorter<L: Ledger + Naming, C> {
-    pub(crate) clerk: Clerk<L, C>,
+    pub(crate) dispatcher: Dispatcher<L, C>,
     pub(crate) callbacks: Arc<Callbacks>,
     /// Where messages to the host of each callback wait.
     pub(crate) mailboxes: Vec<Arc<Mailbox>>,
@@ -27,7 +27,7 @@ impl<L: Ledger + Naming, C: Clock> Sorter<L, C> {
     pub(crate) fn work<R: Wait>(&self, rt: &R) {
         for _ in rt.forever() {
             if self.is_emptied(rt) {
-                self.clerk.bell.wait(rt);
+                self.dispatcher.wakeup.wait(rt);
             }
         }
         unreachable!()
@@ -35,10 +35,10 @@ impl<L: Ledger + Naming, C: Clock> Sorter<L, C> {
 
     /// Hands messages on, so many at most. Whether there was none any more.
     fn is_emptied<R: Wait>(&self, rt: &R) -> bool {
-        let place = self.clerk.places.take(rt);
+        let permit = self.dispatcher.permits.take(rt);
         let mut is_emptied = false;
         for _ in 0..MOST_MESSAGES {
-            match place.pool.message(rt) {
+            match permit.pool.message(rt) {
                 Some(posted) => self.hand_on(rt, posted),
                 None => {
                     is_emptied = true;
@@ -46,7 +46,7 @@ impl<L: Ledger + Naming, C: Clock> Sorter<L, C> {
                 }
             }
         }
-        self.clerk.places.give(rt, place);
+        self.dispatcher.permits.give(rt, permit);
         is_emptied
     }
 
@@ -60,7 +60,7 @@ impl<L: Ledger + Naming, C: Clock> Sorter<L, C> {
             }
         };
         if is_dropped {
-            self.clerk.counters.happened(Event::Dropped);
+            self.dispatcher.counters.happened(CountedEvent::Dropped);
         }
     }
 

@@ -4,7 +4,7 @@ ghost use Rattle.nfs_xdr.specs.Reading.{ReadsFront, Shares};
 ghost use Rattle.nfs_wire.specs.Arguments.{nfs_fh3, diropargs3, verf3, place_value, verifier_value};
 ghost use Rattle.nfs_wire.specs.Parts.{place_parts_value};
 
-use crate::calls::{Place, Verifier};
+use crate::calls::{DirOp, Verifier};
 use nfs_xdr::{Part, SharedReader, XdrError, are_bytes};
 
 /// The bound of a string that has none of its own: what its length word can say.
@@ -12,7 +12,7 @@ pub(super) const UNBOUNDED: usize = u32::MAX as usize;
 
 /// A name in a directory, as it was read (`diropargs3`).
 #[derive(Drop)]
-pub(super) struct PlaceParts<'a> {
+pub(super) struct DirOpParts<'a> {
     directory: Part<'a>,
     name: Part<'a>,
 }
@@ -26,22 +26,22 @@ pub(super) fn read_handle<'a>(reader: &mut SharedReader<'a>) -> Result<Part<'a>,
 
 /// A name in a directory (`diropargs3`, RFC 1813, 2.5).
 #[tactic(auto, unfolding(nfs_xdr::specs::Reading::read))]
-pub(super) fn read_place<'a>(reader: &mut SharedReader<'a>) -> Result<PlaceParts<'a>, XdrError>
+pub(super) fn read_place<'a>(reader: &mut SharedReader<'a>) -> Result<DirOpParts<'a>, XdrError>
     ensures { ReadsFront diropargs3 place_parts_value reader.entry.now reader.exit.now result }
 {
-    Ok(PlaceParts {
+    Ok(DirOpParts {
         directory: read_handle(reader)?,
         name: reader.opaque(UNBOUNDED)?,
     })
 }
 
-impl<'a> PlaceParts<'a> {
+impl<'a> DirOpParts<'a> {
     /// The name, with its bytes shared.
-    pub(super) fn share(self) -> Result<Place, XdrError>
+    pub(super) fn share(self) -> Result<DirOp, XdrError>
         ensures { Shares diropargs3 place_value (place_parts_value self.entry) result }
     {
-        let PlaceParts { directory, name } = self;
-        Ok(Place {
+        let DirOpParts { directory, name } = self;
+        Ok(DirOp {
             directory: directory.share()?,
             name: name.share()?,
         })

@@ -2,7 +2,7 @@
 //! word is its program, and the sixth its procedure (RFC 5531, section 9).
 
 use bytes::Bytes;
-use nfs_server::{Counters, Event};
+use nfs_server::{CountedEvent, Counters};
 use std::test::Fail;
 
 /// GETATTR of NFS.
@@ -29,13 +29,13 @@ const UNKNOWN: [u8; 24] = [
 const CALLS: [[u8; 24]; 5] = [GETATTR, EXPORT, GETATTR, FREE_ALL, UNKNOWN];
 
 /// What happens: two connections come and one of them is given up, and of two datagrams one is dropped.
-const HAPPENED: [Event; 6] = [
-    Event::Opened,
-    Event::Datagram,
-    Event::Opened,
-    Event::Late,
-    Event::Datagram,
-    Event::DatagramDropped,
+const HAPPENED: [CountedEvent; 6] = [
+    CountedEvent::Opened,
+    CountedEvent::Datagram,
+    CountedEvent::Opened,
+    CountedEvent::Late,
+    CountedEvent::Datagram,
+    CountedEvent::DatagramDropped,
 ];
 
 const NOTHING: &str = " connections=0 repeated=0 refused=0 faulty=0 unanswered=0 \

@@ -5,7 +5,7 @@ ghost use Rattle.std.specs.Prelude.{◌<◌};
 use super::{bytes_of, joined, record};
 use bytes::Bytes;
 use nfs_rpc::{
-    Answer, Early, Fault, Gids, Program, RecordError, Records, finish_record, read_call,
+    Early, Fault, Gids, Program, RecordError, Records, ReplyHead, finish_record, read_call,
     start_record, write_reply,
 };
 use std::alloc::Global;
@@ -405,7 +405,7 @@ fn groups(rt: HostRuntime) {
 }
 
 /// Whether the record of an answer to the call with 4 as xid is these words.
-fn is_answered(alloc: Global, answer: Answer, words: &[u32]) -> Result<bool, Fail> {
+fn is_answered(alloc: Global, answer: ReplyHead, words: &[u32]) -> Result<bool, Fail> {
     let mut writer = start_record(alloc, 32)?;
     write_reply(&mut writer, 4, answer)?;
     if writer.len() < 4 || writer.len() > 1000 {
@@ -416,7 +416,7 @@ fn is_answered(alloc: Global, answer: Answer, words: &[u32]) -> Result<bool, Fai
 }
 
 /// The words of a record, and the answer of which they are written.
-struct Answered(&'static [u32], Answer);
+struct Answered(&'static [u32], ReplyHead);
 
 /// The words are written of those answers.
 fn are_answered(rt: &(impl Abort + AllocGlobal), rows: &[Answered]) -> Result<(), Fail> {
@@ -432,34 +432,34 @@ fn calls_are_answered(rt: HostRuntime) -> Result<(), Fail> {
     are_answered(
         &rt,
         &[
-            Answered(&[0x80000018, 4, 1, 0, 0, 0, 0], Answer::Success),
+            Answered(&[0x80000018, 4, 1, 0, 0, 0, 0], ReplyHead::Success),
             Answered(
                 &[0x80000018, 4, 1, 0, 0, 0, 1],
-                Answer::Failure(Fault::ProgramUnavailable),
+                ReplyHead::Failure(Fault::ProgramUnavailable),
             ),
             Answered(
                 &[0x80000018, 4, 1, 0, 0, 0, 3],
-                Answer::Failure(Fault::ProcedureUnavailable),
+                ReplyHead::Failure(Fault::ProcedureUnavailable),
             ),
             Answered(
                 &[0x80000018, 4, 1, 0, 0, 0, 4],
-                Answer::Failure(Fault::GarbageArguments),
+                ReplyHead::Failure(Fault::GarbageArguments),
             ),
             Answered(
                 &[0x80000018, 4, 1, 0, 0, 0, 5],
-                Answer::Failure(Fault::SystemError),
+                ReplyHead::Failure(Fault::SystemError),
             ),
             Answered(
                 &[0x80000020, 4, 1, 0, 0, 0, 2, 3, 4],
-                Answer::Failure(MISMATCH),
+                ReplyHead::Failure(MISMATCH),
             ),
             Answered(
                 &[0x80000018, 4, 1, 1, 0, 2, 2],
-                Answer::Failure(Fault::RpcMismatch),
+                ReplyHead::Failure(Fault::RpcMismatch),
             ),
             Answered(
                 &[0x80000014, 4, 1, 1, 1, 1],
-                Answer::Failure(Fault::BadCredential),
+                ReplyHead::Failure(Fault::BadCredential),
             ),
         ],
     )

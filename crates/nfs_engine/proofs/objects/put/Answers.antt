@@ -6,13 +6,13 @@ use Rattle.nfs_engine.proofs.StandingCountLemmas.{given-some}
 use Rattle.nfs_engine.proofs.TidySlotLemmas.{filled-of, needs-new, puts-new, puts-nothing, puts-there, stood-nowhere}
 use Rattle.nfs_engine.proofs.TidySlotLemmas.{stood-there}
 use Rattle.nfs_engine.specs.Tables.{Puts, empty_kept, kept_slots, kept_value}
-use Rattle.nfs_engine.specs.declared.objects.Kept.{Kept}
+use Rattle.nfs_engine.specs.declared.objects.StoredObject.{StoredObject}
 use Rattle.nfs_engine.proofs.objects.put.Goals as goal
 
 pub returns-in-Some-clause-puts : goal.returns-in-Some-clause-puts
 returns-in-Some-clause-puts c =
     let object = option_map arc_value c.args.object in
-    let kept : Kept = record { object = c.args.object; last = c.max-last.result } in
+    let kept : StoredObject = record { object = c.args.object; last = c.max-last.result } in
     puts-there c.args.slots.now c.args.address object c.in-Some.slot.now kept c.in-Some.ensures.value
     (c.get_mut.follows.lender kept) (c.get_mut.follows.holds kept)
     (filled-of (kept_value c.in-Some.slot.now) object c.generation-given.result c.max-last.result c.max-last.ensures
@@ -25,7 +25,7 @@ returns-in-Some-clause-stood c =
 
 pub returns-in-Some-clause-room : goal.returns-in-Some-clause-room
 returns-in-Some-clause-room c =
-    let kept : Kept = record { object = c.args.object; last = c.max-last.result } in
+    let kept : StoredObject = record { object = c.args.object; last = c.max-last.result } in
     omega (arith, (c.get_mut.follows.holds kept).room)
 
 pub add-requires : goal.add-requires
@@ -44,7 +44,7 @@ unwrap-requires c =
 pub returns-then-is_some-clause-puts : goal.returns-then-is_some-clause-puts
 returns-then-is_some-clause-puts c =
     let object = option_map arc_value c.args.object in
-    let kept : Kept = record { object = c.args.object; last = c.generation-given.result } in
+    let kept : StoredObject = record { object = c.args.object; last = c.generation-given.result } in
     puts-new c.args.slots.now c.args.address object c.in_default.ensures.value
     (sym (given-some arc_value c.args.object c.is_some.result c.is_some.ensures) ∙ c.if-is_some.true) kept
     (filled-of empty_kept object c.generation-given.result c.generation-given.result (omega arith)

@@ -5,7 +5,7 @@ use Rattle.nfs_objects.proofs.PromiseLemmas.{turned-change, turns-both}
 use Rattle.nfs_objects.proofs.ModesSuitLemmas.{change-counts}
 use Rattle.nfs_objects.specs.Calls.{addresses_of, locks_at}
 use Rattle.nfs_objects.specs.Knows.{Turns}
-use Rattle.nfs_objects.specs.Stands.{Kept}
+use Rattle.nfs_objects.specs.Stands.{StoreMeaning}
 use Rattle.nfs_objects.specs.Values.{DraftValue}
 use Rattle.nfs_objects.specs.declared.address.Addr.TheVariants as addresses
 use Rattle.nfs_inodes.specs.Counts.{uncounted}
@@ -22,7 +22,7 @@ use Rattle.nfs_inodes.proofs.PutObjectLemmas.{knows-kept, object-stops}
 use Rattle.nfs_inodes.proofs.makers.free.Goals as goal
 
 -- what the draft came to behind its locks
-abbrev forgot : ℕ → Kept → Kept
+abbrev forgot : ℕ → StoreMeaning → StoreMeaning
 forgot number k = locks_freed number (uncounted number k)
 
 turned : (n : ℕ) (d mid after : DraftValue) → Turns d mid (uncounted n) → Turns mid after (locks_freed n) →

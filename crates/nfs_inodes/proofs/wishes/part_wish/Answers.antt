@@ -9,4 +9,4 @@ returns c =
     part-wished c.args.draft.now c.args.directory c.in-Ok-Some.inode.now c.in_ok-directory.field-0.now c.requires
     (subst (λ o. HasInode c.args.draft.now c.args.directory (option_copied o)) c.in-Ok-Some.field-0-is
     c.in-Ok-Some.ensures.inode) c.in_ok-directory.ensures c.args.name.now c.in_ok-place.place
-    c.in_ok-place.ensures c.lacked.result c.lacked.ensures
+    c.in_ok-place.ensures c.missing.result c.missing.ensures

@@ -1,6 +1,6 @@
 -- What was taken so far is whole records, and the next one has not begun.
 use Rattle.std.proofs.Common.{◌≡◌, length, []}
-use Rattle.nfs_rpc.specs.declared.marking.Place.TheVariants.{Header}
+use Rattle.nfs_rpc.specs.declared.marking.FragmentState.TheVariants.{Header}
 use Rattle.nfs_rpc.proofs.FragmentByteLemmas.{AreRecords}
 use Rattle.nfs_rpc.proofs.marking.records_of.Given as goal
 

@@ -5,7 +5,7 @@ use Rattle.nfs_schedule.proofs.WorkerStepLemmas.{called_built}
 use Rattle.nfs_schedule.proofs.course.attempt_on.Goals as goal
 
 pub attempt-requires-clause-built : goal.attempt-requires-clause-built
-attempt-requires-clause-built c = subst IsBuilt (sym c.call.ensures) (called_built _ _ _ _ c.is_called.ensures)
+attempt-requires-clause-built c = subst IsBuilt (sym c.call.ensures) (called_built _ _ _ _ c.show_called.ensures)
 
 pub attempt-requires-clause-suits : goal.attempt-requires-clause-suits
 attempt-requires-clause-suits c = lent_suits c.args.txn.now _ _ c.requires c.call.ensures c.view.ensures

@@ -5,13 +5,13 @@ pub go_on-requires : goal.go_on-requires
 go_on-requires c = planned_grown _ _ c.requires _ c.in-Planned.is
 
 pub go_on-requires-in-None : goal.go_on-requires-in-None
-go_on-requires-in-None c = asked_grown _ _ c.requires _ _ c.in-Asked.is
+go_on-requires-in-None c = asked_grown _ _ c.requires _ _ c.in-Acquiring.is
 
-pub returns-in-Foreseen : goal.returns-in-Foreseen
-returns-in-Foreseen c = foreseen_last _ _ c.requires _ _ _ c.in-Foreseen.is
+pub returns-in-FirstHandle : goal.returns-in-FirstHandle
+returns-in-FirstHandle c = foreseen_last _ _ c.requires _ _ _ c.in-FirstHandle.is
 
 pub returns-in-Some : goal.returns-in-Some
-returns-in-Some c = asked_next _ _ c.requires _ _ _ c.in-Asked.is c.in-Some.ensures
+returns-in-Some c = asked_next _ _ c.requires _ _ _ c.in-Acquiring.is c.in-Some.ensures
 
-pub returns-in-Numbers : goal.returns-in-Numbers
-returns-in-Numbers c = numbers_next _ _ c.requires _ _ _ c.in-Numbers.is c.after_number.ensures
+pub returns-in-Reserving : goal.returns-in-Reserving
+returns-in-Reserving c = numbers_next _ _ c.requires _ _ _ c.in-Reserving.is c.after_number.ensures

@@ -1,6 +1,7 @@
 use Rattle.std.proofs.Common.{refl}
 use Rattle.nfs_schedule.proofs.StopLemmas.{stop_ended, stop_gone, stop_left, stop_ready}
-use Rattle.nfs_schedule.specs.declared.worker.Worker.TheVariants.{Trying, Wanting, Wishing, Blocked, Failing, PutOff}
+use Rattle.nfs_schedule.specs.declared.worker.Worker.TheVariants.{Trying, Wanting, WantingNumbers, Blocked, Failing}
+use Rattle.nfs_schedule.specs.declared.worker.Worker.TheVariants.{PutOff}
 use Rattle.nfs_schedule.specs.declared.worker.Worker.TheVariants.{Refusing}
 use Rattle.nfs_schedule.proofs.stop.stop.Goals as goal
 
@@ -18,12 +19,12 @@ returns-in-Wanting c =
     c.stop_call-in-Wanting.ensures.gone _ lives.0.running refl refl refl
     c.stop_call-in-Wanting.ensures.answer)
 
-pub returns-in-Wishing : goal.returns-in-Wishing
-returns-in-Wishing c =
-    let lives = rw c.in-Wishing.is at c.requires in
-    rw c.in-Wishing.is (stop_gone _ _ (Wishing c.in-Wishing.txn c.in-Wishing._left) _ _ _ _
-    c.stop_call-in-Wishing.ensures.gone _ lives.0.running refl refl refl
-    c.stop_call-in-Wishing.ensures.answer)
+pub returns-in-WantingNumbers : goal.returns-in-WantingNumbers
+returns-in-WantingNumbers c =
+    let lives = rw c.in-WantingNumbers.is at c.requires in
+    rw c.in-WantingNumbers.is (stop_gone _ _ (WantingNumbers c.in-WantingNumbers.txn c.in-WantingNumbers._left) _ _ _ _
+    c.stop_call-in-WantingNumbers.ensures.gone _ lives.0.running refl refl refl
+    c.stop_call-in-WantingNumbers.ensures.answer)
 
 pub returns-in-Ready : goal.returns-in-Ready
 returns-in-Ready c =

@@ -11,7 +11,7 @@ returns-in-Ok c =
       step = c.in-Ok.ensures.step;
       leads = c.in-Ok.ensures.leads;
       receipt_is = c.in-Ok.ensures.receipt;
-    }) c.is_finished.ensures.called
+    }) c.show_finished.ensures.called
 
 pub returns-in-Err : goal.returns-in-Err
 returns-in-Err c =

@@ -4,7 +4,7 @@ use denote.Param.Send.{sendable}
 use Rattle.std.proofs.Crossing.{crosses}
 use Rattle.std.proofs.net.TcpListener.TheSendSync as listener
 use Rattle.nfs_server.proofs.CrossingLemmas.{service_send}
-use Rattle.nfs_server.proofs.network.attendance.Attendance.TheSendSync as attendance
+use Rattle.nfs_server.proofs.network.connection_count.ConnectionCount.TheSendSync as connection_count
 use Rattle.nfs_server.proofs.options.Network.TheSendSync as network
 use Rattle.nfs_server.proofs.network.start_connections.Goals as goal
 
@@ -12,4 +12,11 @@ pub spawn-requires-send-F : goal.spawn-requires-send-F
 spawn-requires-send-F g c κs within =
     let rt = c.type_bounds.send-R in
     let service = service_send (param 0 g.row.L) g.L.Ledger g.L.Naming c.type_bounds.send-L c.type_bounds.sync-L in
-    search (sendable, crosses, listener.the_send, network.the_send, attendance.the_send, attendance.the_sync) depth 20
+    search (
+      sendable,
+      crosses,
+      listener.the_send,
+      network.the_send,
+      connection_count.the_send,
+      connection_count.the_sync,
+    ) depth 20

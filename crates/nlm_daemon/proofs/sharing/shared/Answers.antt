@@ -6,7 +6,7 @@ use Rattle.nlm_daemon.proofs.NlmHandleLemmas.{first-halts, first-past}
 use Rattle.nlm_daemon.specs.Checks.{fault_value}
 use Rattle.side_wire.specs.declared.nlm.NlmStatus.{NlmStatus}
 use Rattle.nlm_daemon.specs.declared.checking.LockFault.{LockFault}
-use Rattle.nfs_inodes.specs.declared.kinds.File.{File}
+use Rattle.nfs_inodes.specs.declared.kinds.KnownFile.{KnownFile}
 use Rattle.nlm_daemon.proofs.sharing.shared.Goals as goal
 
 pub returns-in_err-file-clause-ends : goal.returns-in_err-file-clause-ends
@@ -17,7 +17,7 @@ returns-in_err-file-clause-ends c =
 pub returns-in_err-file-clause-first : goal.returns-in_err-file-clause-first
 returns-in_err-file-clause-first c =
     let p = err_from_is_err_and c.from_residual.result c.from_residual.ensures.1 in
-    rw (p.1, p.2) (first-halts (Result File LockFault) NlmStatus c.args.draft.now.modes c.args.draft.now.view _ _
+    rw (p.1, p.2) (first-halts (Result KnownFile LockFault) NlmStatus c.args.draft.now.modes c.args.draft.now.view _ _
     c.in_err-file.ensures.first)
 
 pub returns-in-Err-clause-ends : goal.returns-in-Err-clause-ends

@@ -8,7 +8,7 @@ use Rattle.nlm_daemon.proofs.NlmHandleLemmas.{first-halts, first-past}
 use Rattle.nlm_daemon.specs.Checks.{IsPlaceOf, fault_value}
 use Rattle.side_wire.specs.declared.nlm.NlmStatus.{NlmStatus}
 use Rattle.nlm_daemon.specs.declared.checking.LockFault.{LockFault}
-use Rattle.nlm_daemon.specs.declared.checking.Place.{Place}
+use Rattle.nlm_daemon.specs.declared.checking.FileRange.{FileRange}
 use Rattle.nlm_daemon.proofs.unlocking.canceled.Goals as goal
 
 pub returns-in_err-place-clause-ends : goal.returns-in_err-place-clause-ends
@@ -19,7 +19,7 @@ returns-in_err-place-clause-ends c =
 pub returns-in_err-place-clause-first : goal.returns-in_err-place-clause-first
 returns-in_err-place-clause-first c =
     let p = err_from_is_err_and c.from_residual.result c.from_residual.ensures.1 in
-    rw (p.1, p.2) (first-halts (Result Place LockFault) NlmStatus c.args.draft.now.modes c.args.draft.now.view _ _
+    rw (p.1, p.2) (first-halts (Result FileRange LockFault) NlmStatus c.args.draft.now.modes c.args.draft.now.view _ _
     c.in_err-place.ensures.first)
 
 pub returns-in-Err-clause-ends : goal.returns-in-Err-clause-ends

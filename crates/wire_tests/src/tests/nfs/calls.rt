@@ -5,10 +5,11 @@ use crate::tests::arguments::{Format, Garbage, all_are_garbage, fronts_are_garba
 use crate::tests::{BEHIND, joined, record};
 use bytes::Bytes;
 use nfs_wire::{
-    AccessArguments, CommitArguments, CreateArguments, CreateHow, DeviceNumber, LinkArguments,
-    MkdirArguments, MknodArguments, NfsCall, Ordinary, Place, ReadArguments, ReaddirArguments,
-    ReaddirplusArguments, RenameArguments, SetAttributes, SetTime, SetattrArguments, Special,
-    Stability, SymlinkArguments, Time, Verifier, WriteArguments, one_call_is_spelled, read_args,
+    AccessArguments, CommitArguments, CreateArguments, CreateHow, DeviceNumber, DirOp,
+    LinkArguments, MkdirArguments, MknodArguments, NfsCall, Ordinary, ReadArguments,
+    ReaddirArguments, ReaddirplusArguments, RenameArguments, SetAttributes, SetTime,
+    SetattrArguments, Special, Stability, SymlinkArguments, Time, Verifier, WriteArguments,
+    one_call_is_spelled, read_args,
 };
 use nfs_xdr::SharedReader;
 use std::alloc::Global;
@@ -63,8 +64,8 @@ fn handle() -> Bytes {
     Bytes::from_static(b"abcd")
 }
 
-fn place(name: &'static [u8]) -> Place {
-    Place {
+fn place(name: &'static [u8]) -> DirOp {
+    DirOp {
         directory: handle(),
         name: Bytes::from_static(name),
     }
@@ -157,7 +158,7 @@ fn mknod(what: Special) -> NfsCall {
 fn rename(directory: &'static [u8], name: &'static [u8]) -> NfsCall {
     NfsCall::Rename(RenameArguments {
         from: place(b"file"),
-        to: Place {
+        to: DirOp {
             directory: Bytes::from_static(directory),
             name: Bytes::from_static(name),
         },

@@ -15,12 +15,12 @@ use Rattle.nfs_engine.proofs.book.Book.commit.Goals.{After-commit}
 
 pub make_room_for-requires-clause-messages : goal.make_room_for-requires-clause-messages
 make_room_for-requires-clause-messages c =
-    messages_form _ c.args.finished c.is_finished.ensures.called c.is_finished.ensures.promised c.requires
+    messages_form _ c.args.finished c.show_finished.ensures.called c.show_finished.ensures.promised c.requires
     c.side_replies_have_forms.ensures.messages (subst IsBook c.self.view_is c.self.invariant).run
 
 pub make_room_for-requires-clause-reply : goal.make_room_for-requires-clause-reply
 make_room_for-requires-clause-reply c =
-    reply_form _ c.args.finished c.is_finished.ensures.called c.is_finished.ensures.promised c.requires
+    reply_form _ c.args.finished c.show_finished.ensures.called c.show_finished.ensures.promised c.requires
     (subst IsBook c.self.view_is c.self.invariant).run
 
 pub keep_answer-requires : goal.keep_answer-requires
@@ -68,7 +68,7 @@ commits c =
 pub invariant_of-self-2 : goal.invariant_of-self-2
 invariant_of-self-2 c = record {
   run = led_run _ _ (ap (λ (b : BookValue). b.base) (commits c).rest)
-      (committed_leads _ c.args.finished c.is_finished.ensures.called c.is_finished.ensures.promised c.requires
+      (committed_leads _ c.args.finished c.show_finished.ensures.called c.show_finished.ensures.promised c.requires
       (after c) (commits c))
       (subst IsBook c.self.view_is c.self.invariant).run;
   unkept = answered c.self.inside.journal c.self.inside.replies c.self.inside.calls (setting c)
@@ -94,10 +94,12 @@ returns-clause-keeps c =
 
 pub returns-clause-step : goal.returns-clause-step
 returns-clause-step c =
-    committed_steps _ c.args.finished c.is_finished.ensures.called c.is_finished.ensures.promised c.requires (after c)
+    committed_steps _ c.args.finished c.show_finished.ensures.called c.show_finished.ensures.promised c.requires
+    (after c)
     (commits c)
 
 pub returns-clause-leads : goal.returns-clause-leads
 returns-clause-leads c =
-    committed_leads _ c.args.finished c.is_finished.ensures.called c.is_finished.ensures.promised c.requires (after c)
+    committed_leads _ c.args.finished c.show_finished.ensures.called c.show_finished.ensures.promised c.requires
+    (after c)
     (commits c)

@@ -23,7 +23,7 @@ settle_all-requires-clause-held c =
     IsHeldAmong c.self.inside.shards w.0) ws)
     (sym (ap (map write_value) c.deref_mut.ensures.value ∙ c.in-Ok.ensures.leaves.writes))
     (held_to_write c.self.inside.book c.self.inside.shards c.args.finished
-    (rw (← c.self.view_is) at c.requires) c.is_finished.ensures.promised))
+    (rw (← c.self.view_is) at c.requires) c.show_finished.ensures.promised))
 
 pub invariant_of-self-2 : goal.invariant_of-self-2
 invariant_of-self-2 c = settled_tied c.self.inside.book c.commit.new.self c.self.inside.shards c.settle_all.new.shards
@@ -32,7 +32,7 @@ invariant_of-self-2 c = settled_tied c.self.inside.book c.commit.new.self c.self
       view = c.release.inside.view;
       done = c.written_shards-written.result;
       after = c.release.inside.after;
-    }) c.self.invariant (rw (← c.self.view_is) at c.requires) c.is_finished.ensures.promised c.run.ensures.run
+    }) c.self.invariant (rw (← c.self.view_is) at c.requires) c.show_finished.ensures.promised c.show_run.ensures.run
     c.in-Ok.ensures.commits (map write_value c.deref_mut.result.now) (rw c.make_room.ensures at c.settle_all.ensures)
     (ap (map write_value) c.deref_mut.ensures.value ∙ c.in-Ok.ensures.leaves.writes)
     (ap (λ (r : ReleaseValue). r.id) (c.release.view_is ∙ c.in-Ok.ensures.leaves.release))
@@ -52,7 +52,7 @@ returns-clause-others c = rw (← c.self.view_is) (settled_others c.self.inside.
       view = c.release.inside.view;
       done = c.written_shards-written.result;
       after = c.release.inside.after;
-    }) c.self.invariant (rw (← c.self.view_is) at c.requires) c.is_finished.ensures.promised c.run.ensures.run
+    }) c.self.invariant (rw (← c.self.view_is) at c.requires) c.show_finished.ensures.promised c.show_run.ensures.run
     c.in-Ok.ensures.commits (map write_value c.deref_mut.result.now) (rw c.make_room.ensures at c.settle_all.ensures)
     (ap (map write_value) c.deref_mut.ensures.value ∙ c.in-Ok.ensures.leaves.writes)
     (ap (λ (r : ReleaseValue). r.id) (c.release.view_is ∙ c.in-Ok.ensures.leaves.release))
@@ -66,7 +66,7 @@ returns-clause-counters c = rw (← c.self.view_is) (settled_counters c.self.ins
       view = c.release.inside.view;
       done = c.written_shards-written.result;
       after = c.release.inside.after;
-    }) c.self.invariant (rw (← c.self.view_is) at c.requires) c.is_finished.ensures.promised c.run.ensures.run
+    }) c.self.invariant (rw (← c.self.view_is) at c.requires) c.show_finished.ensures.promised c.show_run.ensures.run
     c.in-Ok.ensures.commits (map write_value c.deref_mut.result.now) (rw c.make_room.ensures at c.settle_all.ensures)
     (ap (map write_value) c.deref_mut.ensures.value ∙ c.in-Ok.ensures.leaves.writes)
     (ap (λ (r : ReleaseValue). r.id) (c.release.view_is ∙ c.in-Ok.ensures.leaves.release))
@@ -80,7 +80,7 @@ returns-clause-leaving c = settled_leaving c.self.inside.book c.commit.new.self 
       view = c.release.inside.view;
       done = c.written_shards-written.result;
       after = c.release.inside.after;
-    }) c.self.invariant (rw (← c.self.view_is) at c.requires) c.is_finished.ensures.promised c.run.ensures.run
+    }) c.self.invariant (rw (← c.self.view_is) at c.requires) c.show_finished.ensures.promised c.show_run.ensures.run
     c.in-Ok.ensures.commits (map write_value c.deref_mut.result.now) (rw c.make_room.ensures at c.settle_all.ensures)
     (ap (map write_value) c.deref_mut.ensures.value ∙ c.in-Ok.ensures.leaves.writes)
     (ap (λ (r : ReleaseValue). r.id) (c.release.view_is ∙ c.in-Ok.ensures.leaves.release))

@@ -2,7 +2,7 @@ use Rattle.std.proofs.Common.{◌≡◌, ◌∙◌, ◌++◌, ◌+◌, drop, sub
 use Rattle.std.proofs.lemmas.List.{take_more}
 use Rattle.nfs_server.proofs.AnsweredLinesLemmas.{on_err, one_more_byte}
 use Rattle.nfs_server.specs.Control.{Hears, Stands}
-use Rattle.nfs_server.specs.declared.controlling.Ended.TheVariants.{Write}
+use Rattle.nfs_server.specs.declared.controlling.ControlEnd.TheVariants.{Write}
 use Rattle.nfs_server.proofs.controlling.Dialogue.take_in.Given as given
 use Rattle.nfs_server.proofs.controlling.Dialogue.take_in.Goals as goal
 

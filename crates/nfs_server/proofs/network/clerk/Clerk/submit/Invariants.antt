@@ -1,5 +1,0 @@
-use Rattle.std.proofs.Common.{◌≡◌}
-use Rattle.nfs_server.proofs.network.clerk.Clerk.submit.Given as goal
-
-abbrev pub invariant-eras : goal.invariant-eras
-invariant-eras g l = l.arrival.received ≡ l.fn.arrival.received

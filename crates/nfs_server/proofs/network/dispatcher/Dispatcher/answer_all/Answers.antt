@@ -1,0 +1,65 @@
+use Rattle.std.proofs.Common.{◌≡◌, ◌∙◌, refl}
+use Rattle.nfs_server.proofs.AnsweredLinesLemmas.{on_err}
+use Rattle.nfs_server.proofs.ConversationLemmas.{goes_none, next_breaks, next_goes, then_breaks, then_sent}
+use Rattle.nfs_server.proofs.network.dispatcher.Dispatcher.answer_all.Goals as goal
+use Rattle.nfs_server.proofs.network.dispatcher.Dispatcher.answer_all.Goals.{else-records-test}
+use Rattle.nfs_server.proofs.network.dispatcher.Dispatcher.answer_all.Goals.{then-records-test+in_default-next}
+
+pub returns-in_default-clause-goes : goal.returns-in_default-clause-goes
+returns-in_default-clause-goes g c = λ unread. rw c.in_default.ensures.none.1 (goes_none _ _ _ unread _)
+
+pub returns-in_err-permit-clause-breaks : goal.returns-in_err-permit-clause-breaks
+returns-in_err-permit-clause-breaks g c =
+    on_err c.from_residual.result
+    (λ unread. next_breaks _ _ _ _ _ unread _ _ _ (goes_none _ _ _ unread _) _ c.in-Some.first refl c.next.new.self
+    c.in-Some.ensures.gives c.in-Some.ensures.waits c.in_err-permit.ensures.cuts)
+
+pub records-init : goal.records-init
+records-init g c = (
+  λ unread.
+      next_goes _ _ _ _ _ unread _ _ _ (goes_none _ _ _ unread _) _ c.in-Some.first refl c.next.new.self
+      c.in-Some.ensures.gives c.in-Some.ensures.waits _ _ c.in_ok-permit.ensures.adds,
+  c.in_ok-permit.ensures.unread,
+  c.in_ok-permit.ensures.host,
+  c.in_ok-permit.ensures.room,
+)
+
+pub records-preserved : goal.records-preserved
+records-preserved g c = (
+  λ unread.
+      next_goes _ _ _ _ _ unread _ _ _ (c.records.invariant.0 unread) _ c.in-Some-next.message
+      c.records.invariant.2 c.next-in-records.new.self c.in-Some-next.ensures.gives c.in-Some-next.ensures.waits _ _
+      c.in_ok-left.ensures.adds,
+  c.in_ok-left.ensures.unread ∙ c.records.invariant.1,
+  c.in_ok-left.ensures.host ∙ c.records.invariant.2,
+  c.in_ok-left.ensures.room,
+)
+
+pub returns-in_err-left-clause-breaks : goal.returns-in_err-left-clause-breaks
+returns-in_err-left-clause-breaks g c =
+    on_err c.from_residual-in_err-left.result
+    (λ unread. next_breaks _ _ _ _ _ unread _ _ _ (c.records.invariant.0 unread) _ c.in-Some-next.message
+    c.records.invariant.2 c.next-in-records.new.self c.in-Some-next.ensures.gives c.in-Some-next.ensures.waits
+    c.in_err-left.ensures.cuts)
+
+pub returns-in_err-send-clause-breaks : goal.returns-in_err-send-clause-breaks
+returns-in_err-send-clause-breaks g c =
+    let same : c.records-test.connection ≡ c.records.connection =
+    elim c.records-test.branch [
+      | else-records-test w ↦ w.connection-is
+      | then-records-test+in_default-next w ↦ w.connection-is ∙ w.in_default-next.ensures.none.1
+    ] in
+    on_err c.from_residual-in_err-send.result
+    (λ unread. then_breaks _ _ _ _ _ unread _ _ _ (c.records.invariant.0 unread) c.records-test.connection same
+    c.in_err-send.ensures.part)
+
+pub returns-clause-goes : goal.returns-clause-goes
+returns-clause-goes g c =
+    let same : c.records-test.connection ≡ c.records.connection =
+    elim c.records-test.branch [
+      | else-records-test w ↦ w.connection-is
+      | then-records-test+in_default-next w ↦ w.connection-is ∙ w.in_default-next.ensures.none.1
+    ] in
+    λ unread.
+    then_sent _ _ _ _ _ unread _ _ _ (c.records.invariant.0 unread) c.records-test.connection same _
+    c.send.ensures.sent c.in_ok-send.ensures.ok

@@ -1,0 +1,5 @@
+use Rattle.std.proofs.Common.{◌≡◌}
+use Rattle.nfs_server.proofs.network.dispatcher.Dispatcher.submit.Given as goal
+
+abbrev pub invariant-eras : goal.invariant-eras
+invariant-eras g l = l.arrival.received ≡ l.fn.arrival.received
