@@ -344,6 +344,7 @@ fn run<L: Ledger + Naming, R: Wait, S: Steps<L>, G: Gate>(
 }
 
 /// Makes this step of a call, which is there then. An error leaves the call as it was.
+#[inline(always)]
 fn make<L: Ledger + Naming, R: Wait, S: Steps<L>, G: Gate>(
     driver: &CallDriver<R, S, G>,
     holds_nothing: bool,

@@ -91,6 +91,7 @@ fn run(alloc: Global, engine: &mut Engine, txn: &mut Txn) -> Result<Change, OutO
 }
 
 /// Makes this step of a call, which is there then. An error leaves the call as it was.
+#[inline(always)]
 fn make(
     alloc: Global,
     engine: &mut Engine,
