@@ -25,7 +25,8 @@ fn block(index: u64) -> Addr {
 /// Whether a holder gets each of many addresses.
 fn gets_all(alloc: Global, shard: &mut Shard, id: u64) -> Result<bool, AllocError> {
     for index in 0..MANY {
-        if excluder(&shard.acquire(alloc, block(index), Mode::Exclusive, id)?).is_some() {
+        let had = shard.acquire(alloc, block(index), Mode::Exclusive, id)?;
+        if excluder(&had).is_some() {
             return Ok(false);
         }
     }
