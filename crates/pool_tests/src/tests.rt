@@ -10,6 +10,7 @@ mod callers;
 mod calls;
 mod ends;
 mod gates;
+mod holds;
 mod listings;
 mod pages;
 mod pools;

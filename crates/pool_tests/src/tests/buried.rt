@@ -1,17 +1,15 @@
 //! A large file whose only name goes. What it leaves goes at the ends of eras, some of it at each, and nothing of it
 //! while a call holds the file.
 
-ghost use Rattle.std.specs.Prelude.{IfSome};
-ghost use Rattle.nfs_pool.specs.Steps.{IsUnread};
-
 use super::callers::{Caller, OK};
 use super::calls::Ask;
 use super::ends::{End, room_for};
+use super::holds::{hold, let_go};
 use super::pools::{Course, Part, Runs, in_pool, opened};
 use super::rows::{STALE, X};
-use nfs_engine::{Admission, Next, Release, Txn};
+use nfs_engine::Release;
 use nfs_objects::{Addr, Mode};
-use nfs_pool::{Ended, EraRoom, Naming, NotedTxn, Open, Pool, Seat, Steps};
+use nfs_pool::{Ended, EraRoom, Naming, Pool, Seat};
 use std::alloc::AllocError;
 use std::sync::ledger::Ledger;
 
@@ -90,7 +88,7 @@ fn stays<L: Ledger + Naming, R: Runs>(
     room: EraRoom,
 ) -> Option<(Vec<Seat<L>>, EraRoom)> {
     let mut seats = seats;
-    let held = hold(rt, pool, seats.first_mut());
+    let held = hold_file(rt, pool, seats.first_mut());
     let ended = end(rt, pool, seats, room);
     let is_left = held.is_some() && pool.has_dead(rt);
     if let Some(release) = held {
@@ -156,59 +154,15 @@ fn compared(ended: Ended) -> EraRoom {
 }
 
 /// A call that holds the file, and what lets it go.
-fn hold<L: Ledger + Naming, R: Runs>(
+fn hold_file<L: Ledger + Naming, R: Runs>(
     rt: &R,
     pool: &Pool<L>,
     seat: Option<&mut Seat<L>>,
 ) -> Option<Release> {
-    let txn = begin(&Caller::new(rt, pool, seat?))?;
-    let mut noted = NotedTxn::new(rt.alloc(), txn);
-    let file = Addr::Inode(FILE);
-    let got = pool.acquire(rt, rt.alloc(), &Open, &mut noted, file, Mode::Shared);
+    let caller = Caller::new(rt, pool, seat?);
+    let (got, release) = hold(&caller, Addr::Inode(FILE), Mode::Shared)?;
     drop(got);
-    Some(noted.into_txn().abort())
-}
-
-/// A call in progress, which has read nothing.
-fn begin<L: Ledger + Naming, R: Runs>(caller: &Caller<L, R>) -> Option<Txn>
-    ensures { IfSome result IsUnread }
-{
-    let arrival = caller.arrival(PAGES + 4, Ask::Getattr).ok()?;
-    match caller.pool.admit(caller.rt, caller.rt.alloc(), arrival) {
-        Ok(Admission::Begin(txn)) => Some(txn),
-        Ok(Admission::Repeat(kept)) => {
-            drop(kept);
-            None
-        }
-        Ok(Admission::Running(arrival)) => {
-            drop(arrival);
-            None
-        }
-        Ok(Admission::Early(faulted)) => {
-            drop(faulted);
-            None
-        }
-        Err(unadmitted) => {
-            drop(unadmitted);
-            None
-        }
-    }
-}
-
-/// Lets go what a call holds, and gives it up.
-fn let_go<L: Ledger + Naming, R: Runs>(rt: &R, pool: &Pool<L>, release: Release) {
-    let mut release = release;
-    'shards: for _ in rt.forever() {
-        match pool.release(rt, release) {
-            Next::More(left) => release = left,
-            Next::Aborted(pending) => {
-                drop(pool.give_up(rt, pending));
-                return;
-            }
-            Next::Ended => return,
-        }
-    }
-    unreachable!()
+    Some(release)
 }
 
 /// What a file of 100 map pages left goes at the ends of eras, and not at one while a call holds the file.

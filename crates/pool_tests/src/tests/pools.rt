@@ -4,6 +4,7 @@ ghost use Rattle.std.specs.Prelude.{◌≡◌, [], IfOk};
 
 use super::callers::Caller;
 use super::ends::{End, ends_so};
+use super::holds::all_are_free;
 use bytes::Bytes;
 use nfs_engine::{Config, Engine};
 use nfs_machine::{ExportText, Exports, Limits, Moment};
@@ -91,6 +92,10 @@ fn in_this<L: Ledger + Naming + Send + Sync, R: Runs + Sync, P: Part + Sync>(
         Ok((pool, seats)) => {
             let mut seats = seats;
             let calls = act_beside(rt, part, &pool, &mut seats);
+            // An era that is full lets no call in that could tell it.
+            if calls < course.era_records {
+                all_are_free(rt, &pool, &mut seats);
+            }
             let ended = ends_so(rt, pool, seats, course.end, course.calls);
             Ok((calls, ended))
         }

@@ -22,6 +22,9 @@ use std::sync::ledger::{Ledger, Share};
 /// No call of these rows makes as many steps.
 const MOST_STEPS: u64 = 64;
 
+/// So many files that come and go are in all sixteen shards.
+const FILES: u32 = 34;
+
 /// NFS3ERR_JUKEBOX, MNT3ERR_SERVERFAULT and NLM4_DENIED_NOLOCKS (RFC 1813, 2.6, 5.1.5 and 6.1.4).
 const JUKEBOX: u32 = 10008;
 
@@ -201,17 +204,56 @@ struct RefusedRows<'a> {
 
 impl<'a> Part for RefusedRows<'a> {
     fn acts<L: Ledger + Naming, R: Runs>(&self, caller: &mut Caller<L, R>, number: u32) -> u64 {
+        if number != 0 {
+            return 0;
+        }
+        follow_refused(caller, self.rows, 0)
+    }
+}
+
+/// Makes these calls, each refused at each of its steps before; their records have the numbers behind this one. How
+/// many were executed.
+fn follow_refused<L: Ledger + Naming, R: Runs>(
+    caller: &mut Caller<L, R>,
+    rows: &[Row],
+    before: u64,
+) -> u64 {
+    let mut executed = 0u64;
+    for (xid, ask, want) in rows {
+        let told = call_at_last(caller, *xid, *ask);
+        if matches!(told, Told::Executed(_)) {
+            executed = executed.wrapping_add(1);
+            let number = before.wrapping_add(executed);
+            assert!(caller.rt; caller.number() == Some(number), "the number of {xid}");
+        }
+        assert!(caller.rt; is_met(caller, told, *want), "{xid}");
+    }
+    executed
+}
+
+/// The first caller makes files, writes them and removes them, each call refused at each of its steps before.
+#[derive(Drop)]
+struct RefusedFiles {
+    /// Which shards they were in.
+    shards: AtomicU64,
+}
+
+impl Part for RefusedFiles {
+    fn acts<L: Ledger + Naming, R: Runs>(&self, caller: &mut Caller<L, R>, number: u32) -> u64 {
         let mut executed = 0u64;
         if number != 0 {
             return executed;
         }
-        for (xid, ask, want) in self.rows {
-            let told = call_at_last(caller, *xid, *ask);
-            if matches!(told, Told::Executed(_)) {
-                executed = executed.wrapping_add(1);
-                assert!(caller.rt; caller.number() == Some(executed), "the number of {xid}");
-            }
-            assert!(caller.rt; is_met(caller, told, *want), "{xid}");
+        for file in 0..FILES {
+            let xid = 3 * file;
+            let rows = [
+                (xid, Ask::Create(X), Want::Makes),
+                (xid + 1, Ask::Write(file), Want::Is(OK)),
+                (xid + 2, Ask::Remove(X), Want::Is(OK)),
+            ];
+            executed = executed.wrapping_add(follow_refused(caller, &rows, executed));
+            self.shards
+                .fetch_or(1 << (caller.file[5] % 16), Ordering::SeqCst);
         }
         executed
     }
@@ -245,4 +287,21 @@ fn a_call_is_refused_at_each_of_its_steps(rt: HostRuntime) -> Result<(), AllocEr
         (14, Ask::Create(Y), Want::MakesOther),
     ];
     in_pool(&rt, course, &RefusedRows { rows: &rows })
+}
+
+/// Files of all shards: what a refused call held is free behind it in each of them.
+#[test]
+fn a_call_is_refused_in_each_shard(rt: HostRuntime) -> Result<(), AllocError> {
+    let course = Course {
+        seats: 2,
+        era_records: 65_536,
+        calls: 3 * u64::from(FILES),
+        end: End::Finished,
+    };
+    let files = RefusedFiles {
+        shards: AtomicU64::new(0),
+    };
+    in_pool(&rt, course, &files)?;
+    assert_eq!(rt; files.shards.load(Ordering::SeqCst), 0xffff);
+    Ok(())
 }
