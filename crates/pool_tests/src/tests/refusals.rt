@@ -43,6 +43,8 @@ struct Refusing<'a, L: Ledger + Naming> {
     number: u64,
     /// How many there were.
     count: AtomicU64,
+    /// 1 once the call was to wait for an address: all its steps are refused then.
+    has_waited: AtomicU64,
 }
 
 impl<'a, L: Ledger + Naming> Refusing<'a, L> {
@@ -51,12 +53,19 @@ impl<'a, L: Ledger + Naming> Refusing<'a, L> {
             pool,
             number,
             count: AtomicU64::new(0),
+            has_waited: AtomicU64::new(0),
         }
     }
 
-    /// Whether the next step is the one that is refused.
+    /// Whether the next step is one that is refused.
     fn refuses(&self) -> bool {
-        self.count.fetch_add(1, Ordering::SeqCst).wrapping_add(1) == self.number
+        let next = self.count.fetch_add(1, Ordering::SeqCst).wrapping_add(1);
+        next == self.number || self.has_waited()
+    }
+
+    /// Whether the call was to wait for an address.
+    fn has_waited(&self) -> bool {
+        self.has_waited.load(Ordering::SeqCst) == 1
     }
 
     /// Whether that step has come.
@@ -90,8 +99,8 @@ impl<'a, L: Ledger + Naming> Steps<L> for Refusing<'a, L> {
         self.pool.acquire(rt, alloc, gate, txn, address, mode)
     }
 
-    fn wait_for<R: Wait>(&self, rt: &R, address: Addr, mode: Mode) {
-        self.pool.wait_for(rt, address, mode);
+    fn wait_for<R: Wait>(&self, _rt: &R, _address: Addr, _mode: Mode) {
+        self.has_waited.store(1, Ordering::SeqCst);
     }
 
     fn give_way<R: Wait>(&self, rt: &R, address: Addr) {
@@ -157,6 +166,11 @@ fn call_refused<L: Ledger + Naming, R: Runs>(
     let has_answer = has_answer(&sent, ask);
     let told = caller.told(sent);
     assert!(caller.rt; has_answer, "the answer of {xid} without its step {number}");
+    // Nobody else calls.
+    assert!(caller.rt;
+        !steps.has_waited(),
+        "{xid} waits for what a call before it held"
+    );
     (steps.has_refused(), told)
 }
 
