@@ -6,17 +6,20 @@ what must be there. In a shared directory all make and remove the same few direc
 were made and not removed; move files out and back, each of which must be in one place at the end; and write parts of
 one file. One call in eight is sent again, the same bytes: beside the first, or over a new connection when the first one
 was closed, before its answer came or with the answer unread. Each client has an address of its own, since a repeat is
-one of the same host. At the end every name and byte is compared. With --era 1000 eras end often.
+one of the same host. At the end every name and byte is compared. With --era 1000 eras end often. With --stats the server
+tells its counts (`--stats 1`), which must add up to what the clients saw.
 
-usage: bench/soak.py [--era N] [--seconds S] [--connections N] [PROGRAM]
+usage: bench/soak.py [--era N] [--seconds S] [--connections N] [--stats] [PROGRAM]
 """
 import collections
 import concurrent.futures
 import multiprocessing
 import random
+import re
 import select
 import struct
 import sys
+import threading
 import time
 
 import nfsd
@@ -33,6 +36,10 @@ TRIES = 30
 LATEST = 4096  # so many replies a client remembers
 PROCESSES = 4
 MOST_READ = 65_536  # bytes that a READ gives at most
+KEPT = 1024  # replies that the server keeps of a host (--cache)
+# the procedures that clients here call (RFC 1813, 3.3), by which name they are counted
+NAMES = {0: "null", 2: "setattr", 3: "lookup", 6: "read", 7: "write", 8: "create", 9: "mkdir", 12: "remove", 13: "rmdir"}
+NAMES |= {14: "rename", READDIR: "readdir"}
 SIZES = [1, 7, 100, 1000, 5000, 40_000]  # of what is written
 
 
@@ -55,9 +62,15 @@ class Caller:
         self.xid = self.again = self.twice = 0
         self.slowest = 0.0
         self.told = collections.OrderedDict()  # by transaction id: the replies to calls that change something
+        self.asked = collections.Counter()  # by procedure: records that the server has taken, and of these:
+        self.lost = collections.Counter()  # those that were sent over connections that are closed, unanswered
+        self.calls = collections.Counter()  # by procedure: calls, however often they were sent
+        self.sizes = collections.deque(maxlen=KEPT)  # of the newest calls that change something: record and reply
+        self.opened = 0
         self.connect()
 
     def connect(self):
+        self.opened += 1
         self.connection = network.Connection(self.port, f"127.0.1.{self.number + 1}")
 
     def lose(self):
@@ -82,13 +95,14 @@ class Caller:
         """Whether something comes within so many seconds."""
         return bool(select.select([self.connection.socket], [], [], max(0, seconds))[0])
 
-    def send(self, record):
+    def send(self, procedure, record):
         """Sends a call in one of several ways, and tells whether it was sent once."""
         way = self.random.randrange(24)
         self.connection.socket.sendall(record + record if way == 0 else record)
+        self.asked[procedure] += 1 + (way <= 2)
         if way in (1, 2):
-            if way == 1:
-                self.comes(PATIENCE)
+            if way == 2 or not self.comes(PATIENCE):
+                self.lost[procedure] += 1
             self.lose()
             self.connection.socket.sendall(record)
         self.again += way <= 2
@@ -99,12 +113,14 @@ class Caller:
         self.xid += 1
         record = nfsd.call(self.xid, procedure, arguments)
         begin = time.monotonic()
-        once = self.send(record)
+        self.calls[procedure] += 1
+        once = self.send(procedure, record)
         reply = self.await_reply()
         for _ in range(TRIES):
             if reply:
                 break
             self.again += 1
+            self.asked[procedure] += 1
             self.connection.socket.sendall(record)
             reply = self.await_reply()
         assert reply, f"call {self.xid} has no answer"
@@ -112,6 +128,7 @@ class Caller:
             self.slowest = max(self.slowest, time.monotonic() - begin)
         if changes:
             self.told[self.xid] = reply
+            self.sizes.append(len(record) + len(reply))  # of these one has a mark, and one had it
             if len(self.told) > LATEST:
                 self.told.popitem(last=False)
         assert struct.unpack_from(">5I", reply, 4) == (1, 0, 0, 0, 0), "the call is executed"
@@ -308,7 +325,13 @@ class Client(Caller):
             assert self.read(self.board, begin + offset, len(part)) == part, "bytes of its part"
 
 
-Told = collections.namedtuple("Told", "number fault calls again twice slowest made tokens")
+Told = collections.namedtuple("Told", "number fault calls again twice slowest made tokens seen")
+Seen = collections.namedtuple("Seen", "asked lost calls sizes opened")
+
+
+def seen(client):
+    """What a client saw of what the server counts."""
+    return Seen(client.asked, client.lost, client.calls, list(client.sizes), client.opened)
 
 
 def work(port, number, count, shared, board, seconds):
@@ -320,8 +343,9 @@ def work(port, number, count, shared, board, seconds):
         client.compare()
     except Exception as error:
         fault = f"client {number}: {error!r}"
+    client.connection.socket.close()
     made, tokens = client.made, client.tokens
-    return Told(number, fault, client.xid, client.again, client.twice, client.slowest, made, tokens)
+    return Told(number, fault, client.xid, client.again, client.twice, client.slowest, made, tokens, seen(client))
 
 
 def work_at_once(results, numbers, port, *arguments):
@@ -361,23 +385,86 @@ def compare_shared(first, shared, told):
     assert first.names(shared) == sorted(names), "names in the shared directory"
 
 
-def soak(server, count, seconds):
-    """The faults of so many clients that work at once."""
-    first = Caller(server.port, count)
+class Counts:
+    """What a server told last of its counts."""
+
+    def __init__(self, server):
+        self.lines = server.process.stderr
+        self.line = b""
+        self.others = []
+        threading.Thread(target=self.read, daemon=True).start()
+
+    def read(self):
+        for line in self.lines:
+            if line.startswith(b"nfsd: stats"):
+                self.line = line
+            else:
+                self.others.append(line.decode().strip())
+
+    def of(self):
+        return {name: int(value) for name, value in re.findall(r"(\w+)=(\d+)", self.line.decode())}
+
+
+def compare_counts(counts, all_seen, twice, again, era):
+    """Whether what is counted is what the clients saw."""
+    total = {name: sum((getattr(each, name) for each in all_seen), collections.Counter()) for name in Seen._fields[:3]}
+    print("counts: " + " ".join(f"{name}={value}" for name, value in counts.items()))
+    assert {name for name in counts if name.startswith(("nfs_", "mount_", "nlm_"))} <= {
+        f"nfs_{NAMES[procedure]}" for procedure in total["asked"]
+    }, "a procedure is counted that nobody called"
+    for procedure, most in total["asked"].items():
+        told, lost = counts.get(f"nfs_{NAMES[procedure]}", 0), total["lost"][procedure]
+        print(f"{NAMES[procedure]}: {told:,} counted, {most:,} sent, {lost:,} of them over connections that were closed")
+        assert most - lost <= told <= most, f"{NAMES[procedure]} is counted {told} times"
+    assert twice <= counts["repeated"] <= again, "as many calls came again"
+    opened = sum(each.opened for each in all_seen)
+    assert counts["opened"] == opened, f"{opened} connections came"
+    closed = sum(counts[name] for name in ("ended", "failed", "late", "starved"))
+    assert closed + counts["connections"] == opened and counts["connections"] == 1, "all but one connection ended"
+    silent = "refused faulty unanswered late starved turned_away datagrams datagrams_dropped messages_sent"
+    for name in f"{silent} messages_dropped callbacks_failed".split():
+        assert counts[name] == 0, f"{name} is {counts[name]}"
+    executed = sum(total["calls"].values())
+    assert counts["eras"] + 1 >= executed // era, f"{executed} calls were executed in {counts['eras']} eras"
+    assert counts["kept_hosts"] == len(all_seen), "each client has kept replies"
+    assert counts["kept_replies"] == sum(len(each.sizes) for each in all_seen), "as many replies are kept"
+    assert counts["kept_bytes"] == sum(sum(each.sizes) for each in all_seen), "as many bytes are kept"
+    print("the counts add up to what the clients saw")
+
+
+def count(server, counts, first, told, era):
+    """Ends an era behind the last call, and compares what is counted."""
+    for _ in range(era + 1):
+        first.ask(0, b"", False)
+    time.sleep(3)
+    all_seen = [each.seen for each in told] + [seen(first)]
+    twice, again = (sum(getattr(each, name) for each in [*told, first]) for name in ("twice", "again"))
+    compare_counts(counts.of(), all_seen, twice, again, era)
+    print("also said: " + ("; ".join(counts.others) or "nothing"))
+
+
+def soak(server, connections, seconds, era):
+    """The faults of so many clients that work at once. Where the era is given, what is counted is compared."""
+    counts = Counts(server) if era else None
+    first = Caller(server.port, connections)
     shared, board = first.make(nfsd.MKDIR, nfsd.ROOT, SHARED), first.make(nfsd.CREATE, nfsd.ROOT, BOARD)
     first.cut(board, BOARD_SIZE)
     for name, data in map(token, range(TOKENS)):
         first.write(first.make(nfsd.CREATE, shared, name), 0, data)
-    told = work_all(count, server.port, count, shared, board, seconds)
+    first.connection.socket.close()  # the server closes what is idle for ten minutes
+    told = work_all(connections, server.port, connections, shared, board, seconds)
+    first.connect()
     calls, again = sum(each.calls for each in told), sum(each.again for each in told)
     twice = sum(each.twice for each in told)
     slowest = max(each.slowest for each in told)
-    print(f"{calls:,} calls over {count} connections in {seconds:g} s, the longest wait {slowest:.3f} s")
+    print(f"{calls:,} calls over {connections} connections in {seconds:g} s, the longest wait {slowest:.3f} s")
     print(f"{again:,} were sent again, of which {twice:,} had the same reply twice")
     print(f"{server.resident() / 1e6:,.1f} MB at the end")
     faults = [each.fault for each in told if each.fault]
     if not faults:
         compare_shared(first, shared, told)
+    if counts and not faults:
+        count(server, counts, first, told, era)
     return faults
 
 
@@ -386,10 +473,12 @@ def main():
     words.add_argument("--era", metavar="N", default="65536", help="records of an era at most (65536)")
     words.add_argument("--seconds", metavar="S", type=float, default=60, help="how long the clients work (60)")
     words.add_argument("--connections", metavar="N", type=int, default=32, help="how many clients there are (32)")
+    words.add_argument("--stats", action="store_true", help="compare what the server counts")
     words.add_argument("program", metavar="PROGRAM", nargs="?", default=nfsd.PROGRAM, help="the program (this one)")
     given = words.parse_args()
-    with network.Server(given.program, "--era", given.era, "--connections", "1024") as server:
-        faults = soak(server, given.connections, given.seconds)
+    stats = ["--stats", "1"] if given.stats else []
+    with network.Server(given.program, "--era", given.era, "--connections", "1024", *stats) as server:
+        faults = soak(server, given.connections, given.seconds, int(given.era) if given.stats else 0)
     if faults:
         sys.exit("\n".join(faults))
     print("nothing was lost, and nothing done twice")

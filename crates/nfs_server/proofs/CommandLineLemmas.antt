@@ -236,7 +236,7 @@ refused_transport words m host limits (CannotListen text) parsed is its refused 
 pub one_transport : (rows : List Row) (limits : ServerLimits) (transport : Transport)
     → ReadsTransport rows limits transport
     → AsksAlone rows
-one_transport rows limits Stdio reads = (true, reads.0, λ same. reads.1)
+one_transport rows limits (Stdio streams) reads = (true, reads.0, λ same. reads.2)
 one_transport rows limits (Network network) reads = (false, reads.0, λ same. absurd (false_is_not_true same))
 
 -- a flag that is read is that of the rows
@@ -272,7 +272,7 @@ options_read words m options parsed is_taken reads = record {
 -- its workers are as many as a pool has seats for
 workers_within : (rows : List Row) (limits : ServerLimits) (transport : Transport) → HasLimits rows limits
     → ReadsTransport rows limits transport → HasWorkers transport
-workers_within rows limits Stdio has reads = tt
+workers_within rows limits (Stdio streams) has reads = tt
 workers_within rows limits (Network network) has reads =
     subst (λ (n : ℕ). (1 ≤ n) × (n ≤ 64)) (sym reads.2.workers) (has.workers.within.some, has.workers.within.few)
 
@@ -288,7 +288,7 @@ options_within rows options reads =
 -- a transport that is read is one
 has_transport : (rows : List Row) (limits : ServerLimits) (transport : Transport) → ReadsTransport rows limits transport
     → AsksStdio rows true ⊎ NamesAddress rows
-has_transport rows limits Stdio reads = inl reads.0
+has_transport rows limits (Stdio streams) reads = inl reads.0
 has_transport rows limits (Network network) reads = inr reads.1
 
 -- and so is what refuses them

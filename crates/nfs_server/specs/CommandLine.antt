@@ -160,6 +160,10 @@ AsksAlone rows = (is_asked : Bool) × AsksStdio rows is_asked × (is_asked ≡ t
 abbrev pub text_of : Option (String Global) → Option Text
 text_of named = option_map string_bytes named
 
+-- the counts are told every so many seconds
+abbrev pub NamesStats : List Row → ℕ → Type 0
+NamesStats rows seconds = NamesNumber (codes "stats") 0 rows seconds
+
 -- the options of the network
 pub record ReadsNetwork (rows : List Row) (limits : ServerLimits) (network : NetworkOptions) : Type 0 where
   pub tcp : text_of network.tcp ≡ first_of (codes "tcp") rows
@@ -168,16 +172,16 @@ pub record ReadsNetwork (rows : List Row) (limits : ServerLimits) (network : Net
   pub workers : network.workers ≡ limits.workers
   pub connections : network.connections ≡ limits.connections
   pub accept : NamesNumber (codes "accept") 0 rows network.accept
-  pub stats : NamesNumber (codes "stats") 0 rows network.stats
+  pub stats : NamesStats rows network.stats
 
 -- so many workers as a pool has seats for, beside those of connections
 abbrev pub HasWorkers : Transport → Type 0
-HasWorkers Stdio = Unit {0}
+HasWorkers (Stdio streams) = Unit {0}
 HasWorkers (Network network) = (1 ≤ network.workers) × (network.workers ≤ 64)
 
 -- standard streams alone, or else the network
 abbrev pub ReadsTransport : List Row → ServerLimits → Transport → Type 0
-ReadsTransport rows limits Stdio = AsksStdio rows true × LeavesStdio rows
+ReadsTransport rows limits (Stdio streams) = AsksStdio rows true × NamesStats rows streams.stats × LeavesStdio rows
 ReadsTransport rows limits (Network network) =
     AsksStdio rows false × NamesAddress rows × ReadsNetwork rows limits network
 

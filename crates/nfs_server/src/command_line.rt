@@ -7,7 +7,7 @@ ghost use Rattle.clap.specs.Words.{Text, app_of, found_of, rows_of, rule_of};
 ghost use Rattle.nfs_server.specs.CommandLine.{AreWithin, Configures, ReadsOptions, Refuses, IsParsedFrom};
 ghost use Rattle.nfs_server.specs.CommandLine.{HasLimit, HasLimits, IsHostRefusal, IsLimitRefusal};
 ghost use Rattle.nfs_server.specs.CommandLine.{AsksControl, AsksStdio, IsTransportRefusal, NamesAddress, ReadsNetwork};
-ghost use Rattle.nfs_server.specs.CommandLine.{ReadsTransport, text_of};
+ghost use Rattle.nfs_server.specs.CommandLine.{NamesStats, ReadsTransport, text_of};
 ghost use Rattle.nfs_server.specs.CommandLine.{IsConflict, IsReadingExit, IsReadingFault, IsRefusal, IsValueRefusal};
 ghost use Rattle.nfs_server.specs.CommandLine.{host_of, nfsd};
 ghost use Rattle.nfs_server.specs.CommandLine.{with_files, with_limits, with_transport};
@@ -19,7 +19,7 @@ use crate::callbacks::Callbacks;
 use crate::exit::Exit;
 use crate::exporting::export_text;
 use crate::limits::{Limit, ServerLimits};
-use crate::options::{Network, Options, Transport};
+use crate::options::{Network, Options, Streams, Transport};
 use crate::patience::Patience;
 use bytes::Bytes;
 use clap::builder::ValueParser;
@@ -371,7 +371,9 @@ fn named_transport(
         if asks_control(matches) {
             return Err(conflict(command, CONTROL_OF_STDIO)?);
         }
-        return Ok(Transport::Stdio);
+        return Ok(Transport::Stdio(Streams {
+            stats: named_stats(matches),
+        }));
     }
     if !has_address {
         return Err(Exit::NoTransport);
@@ -401,6 +403,13 @@ fn names_address(matches: &ArgMatches<'_>) -> bool
     matches.get_str("tcp").is_some() || matches.get_str("udp").is_some()
 }
 
+/// Every how many seconds the counts are told.
+fn named_stats(matches: &ArgMatches<'_>) -> u64
+    ensures { NamesStats (rows_of (found_of matches.now)) result }
+{
+    matches.get_one("stats").unwrap_or(0)
+}
+
 /// The options of the network.
 fn named_network(
     alloc: Global,
@@ -416,7 +425,7 @@ fn named_network(
         workers: limits.workers,
         connections: limits.connections,
         accept: matches.get_one("accept").unwrap_or(0),
-        stats: matches.get_one("stats").unwrap_or(0),
+        stats: named_stats(matches),
         patience: Patience::USUAL,
     })
 }

@@ -33,13 +33,14 @@ pub use exit::Exit;
 pub use keys::name_key;
 pub use limits::{Limit, ServerLimits};
 pub use network::{
-    CountedEvent, Counters, Nobody, Operator, Sockets, serve_network, serve_operated, serve_sockets,
+    CountedEvent, Counters, Gauge, Nobody, Operator, Sockets, Tally, serve_network, serve_operated,
+    serve_sockets,
 };
 pub use nfs_engine::Host;
-pub use nfs_streams::{Served, StreamFault, serve_stream};
-pub use options::{Network, Options, Transport};
+pub use nfs_streams::{Served, StreamFault, Unseen, Witness, serve_stream};
+pub use options::{Network, Options, Streams, Transport};
 pub use patience::Patience;
 pub use serving::serve;
 pub use started::serve_options;
-pub use stdio::serve_stdio;
+pub use stdio::{serve_counted, serve_stdio};
 pub use warnings::warn_of_hosts;

@@ -19,6 +19,7 @@ mod reading;
 mod reporting;
 mod sending;
 mod sorting;
+mod tally;
 mod wakeup;
 
 ghost use Rattle.std.specs.Prelude.{◌≡◌, ◌≤◌, []};
@@ -29,7 +30,7 @@ use crate::callbacks::Callbacks;
 use crate::clock::{ServerClock, start_number};
 use crate::exit::Exit;
 use crate::network::connection_count::ConnectionCount;
-pub use crate::network::counters::{CountedEvent, Counters};
+pub use crate::network::counters::{CountedEvent, Counters, Gauge};
 use crate::network::failures::Failures;
 use crate::network::jobs::{JOBS, Job};
 pub use crate::network::listening::Sockets;
@@ -37,9 +38,11 @@ use crate::network::listening::{DATAGRAM_SIZE, Service, let_in, take_datagrams};
 use crate::network::mailbox::Mailbox;
 pub use crate::network::operating::{Nobody, Operator};
 use crate::network::permits::{EraThread, Gathering, Permits, hand_out};
-use crate::network::reporting::{Reporter, tell};
+use crate::network::reporting::Reporter;
+pub(crate) use crate::network::reporting::tell;
 use crate::network::sending::CallbackThread;
 use crate::network::sorting::Sorter;
+pub use crate::network::tally::Tally;
 use crate::options::{Network, Options, Transport};
 use crate::started::open;
 use crossbeam_channel::{Receiver, bounded};
@@ -192,12 +195,12 @@ fn serve_from<
 {
     let alloc = rt.alloc();
     let begin = config.moment;
+    let kept = kept_told(&network, config.capacity);
     let engine = open(alloc, config)?;
     let count = network.workers + network.connections.min(OWN_PERMITS);
     let blank = Blank::new(count);
     serve_pool::<Brand, R, O>(
         rt,
-        alloc,
         blank,
         Opened::new(),
         engine,
@@ -208,11 +211,74 @@ fn serve_from<
         begin,
         callbacks,
         operator,
+        kept,
     )
+}
+
+/// How many replies are kept of each host, where somebody is told of them.
+fn kept_told(network: &Network, capacity: u64) -> Option<usize> {
+    if network.stats == 0 {
+        return None;
+    }
+    Some(capacity as usize)
 }
 
 /// Serves with a pool of so many seats. Threads of their own serve those who come; this one ends eras.
 fn serve_pool<
+    L: Ledger + Naming + Send + Sync + 'static,
+    R: AllocGlobal
+        + Net<Listener = TcpListener, Stream = TcpStream>
+        + Threads
+        + Wait
+        + Clock
+        + Eprint
+        + Copy
+        + Drop
+        + Send
+        + Sync
+        + 'static,
+    O: Operator + Drop + Send + 'static,
+>(
+    rt: R,
+    blank: Blank,
+    opened: Opened,
+    engine: Engine,
+    count: usize,
+    sockets: Sockets,
+    network: Network,
+    clock: Option<u32>,
+    begin: Moment,
+    callbacks: Callbacks,
+    operator: O,
+    kept: Option<usize>,
+) -> Result<(), Exit>
+    requires name { blank.name ≡ L.name }
+    requires parts { blank.parts ≡ L.parts }
+    requires count { blank.parts ≡ count }
+    requires log { opened.seen.book ≡ L.book }
+    requires records { engine.book.records ≡ [] }
+{
+    let alloc = rt.alloc();
+    let Ok((pool, seats)) = Pool::<L>::new(alloc, blank, opened, engine, count) else {
+        return Err(Exit::Memory);
+    };
+    let counters = Counters::new(alloc)?;
+    let (permits, era_thread, seats, room) = open_permits(
+        &rt, alloc, pool, seats, count, &counters, kept,
+    )?;
+    let stats = network.stats;
+    start_service(
+        rt, alloc, permits, &counters, sockets, network, clock, begin, callbacks, operator,
+    )?;
+    let ended = era_thread.work(&rt, alloc, seats, room);
+    if stats > 0 {
+        tell(&rt, alloc, &counters);
+    }
+    ended
+}
+
+/// Starts the threads that serve those who come, and those beside them.
+fn start_service<
     L: Ledger + Naming + Send + Sync + 'static,
     R: Net<Listener = TcpListener, Stream = TcpStream>
         + Threads
@@ -228,52 +294,31 @@ fn serve_pool<
 >(
     rt: R,
     alloc: Global,
-    blank: Blank,
-    opened: Opened,
-    engine: Engine,
-    count: usize,
+    permits: Permits<L>,
+    counters: &Arc<Counters>,
     sockets: Sockets,
     network: Network,
     clock: Option<u32>,
     begin: Moment,
     callbacks: Callbacks,
     operator: O,
-) -> Result<(), Exit>
-    requires name { blank.name ≡ L.name }
-    requires parts { blank.parts ≡ L.parts }
-    requires count { blank.parts ≡ count }
-    requires log { opened.seen.book ≡ L.book }
-    requires records { engine.book.records ≡ [] }
-{
-    let Ok((pool, seats)) = Pool::<L>::new(alloc, blank, opened, engine, count) else {
-        return Err(Exit::Memory);
-    };
-    let counters = Counters::new(alloc)?;
-    let (permits, era_thread, seats, room) = open_permits(
-        &rt, alloc, pool, seats, count, &counters,
-    )?;
+) -> Result<(), Exit> {
     let (jobs, queue) = bounded(alloc, JOBS)?;
     let service = Service::new(
         alloc,
         permits,
         jobs,
-        Arc::try_clone(&counters)?,
+        Arc::try_clone(counters)?,
         clock,
         begin,
     )?;
-    let stats = network.stats;
-    start_reporter(rt, alloc, &counters, stats)?;
+    start_reporter(rt, alloc, counters, network.stats)?;
     start_workers(rt, alloc, &service, queue, network.workers)?;
     start_senders(rt, alloc, &service, callbacks)?;
     if network.control {
         start_operator(rt, alloc, &service, operator)?;
     }
-    attend(rt, alloc, sockets, network, service)?;
-    let ended = era_thread.work(&rt, alloc, seats, room);
-    if stats > 0 {
-        tell(&rt, alloc, &counters);
-    }
-    ended
+    attend(rt, alloc, sockets, network, service)
 }
 
 /// A permit for each seat, and what ends eras, with room for all seats and to end an era in.
@@ -284,10 +329,12 @@ fn open_permits<L: Ledger + Naming, R: Wait>(
     seats: Vec<Seat<L>>,
     count: usize,
     counters: &Arc<Counters>,
+    kept: Option<usize>,
 ) -> Result<(Permits<L>, EraThread<L>, Vec<Seat<L>>, EraRoom), AllocError> {
     let (back, free) = bounded(alloc, count)?;
     let (full, filled) = bounded(alloc, count)?;
     let room = EraRoom::new(alloc, count)?;
+    counters.set(Gauge::Objects, pool.objects(rt));
     let pool = Arc::new(alloc, pool)?;
     let seats = hand_out(rt, &back, pool, seats, 0, false);
     let gathering = Arc::new(alloc, Gathering::new())?;
@@ -298,18 +345,16 @@ fn open_permits<L: Ledger + Naming, R: Wait>(
         count,
         gathering: Arc::try_clone(&gathering)?,
         counters: Arc::try_clone(counters)?,
+        kept,
     };
     let permits = Permits::new(free, back, full, gathering);
     Ok((permits, era_thread, seats, room))
 }
 
 /// Starts the thread that says how the server is.
-fn start_reporter<R: Threads + Wait + Clock + Eprint + Copy + Drop + Send + Sync + 'static>(
-    rt: R,
-    alloc: Global,
-    counters: &Arc<Counters>,
-    stats: u64,
-) -> Result<(), AllocError> {
+pub(crate) fn start_reporter<
+    R: Threads + Wait + Clock + Eprint + Copy + Drop + Send + Sync + 'static,
+>(rt: R, alloc: Global, counters: &Arc<Counters>, stats: u64) -> Result<(), AllocError> {
     let reporter = Reporter {
         counters: Arc::try_clone(counters)?,
         stats,

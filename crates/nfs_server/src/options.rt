@@ -34,9 +34,16 @@ pub struct Options {
 #[derive(Drop)]
 pub enum Transport {
     /// Standard input and output.
-    Stdio,
+    Stdio(Streams),
     /// Sockets.
     Network(Network),
+}
+
+/// What is asked for beside standard streams.
+#[derive(Clone, Copy, Drop)]
+pub struct Streams {
+    /// Every how many seconds the counts are told on standard error, and at the end; 0: never.
+    pub stats: u64,
 }
 
 /// Where the server listens, and how many it serves at once.

@@ -5,8 +5,8 @@ ghost use Rattle.nfs_server.specs.CommandLine.{AreWithin};
 use crate::exit::Exit;
 use crate::keys::name_key;
 use crate::network::{Operator, serve_network};
-use crate::options::{Options, Transport};
-use crate::stdio::serve_stdio;
+use crate::options::{Options, Streams, Transport};
+use crate::stdio::{serve_counted, serve_stdio};
 use crate::warnings::warn_of_hosts;
 use std::net::{Net, TcpListener, TcpStream};
 use std::random::RandomSource;
@@ -42,8 +42,17 @@ pub fn serve<
     let mut options = options;
     options.name_key = name_key(&rt)?;
     warn_of_hosts(&rt, &options);
-    if let Transport::Stdio = &options.transport {
-        return serve_stdio(&rt, options);
+    match streams_of(&options.transport) {
+        Some(Streams { stats: 0 }) => serve_stdio(&rt, options),
+        Some(Streams { stats }) => serve_counted(rt, options, stats),
+        None => serve_network(rt, options),
     }
-    serve_network(rt, options)
+}
+
+/// What is asked for of standard streams, where it is served on them.
+fn streams_of(transport: &Transport) -> Option<Streams> {
+    match transport {
+        Transport::Stdio(streams) => Some(*streams),
+        Transport::Network(_) => None,
+    }
 }

@@ -13,22 +13,23 @@ use crate::options::Options;
 use nfs_engine::{Config, Engine, StartError};
 use nfs_machine::{Limits, Moments};
 use nfs_rpc::stream::{Sink, Source};
-use nfs_streams::{Messages, Served, StreamFault, Unseen, serve_with};
+use nfs_streams::{Messages, Served, StreamFault, Witness, serve_with};
 use std::alloc::Global;
 
 /// Serves the input as the options say, with this start number where they name none: from the opening state, which is
-/// made at the clock's first moment, to the end of the input.
+/// made at the clock's first moment, to the end of the input. Somebody sees how each record is answered.
 ///
 /// # Errors
 ///
 /// What the program ends by: `Memory` where there is none for the opening state, else what the stream's fault is.
-pub fn serve_options<C: Moments, R: Source, W: Sink>(
+pub fn serve_options<C: Moments, R: Source, W: Sink, T: Witness>(
     alloc: Global,
     options: Options,
     start: u64,
     clock: &mut C,
     reader: &mut R,
     writer: &mut W,
+    witness: &T,
 ) -> Result<(), Exit>
     requires era { IsLimit options.era_records }
     requires capacity { IsLimit options.capacity }
@@ -85,7 +86,7 @@ pub fn serve_options<C: Moments, R: Source, W: Sink>(
         reader,
         writer,
         messages,
-        &Unseen,
+        witness,
     );
     // Calls of `drop`, since drops at the end are proved for each exit.
     drop(engine);

@@ -1,9 +1,10 @@
 //! What the server counts while it serves, so that whoever operates it sees how it is.
 
 use crate::network::dispatcher::Answered;
-use nfs_engine::Incoming;
+use nfs_engine::{Engine, Incoming};
 use nfs_rpc::{Program, Record};
 use nfs_schedule::Answer;
+use nfs_streams::Witness;
 use std::alloc::{AllocError, Global};
 use std::sync::Arc;
 use std::sync::atomic::{AtomicU64, Ordering};
@@ -122,6 +123,44 @@ const EVENTS: [&str; 16] = [
     "eras",
 ];
 
+/// What is told of standard streams beside calls.
+const OF_STREAMS: [CountedEvent; 6] = [
+    CountedEvent::Repeated,
+    CountedEvent::Refused,
+    CountedEvent::Faulty,
+    CountedEvent::Ended,
+    CountedEvent::Failed,
+    CountedEvent::Starved,
+];
+
+/// How much of something there is.
+#[derive(Clone, Copy)]
+pub enum Gauge {
+    /// Objects that stand in the store: its addresses at which something stands.
+    Objects,
+    /// Hosts of which replies are kept.
+    KeptHosts,
+    /// Replies that are kept.
+    KeptReplies,
+    /// The bytes of these and of the records that they answer.
+    KeptBytes,
+}
+
+/// The names by which that is told, each at its place.
+const GAUGES: [&str; 4] = ["objects", "kept_hosts", "kept_replies", "kept_bytes"];
+
+impl Gauge {
+    /// Where it stands.
+    fn place(self) -> usize {
+        match self {
+            Gauge::Objects => 0,
+            Gauge::KeptHosts => 1,
+            Gauge::KeptReplies => 2,
+            Gauge::KeptBytes => 3,
+        }
+    }
+}
+
 impl CountedEvent {
     /// Where its count stands.
     fn place(self) -> usize {
@@ -144,29 +183,56 @@ impl CountedEvent {
             CountedEvent::Era => 15,
         }
     }
+
+    /// By which name it is told.
+    fn name(self) -> &'static str {
+        match EVENTS.get(self.place()) {
+            Some(name) => name,
+            None => "",
+        }
+    }
 }
 
-/// Counts of what happened since the server began. Who counts waits for nobody, and takes no memory.
+/// Counts of what happened since the server began, and how much of something there was last. Who counts waits for
+/// nobody, and takes no memory.
 #[derive(Drop)]
 pub struct Counters {
     nfs: Vec<AtomicU64>,
     mount: Vec<AtomicU64>,
     nlm: Vec<AtomicU64>,
     events: Vec<AtomicU64>,
+    gauges: Vec<AtomicU64>,
+    /// Whether standard streams are served, and no network.
+    is_of_streams: bool,
 }
 
 impl Counters {
-    /// Nothing happened.
+    /// Nothing happened on the network.
     ///
     /// # Errors
     ///
     /// There is no memory for the counts.
     pub fn new(alloc: Global) -> Result<Arc<Counters>, AllocError> {
+        Counters::zero(alloc, false)
+    }
+
+    /// Nothing happened on standard streams.
+    ///
+    /// # Errors
+    ///
+    /// There is no memory for the counts.
+    pub fn of_streams(alloc: Global) -> Result<Arc<Counters>, AllocError> {
+        Counters::zero(alloc, true)
+    }
+
+    fn zero(alloc: Global, is_of_streams: bool) -> Result<Arc<Counters>, AllocError> {
         let counters = Counters {
             nfs: zeros(alloc, NFS.len())?,
             mount: zeros(alloc, MOUNT.len())?,
             nlm: zeros(alloc, NLM.len())?,
             events: zeros(alloc, EVENTS.len())?,
+            gauges: zeros(alloc, GAUGES.len())?,
+            is_of_streams,
         };
         Ok(Arc::new(alloc, counters)?)
     }
@@ -174,14 +240,21 @@ impl Counters {
     /// Counts what a record was answered, and its call by program and procedure.
     pub(crate) fn answered(&self, answered: &Answered) {
         match answered {
-            Ok(Answer::Early(_)) => self.happened(CountedEvent::Faulty),
             Ok(answer) => self.count_answer(answer),
             Err(_) => self.happened(CountedEvent::Unanswered),
         }
     }
 
-    /// Counts a call, and that it came again or was refused.
+    /// Counts what a record with a fault or a call was answered.
     fn count_answer(&self, answer: &Answer) {
+        match answer {
+            Answer::Early(_) => self.happened(CountedEvent::Faulty),
+            answer => self.count_called(answer),
+        }
+    }
+
+    /// Counts a call, and that it came again or was refused.
+    fn count_called(&self, answer: &Answer) {
         if let Incoming::Record(received) = answer.received() {
             self.count_call(&received.message);
         }
@@ -209,6 +282,13 @@ impl Counters {
         counted(&self.events, event.place())
     }
 
+    /// There is so much of this now.
+    pub fn set(&self, gauge: Gauge, value: u64) {
+        if let Some(count) = self.gauges.get(gauge.place()) {
+            count.store(value, Ordering::Relaxed);
+        }
+    }
+
     /// How many connections are open.
     pub fn connections(&self) -> u64 {
         self.of(CountedEvent::Opened)
@@ -228,13 +308,31 @@ impl Counters {
         add_calls(&mut text, "nfs", &NFS, &self.nfs)?;
         add_calls(&mut text, "mount", &MOUNT, &self.mount)?;
         add_calls(&mut text, "nlm", &NLM, &self.nlm)?;
-        let connections = self.connections();
-        write!(text, " connections={connections}")?;
-        for (place, name) in EVENTS.iter().enumerate() {
-            let value = counted(&self.events, place);
-            write!(text, " {name}={value}")?;
+        if self.is_of_streams {
+            self.add_streams(&mut text)?;
+        } else {
+            self.add_network(&mut text)?;
         }
         Ok(text)
+    }
+
+    /// Adds what is told of the network.
+    fn add_network(&self, text: &mut String) -> Result<(), AllocError> {
+        let connections = self.connections();
+        write!(text, " connections={connections}")?;
+        add_all(text, &EVENTS, &self.events)?;
+        add_all(text, &GAUGES, &self.gauges)
+    }
+
+    /// Adds what is told of standard streams.
+    fn add_streams(&self, text: &mut String) -> Result<(), AllocError> {
+        for event in OF_STREAMS.iter() {
+            let (name, value) = (event.name(), self.of(*event));
+            write!(text, " {name}={value}")?;
+        }
+        let objects = counted(&self.gauges, Gauge::Objects.place());
+        write!(text, " objects={objects}")?;
+        Ok(())
     }
 
     fn calls(&self, program: Program) -> &Vec<AtomicU64> {
@@ -243,6 +341,16 @@ impl Counters {
             Program::Mount => &self.mount,
             Program::Nlm => &self.nlm,
         }
+    }
+}
+
+impl Witness for Counters {
+    fn saw(&self, answer: &Option<Answer>, engine: &Engine) {
+        match answer {
+            Some(answer) => self.count_answer(answer),
+            None => self.happened(CountedEvent::Faulty),
+        }
+        self.set(Gauge::Objects, engine.objects());
     }
 }
 
@@ -268,6 +376,15 @@ fn counted(counts: &Vec<AtomicU64>, place: usize) -> u64 {
         Some(count) => count.load(Ordering::Relaxed),
         None => 0,
     }
+}
+
+/// Adds counts by their names.
+fn add_all(text: &mut String, names: &[&str], counts: &Vec<AtomicU64>) -> Result<(), AllocError> {
+    for (place, name) in names.iter().enumerate() {
+        let value = counted(counts, place);
+        write!(text, " {name}={value}")?;
+    }
+    Ok(())
 }
 
 /// Adds the procedures of a program that were called.

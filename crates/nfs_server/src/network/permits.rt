@@ -4,7 +4,8 @@
 //! permits are gathered nobody else has the pool, and its era can be ended: no thread has to be joined for that.
 
 use crate::exit::Exit;
-use crate::network::counters::{CountedEvent, Counters};
+use crate::network::counters::{CountedEvent, Counters, Gauge};
+use crate::network::tally::Tally;
 use crossbeam_channel::{Receiver, RecvTimeoutError, Sender};
 use nfs_pool::{Ended, EraRoom, Naming, Pool, Seat};
 use std::alloc::{AllocError, Global};
@@ -179,6 +180,8 @@ pub(crate) struct EraThread<L: Ledger + Naming> {
     pub(crate) count: usize,
     pub(crate) gathering: Arc<Gathering>,
     pub(crate) counters: Arc<Counters>,
+    /// How many replies are kept of each host; None where nobody is told of them.
+    pub(crate) kept: Option<usize>,
 }
 
 impl<L: Ledger + Naming> EraThread<L> {
@@ -195,6 +198,21 @@ impl<L: Ledger + Naming> EraThread<L> {
         seats: Vec<Seat<L>>,
         room: EraRoom,
     ) -> Result<(), Exit> {
+        let mut tally = Tally::new(alloc, self.kept.unwrap_or(0));
+        let ended = self.end_eras(rt, alloc, seats, room, &mut tally);
+        drop(tally);
+        ended
+    }
+
+    /// The same, with what counts the replies that are kept.
+    fn end_eras<R: Wait + Clock>(
+        &self,
+        rt: &R,
+        alloc: Global,
+        seats: Vec<Seat<L>>,
+        room: EraRoom,
+        tally: &mut Tally,
+    ) -> Result<(), Exit> {
         let mut seats = seats;
         let mut room = room;
         let mut has_dead = false;
@@ -202,7 +220,7 @@ impl<L: Ledger + Naming> EraThread<L> {
             let Some(first) = self.first(rt, has_dead) else {
                 return Ok(());
             };
-            let Some(left) = self.end_era(rt, alloc, first, seats, room) else {
+            let Some(left) = self.end_era(rt, alloc, first, seats, room, tally) else {
                 return Err(Exit::Receipts);
             };
             if left.is_last {
@@ -236,6 +254,7 @@ impl<L: Ledger + Naming> EraThread<L> {
     /// A free permit of a pool in which dead files are left.
     fn unswept<R: Wait>(&self, rt: &R) -> Option<Permit<L>> {
         let permit = self.free.try_recv(rt).ok()?;
+        self.counters.set(Gauge::Objects, permit.pool.objects(rt));
         if permit.pool.has_dead(rt) {
             return Some(permit);
         }
@@ -252,6 +271,7 @@ impl<L: Ledger + Naming> EraThread<L> {
         first: Permit<L>,
         seats: Vec<Seat<L>>,
         room: EraRoom,
+        tally: &mut Tally,
     ) -> Option<EraRest<L>> {
         self.gathering.begin();
         let turns = first.turns.saturating_add(1);
@@ -262,12 +282,14 @@ impl<L: Ledger + Naming> EraThread<L> {
         let has_dead = pool.has_dead(rt);
         let is_sweeping = has_dead || ended.has_swept();
         self.counters.happened(CountedEvent::Era);
+        self.counters.set(Gauge::Objects, pool.objects(rt));
         let seats = if is_last {
             drop(pool);
             seats
         } else {
             self.hand_out(rt, pool, seats, turns, is_sweeping)
         };
+        self.count_kept(alloc, &ended, tally);
         let (era, room) = ended.compare().ok()?;
         drop(era);
         Some(EraRest {
@@ -276,6 +298,14 @@ impl<L: Ledger + Naming> EraThread<L> {
             is_last,
             has_dead,
         })
+    }
+
+    /// Counts what is kept behind an era, where somebody is told of it.
+    fn count_kept(&self, alloc: Global, ended: &Ended, tally: &mut Tally) {
+        if self.kept.is_some() {
+            tally.add_era(alloc, ended.receipts());
+            tally.tell(&self.counters);
+        }
     }
 
     /// All seats, and the pool, which nobody else has then; and whether nobody calls any more. It takes no memory.

@@ -1,6 +1,6 @@
 //! Command lines: what they ask for, and what is said of one that is refused.
 
-use nfs_server::{Exit, Network, Options, Transport, arguments, configure};
+use nfs_server::{Exit, Network, Options, Streams, Transport, arguments, configure};
 use std::alloc::Global;
 use std::env::FillError;
 use std::process::Abort;
@@ -77,6 +77,28 @@ fn are_defaults(rt: &impl Abort, options: &Options) {
 fn the_defaults(rt: HostRuntime) -> Result<(), Fail> {
     let options = options(rt.alloc(), &SERVE)?;
     are_defaults(&rt, &options);
+    Ok(())
+}
+
+/// Every how many seconds the counts of standard streams are told, where the words ask for these.
+fn stats_of_streams(alloc: Global, words: &[&str]) -> Result<Option<u64>, Fail> {
+    let options = options(alloc, words)?;
+    let stats = match &options.transport {
+        Transport::Stdio(Streams { stats }) => Some(*stats),
+        Transport::Network(_) => None,
+    };
+    drop(options);
+    Ok(stats)
+}
+
+/// Counts are told of standard streams where that is asked for.
+#[test]
+fn counts_of_standard_streams(rt: HostRuntime) -> Result<(), Fail> {
+    let silent = stats_of_streams(rt.alloc(), &SERVE)?;
+    assert_eq!(rt; silent, Some(0));
+    let words = with(rt.alloc(), &SERVE, &["--stats", "60"])?;
+    let told = stats_of_streams(rt.alloc(), &words)?;
+    assert_eq!(rt; told, Some(60));
     Ok(())
 }
 

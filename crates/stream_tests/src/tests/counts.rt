@@ -1,8 +1,13 @@
 //! The words by which `--stats` tells what was counted: the names are those of docs/OPERATING.md. Of a call the fourth
 //! word is its program, and the sixth its procedure (RFC 5531, section 9).
 
+use super::spelled;
 use bytes::Bytes;
-use nfs_server::{CountedEvent, Counters};
+use nfs_engine::{Executed, Incoming, Receipt, Received};
+use nfs_machine::{Moment, Reply};
+use nfs_server::{CountedEvent, Counters, Gauge, Host, Tally};
+use std::alloc::{AllocError, Global};
+use std::sync::Arc;
 use std::test::Fail;
 
 /// GETATTR of NFS.
@@ -28,6 +33,14 @@ const UNKNOWN: [u8; 24] = [
 /// What is called.
 const CALLS: [[u8; 24]; 5] = [GETATTR, EXPORT, GETATTR, FREE_ALL, UNKNOWN];
 
+/// What stands: 20 objects, and the replies to five calls of two hosts.
+const STANDS: [(Gauge, u64); 4] = [
+    (Gauge::Objects, 20),
+    (Gauge::KeptHosts, 2),
+    (Gauge::KeptReplies, 5),
+    (Gauge::KeptBytes, 1234),
+];
+
 /// What happens: two connections come and one of them is given up, and of two datagrams one is dropped.
 const HAPPENED: [CountedEvent; 6] = [
     CountedEvent::Opened,
@@ -40,12 +53,14 @@ const HAPPENED: [CountedEvent; 6] = [
 
 const NOTHING: &str = " connections=0 repeated=0 refused=0 faulty=0 unanswered=0 \
     opened=0 ended=0 failed=0 late=0 starved=0 turned_away=0 datagrams=0 datagrams_dropped=0 \
-    messages_sent=0 messages_dropped=0 callbacks_failed=0 eras=0";
+    messages_sent=0 messages_dropped=0 callbacks_failed=0 eras=0 \
+    objects=0 kept_hosts=0 kept_replies=0 kept_bytes=0";
 
 const TOLD: &str = " nfs_getattr=2 mount_export=1 nlm_free_all=1 \
     connections=1 repeated=0 refused=0 faulty=0 unanswered=0 \
     opened=2 ended=0 failed=0 late=1 starved=0 turned_away=0 datagrams=2 datagrams_dropped=1 \
-    messages_sent=0 messages_dropped=0 callbacks_failed=0 eras=0";
+    messages_sent=0 messages_dropped=0 callbacks_failed=0 eras=0 \
+    objects=20 kept_hosts=2 kept_replies=5 kept_bytes=1234";
 
 #[test]
 fn counts_are_told_by_name(rt: HostRuntime) -> Result<(), Fail> {
@@ -58,6 +73,9 @@ fn counts_are_told_by_name(rt: HostRuntime) -> Result<(), Fail> {
     }
     for event in HAPPENED.iter() {
         counters.happened(*event);
+    }
+    for (gauge, value) in STANDS.iter() {
+        counters.set(*gauge, *value);
     }
     let words = counters.words(rt.alloc())?;
     assert!(rt; words.as_str() == TOLD);
@@ -72,5 +90,155 @@ fn a_record_that_is_cut_calls_nothing(rt: HostRuntime) -> Result<(), Fail> {
     counters.count_call(&record);
     let words = counters.words(rt.alloc())?;
     assert!(rt; words.as_str() == NOTHING);
+    Ok(())
+}
+
+/// UMNTALL of MOUNT, which changes something, and GETATTR, which does not (RFC 1813, sections 5.2.4 and 3.3.1); both
+/// without a credential. They have 40 and 76 bytes.
+const UMNTALL: [u32; 10] = [1, 0, 2, 100005, 3, 4, 0, 0, 0, 0];
+
+const GETATTR_OF_ROOT: [u32; 19] = [
+    2, 0, 2, 100003, 3, 1, 0, 0, 0, 0, 32, 0x4e464433, 1, 0, 7, 0, 1, 0, 1,
+];
+
+/// A call that was executed: UMNTALL, or GETATTR. It was answered by as many bytes as its number says.
+#[derive(Clone, Copy)]
+struct Row {
+    number: u64,
+    host: &'static str,
+    is_umntall: bool,
+}
+
+/// What the first seat executed.
+const FIRST_SEAT: [Row; 2] = [
+    Row {
+        number: 2,
+        host: "one",
+        is_umntall: true,
+    },
+    Row {
+        number: 4,
+        host: "one",
+        is_umntall: true,
+    },
+];
+
+/// What the second one executed.
+const SECOND_SEAT: [Row; 3] = [
+    Row {
+        number: 1,
+        host: "one",
+        is_umntall: true,
+    },
+    Row {
+        number: 3,
+        host: "other",
+        is_umntall: true,
+    },
+    Row {
+        number: 5,
+        host: "one",
+        is_umntall: false,
+    },
+];
+
+/// The receipts of both seats.
+fn both_seats(alloc: Global) -> Result<Vec<Vec<Receipt>>, Fail> {
+    let mut seats = Vec::with_capacity(alloc, 2)?;
+    seats.push(receipts_of(alloc, &FIRST_SEAT)?)?;
+    seats.push(receipts_of(alloc, &SECOND_SEAT)?)?;
+    Ok(seats)
+}
+
+/// The receipts of calls that were executed.
+fn receipts_of(alloc: Global, rows: &[Row]) -> Result<Vec<Receipt>, Fail> {
+    let mut receipts = Vec::with_capacity(alloc, rows.len())?;
+    for row in rows {
+        receipts.push(receipt_of(alloc, row)?)?;
+    }
+    Ok(receipts)
+}
+
+/// The receipt of a call that was executed.
+fn receipt_of(alloc: Global, row: &Row) -> Result<Receipt, Fail> {
+    let executed = executed_of(alloc, received_of(alloc, row)?)?;
+    Ok(Receipt {
+        number: row.number,
+        executed,
+        answer: zeros(alloc, row.number)?,
+    })
+}
+
+/// What came in was executed.
+fn executed_of(alloc: Global, received: Received) -> Result<Arc<Executed>, AllocError> {
+    let executed = Executed {
+        received: Incoming::Record(received),
+        reply: Reply::Replaced,
+        messages: Vec::new(alloc),
+    };
+    Arc::new(alloc, executed).map_err(|_| AllocError)
+}
+
+/// The record of a call.
+fn received_of(alloc: Global, row: &Row) -> Result<Received, Fail> {
+    let host = Bytes::copy_from_slice(alloc, row.host.as_bytes())?;
+    let Some(host) = Host::new(host) else {
+        return Err(Fail::from("a host"));
+    };
+    Ok(Received {
+        host,
+        message: record(alloc, row)?,
+        moment: Moment {
+            seconds: 1000,
+            nanoseconds: 0,
+        },
+    })
+}
+
+/// The record that asks for it.
+fn record(alloc: Global, row: &Row) -> Result<Bytes, AllocError> {
+    if row.is_umntall {
+        shared(alloc, &UMNTALL)
+    } else {
+        shared(alloc, &GETATTR_OF_ROOT)
+    }
+}
+
+/// The bytes of words.
+fn shared(alloc: Global, words: &[u32]) -> Result<Bytes, AllocError> {
+    let bytes = spelled(alloc, words)?;
+    Bytes::copy_from_slice(alloc, &bytes)
+}
+
+/// So many bytes.
+fn zeros(alloc: Global, count: u64) -> Result<Bytes, AllocError> {
+    let mut bytes = Vec::new(alloc);
+    for _ in 0..count {
+        bytes.push(0u8)?;
+    }
+    Bytes::copy_from_slice(alloc, &bytes)
+}
+
+/// What is told of an era in which these receipts were given, where so many replies are kept of each host.
+fn told(alloc: Global, capacity: usize, seats: &[Vec<Receipt>]) -> Result<String, AllocError> {
+    let counters = Counters::new(alloc)?;
+    let mut tally = Tally::new(alloc, capacity);
+    tally.add_era(alloc, seats);
+    tally.tell(&counters);
+    drop(tally);
+    counters.words(alloc)
+}
+
+/// Of two hosts two replies each are kept at most: of the one the second and the fourth call, of the other the third.
+/// Nothing is kept of the fifth, which changes nothing.
+#[test]
+fn the_newest_replies_of_each_host_are_kept(rt: HostRuntime) -> Result<(), Fail> {
+    let seats = both_seats(rt.alloc())?;
+    let words = told(rt.alloc(), 2, &seats)?;
+    assert!(rt;
+        words
+            .as_str()
+            .ends_with(" kept_hosts=2 kept_replies=3 kept_bytes=129")
+    );
     Ok(())
 }

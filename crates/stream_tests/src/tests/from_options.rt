@@ -4,6 +4,7 @@ use super::{
     Abort, AllocError, Callbacks, Counted, Fail, FixedClock, GETATTR, GETATTR_REPLY, Global, MNT,
     MNT_REPLY, Options, Transport, exports, host, serve_options, spelled,
 };
+use nfs_server::{Counters, Streams, Unseen, Witness};
 
 /// What is written for this input where the options name this start number, and 7 is taken where they name none; and
 /// the exit status of what the program ends by.
@@ -11,6 +12,16 @@ fn started(
     alloc: Global,
     named: Option<u64>,
     input: &[u8],
+) -> Result<(Vec<u8>, Result<(), u8>), AllocError> {
+    witnessed(alloc, named, input, &Unseen)
+}
+
+/// The same, and somebody sees how each record is answered.
+fn witnessed<T: Witness>(
+    alloc: Global,
+    named: Option<u64>,
+    input: &[u8],
+    witness: &T,
 ) -> Result<(Vec<u8>, Result<(), u8>), AllocError> {
     let options = Options {
         exports: exports(alloc)?,
@@ -24,12 +35,20 @@ fn started(
         callbacks: Callbacks {
             list: Vec::new(alloc),
         },
-        transport: Transport::Stdio,
+        transport: Transport::Stdio(Streams { stats: 0 }),
     };
     let mut clock = FixedClock { seconds: 1000 };
     let mut reader = Counted::new(input);
     let mut writer = Counted::new(Vec::new(alloc));
-    let end = serve_options(alloc, options, 7, &mut clock, &mut reader, &mut writer);
+    let end = serve_options(
+        alloc,
+        options,
+        7,
+        &mut clock,
+        &mut reader,
+        &mut writer,
+        witness,
+    );
     Ok((writer.into_inner(), end.map_err(|exit| exit.status())))
 }
 
@@ -63,5 +82,45 @@ fn a_record_that_is_too_large_ends_the_program_with_1(rt: HostRuntime) -> Result
     let (written, end) = started(alloc, None, &spelled(alloc, &[0x80012001])?)?;
     assert_eq!(rt; end, Err(1));
     assert!(rt; written.is_empty());
+    Ok(())
+}
+
+/// A procedure that NFS does not have.
+const UNKNOWN: [u32; 11] = [0x80000028, 9, 0, 2, 100003, 3, 22, 0, 0, 0, 0];
+
+/// How the counts begin that are told of these.
+const COUNTED: &str =
+    " nfs_getattr=1 mount_mnt=2 repeated=1 refused=0 faulty=1 ended=0 failed=0 starved=0 objects=";
+
+/// MNT, GETATTR, that procedure, and MNT again.
+fn four_calls(alloc: Global) -> Result<Vec<u8>, AllocError> {
+    let mut input = spelled(alloc, &MNT)?;
+    add(alloc, &mut input, &GETATTR)?;
+    add(alloc, &mut input, &UNKNOWN)?;
+    add(alloc, &mut input, &MNT)?;
+    Ok(input)
+}
+
+/// Adds a record to an input.
+fn add(alloc: Global, input: &mut Vec<u8>, words: &[u32]) -> Result<(), AllocError> {
+    let record = spelled(alloc, words)?;
+    input.extend_from_slice(&record)
+}
+
+/// What is counted of this input, and the exit status of what the program ends by.
+fn counted(alloc: Global, input: &[u8]) -> Result<(String, Result<(), u8>), AllocError> {
+    let counters = Counters::of_streams(alloc)?;
+    let (written, end) = witnessed(alloc, None, input, &*counters)?;
+    drop(written);
+    Ok((counters.words(alloc)?, end))
+}
+
+/// MNT, which changes something, comes again, and gets the reply that is kept.
+#[test]
+fn what_records_of_a_stream_are_answered_is_counted(rt: HostRuntime) -> Result<(), Fail> {
+    let input = four_calls(rt.alloc())?;
+    let (words, end) = counted(rt.alloc(), &input)?;
+    assert_eq!(rt; end, Ok(()));
+    assert!(rt; words.as_str().starts_with(COUNTED));
     Ok(())
 }

@@ -1,7 +1,7 @@
 //! The program over a runtime that is no machine's: what it makes of the machine's time, and where it says what.
 
 use super::{Abort, Fail, Global, MNT, Options, Transport, exports, host, spelled};
-use nfs_server::{Callbacks, Exit, configure, serve_stdio};
+use nfs_server::{Callbacks, Exit, Streams, configure, serve_stdio};
 use std::alloc::Allocator;
 use std::cell::Cell;
 use std::fmt::Display;
@@ -83,7 +83,7 @@ fn start_at(alloc: Global, now: Duration) -> Result<u64, Fail> {
         callbacks: Callbacks {
             list: Vec::new(alloc),
         },
-        transport: Transport::Stdio,
+        transport: Transport::Stdio(Streams { stats: 0 }),
     };
     match serve_stdio(&(&run, alloc), options) {
         Ok(()) => Ok(u64::from_be_bytes(run.start.get())),

@@ -27,11 +27,5 @@ returns c =
             c.get_one.ensures.value;
         is = c.unwrap_or.ensures;
       };
-      stats = record {
-        number = c.get_one-2.result;
-        reads =
-            number_read (reads 64) 64 found (codes "stats") c.get_one-2.result (λ t x g. g.0) c.get_one-2.ensures.none
-            c.get_one-2.ensures.value;
-        is = c.unwrap_or-2.ensures;
-      };
+      stats = c.named_stats.ensures;
     }

@@ -1,0 +1,136 @@
+//! How many replies are kept and how many bytes they hold, as far as receipts tell.
+
+use crate::network::counters::{Counters, Gauge};
+use bytes::Bytes;
+use indexmap::IndexMap;
+use nfs_engine::{Incoming, Receipt, is_changing, read_record};
+use nfs_rpc::Record;
+use std::alloc::{AllocError, Global};
+use std::collections::VecDeque;
+
+/// A call that changed something, whose reply is kept.
+#[derive(Clone, Copy)]
+struct Change<'a> {
+    /// The number of its record.
+    number: u64,
+    host: &'a Bytes,
+    /// How many bytes its record and its reply have.
+    bytes: u64,
+}
+
+/// Of each host the sizes of the newest calls that changed something, in order. Their replies are those that are kept,
+/// but that one that was asked for again is kept for longer, in the place of another.
+#[derive(Drop)]
+pub struct Tally {
+    /// How many replies are kept of each host.
+    capacity: usize,
+    hosts: IndexMap<Bytes, VecDeque<u64>>,
+    replies: u64,
+    bytes: u64,
+}
+
+impl Tally {
+    /// No reply is kept. It takes no memory.
+    pub fn new(alloc: Global, capacity: usize) -> Tally {
+        Tally {
+            capacity,
+            hosts: IndexMap::new(alloc),
+            replies: 0,
+            bytes: 0,
+        }
+    }
+
+    /// Adds an era that is over, of which these are the receipts of each seat. What finds no memory is left out.
+    pub fn add_era(&mut self, alloc: Global, lists: &[Vec<Receipt>]) {
+        let Ok(mut changes) = changes(alloc, lists) else {
+            return;
+        };
+        changes.sort_unstable_by_key(|change| change.number);
+        for change in changes.iter() {
+            let _ = self.add(alloc, *change);
+        }
+    }
+
+    /// Tells what is kept.
+    pub fn tell(&self, counters: &Counters) {
+        counters.set(Gauge::KeptHosts, self.hosts.len() as u64);
+        counters.set(Gauge::KeptReplies, self.replies);
+        counters.set(Gauge::KeptBytes, self.bytes);
+    }
+
+    /// Adds a call. Where its host has as many as are kept, the oldest one goes.
+    fn add(&mut self, alloc: Global, change: Change<'_>) -> Result<(), AllocError> {
+        let gone = match self.hosts.get_mut(change.host) {
+            Some(sizes) => put(sizes, self.capacity, change.bytes)?,
+            None => self.add_first(alloc, change)?,
+        };
+        self.bytes = self.bytes.saturating_add(change.bytes);
+        match gone {
+            Some(bytes) => self.bytes = self.bytes.saturating_sub(bytes),
+            None => self.replies = self.replies.saturating_add(1),
+        }
+        Ok(())
+    }
+
+    /// Adds the first call of a host, for which none goes. The host is copied, so that it keeps no record alive.
+    fn add_first(&mut self, alloc: Global, change: Change<'_>) -> Result<Option<u64>, AllocError> {
+        self.hosts.reserve(1)?;
+        let host = Bytes::copy_from_slice(alloc, change.host.as_slice())?;
+        let mut sizes = VecDeque::new(alloc);
+        let gone = put(&mut sizes, self.capacity, change.bytes)?;
+        self.hosts.insert(host, sizes).unwrap();
+        Ok(gone)
+    }
+}
+
+/// Puts a size behind others, so many at most: the oldest one, where it goes.
+fn put(sizes: &mut VecDeque<u64>, capacity: usize, size: u64) -> Result<Option<u64>, AllocError> {
+    if sizes.len() >= capacity {
+        let gone = sizes.pop_front();
+        sizes.push_back(size).map_err(|_| AllocError)?;
+        return Ok(gone);
+    }
+    sizes.push_back(size).map_err(|_| AllocError)?;
+    Ok(None)
+}
+
+/// The calls that changed something, seat by seat.
+fn changes<'a>(alloc: Global, lists: &'a [Vec<Receipt>]) -> Result<Vec<Change<'a>>, AllocError> {
+    let mut changes = Vec::new(alloc);
+    for receipts in lists {
+        for receipt in receipts.iter() {
+            if let Some(change) = change_of(receipt) {
+                changes.push(change)?;
+            }
+        }
+    }
+    Ok(changes)
+}
+
+/// What was executed, if a reply to it is kept.
+fn change_of(receipt: &Receipt) -> Option<Change<'_>> {
+    let Incoming::Record(received) = &receipt.executed.received else {
+        return None;
+    };
+    if !asks_change(&received.message) {
+        return None;
+    }
+    let record = received.message.len() as u64;
+    Some(Change {
+        number: receipt.number,
+        host: received.host.text(),
+        bytes: record.saturating_add(receipt.answer.len() as u64),
+    })
+}
+
+/// Whether a record calls what changes something.
+fn asks_change(record: &Record) -> bool {
+    match read_record(record) {
+        Ok(asked) => {
+            let is_changing = is_changing(&asked.call);
+            drop(asked);
+            is_changing
+        }
+        Err(_) => false,
+    }
+}
