@@ -10,6 +10,7 @@ mod bursts;
 mod callbacks;
 mod clients;
 mod crowds;
+mod deaf;
 mod eras;
 mod hosts;
 mod left;

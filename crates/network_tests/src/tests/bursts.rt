@@ -51,7 +51,7 @@ fn ask_of(number: u32) -> Ask {
 }
 
 /// The file's bytes: each word is its number.
-fn content(alloc: Global) -> Result<Vec<u8>, AllocError> {
+pub(crate) fn content(alloc: Global) -> Result<Vec<u8>, AllocError> {
     let mut bytes = Vec::new(alloc);
     for word in 0..WORDS {
         bytes.extend_from_slice(&word.to_be_bytes())?;
@@ -67,15 +67,18 @@ fn add_call(calls: &mut Vec<u8>, file: &[u8], number: u32) -> Result<(), AllocEr
             add_words(calls, &[0x8000004c, number])?;
             add_words(calls, GETATTR.get(2..).unwrap_or(&[]))
         }
-        Ask::Read => {
-            add_words(
-                calls,
-                &[0x80000058, number, 0, 2, 100003, 3, 6, 0, 0, 0, 0, 32],
-            )?;
-            calls.extend_from_slice(file)?;
-            add_words(calls, &[0, 0, 0x10000])
-        }
+        Ask::Read => add_read(calls, file, number),
     }
+}
+
+/// Adds READ of the whole file under this transaction id.
+pub(crate) fn add_read(calls: &mut Vec<u8>, file: &[u8], xid: u32) -> Result<(), AllocError> {
+    add_words(
+        calls,
+        &[0x80000058, xid, 0, 2, 100003, 3, 6, 0, 0, 0, 0, 32],
+    )?;
+    calls.extend_from_slice(file)?;
+    add_words(calls, &[0, 0, 0x10000])
 }
 
 /// The answer to it.
@@ -104,7 +107,12 @@ fn answer(alloc: Global, content: &[u8], number: u32) -> Result<Vec<u8>, AllocEr
 }
 
 /// Whether a new file gets these bytes.
-fn is_written(alloc: Global, stream: &TcpStream, file: &[u8], content: &[u8]) -> io::Result<bool> {
+pub(crate) fn is_written(
+    alloc: Global,
+    stream: &TcpStream,
+    file: &[u8],
+    content: &[u8],
+) -> io::Result<bool> {
     let mut writer = stream;
     let mut call = around(alloc, &WRITE, file, &WHOLE)?;
     call.extend_from_slice(content)?;
