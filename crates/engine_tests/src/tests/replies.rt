@@ -264,35 +264,53 @@ fn records_are_told_apart_by_all_their_bytes(rt: HostRuntime) -> Result<(), Fail
     Ok(())
 }
 
+/// Whether the first host has a reply to this record, which is hashed under this key.
+fn is_kept(
+    replies: &mut Replies,
+    key: RecordKey,
+    record: &'static [u8],
+) -> Result<bool, AllocError> {
+    let host = Bytes::from_static(FIRST);
+    let record = Bytes::from_static(record);
+    Ok(replies.find(&host, HashedRef::new(key, &record))?.is_some())
+}
+
+/// Keeps a reply of the first host to this record, which is hashed under this key. Whether it had none.
+fn keeps(
+    alloc: Global,
+    replies: &mut Replies,
+    key: RecordKey,
+    record: &'static [u8],
+) -> Result<bool, AllocError> {
+    let host = Bytes::from_static(FIRST);
+    let record = Bytes::from_static(record);
+    if replies.find(&host, HashedRef::new(key, &record))?.is_some() {
+        return Ok(false);
+    }
+    replies.keep(
+        alloc,
+        &host,
+        Hashed::new(key, record),
+        Bytes::from_static(OK),
+    )?;
+    Ok(true)
+}
+
+/// Whether two records that are hashed under two keys are found under either, and a third is not.
+fn are_hashed_again(alloc: Global, replies: &mut Replies) -> Result<bool, AllocError> {
+    let (own, other) = (RecordKey::new(&KEY), RecordKey::new(&OTHER_KEY));
+    let mut is_so = keeps(alloc, replies, other, CREATE)? && keeps(alloc, replies, own, LONG)?;
+    for key in [own, other] {
+        is_so = is_so && is_kept(replies, key, CREATE)? && is_kept(replies, key, LONG)?;
+        is_so = is_so && !is_kept(replies, key, LONGER)?;
+    }
+    Ok(is_so)
+}
+
 /// A record that was hashed under another key than the lists have is found, kept and handed back all the same.
 #[test]
 fn a_record_of_another_key_is_hashed_again(rt: HostRuntime) -> Result<(), Fail> {
     let mut replies = replies(rt.alloc(), 2)?;
-    let host = Bytes::from_static(FIRST);
-    let (own, other) = (RecordKey::new(&KEY), RecordKey::new(&OTHER_KEY));
-    let (first, second) = (Bytes::from_static(CREATE), Bytes::from_static(LONG));
-    let reply = Bytes::from_static(OK);
-    assert!(rt;
-        replies
-            .find(&host, HashedRef::new(other, &first))?
-            .is_none()
-    );
-    replies.keep(
-        rt.alloc(),
-        &host,
-        Hashed::new(other, first.clone()?),
-        reply.clone()?,
-    )?;
-    assert!(rt; replies.find(&host, HashedRef::new(own, &second))?.is_none());
-    replies.keep(rt.alloc(), &host, Hashed::new(own, second.clone()?), reply)?;
-    for key in [own, other] {
-        assert!(rt; replies.find(&host, HashedRef::new(key, &first))?.is_some());
-        assert!(rt; replies.find(&host, HashedRef::new(key, &second))?.is_some());
-        assert!(rt;
-            replies
-                .find(&host, HashedRef::new(key, &Bytes::from_static(LONGER)))?
-                .is_none()
-        );
-    }
+    assert!(rt; are_hashed_again(rt.alloc(), &mut replies)?);
     Ok(())
 }
