@@ -1,6 +1,6 @@
 #!/usr/bin/env python3
-"""Prints how many GETATTR, LOOKUP and CREATE `nfsd --stdio` answers a second on one processor, in directories of 100 and
-of 10,000 names. Of several programs, which take turns, it prints also how many times as quick as the first each is.
+"""Prints how many GETATTR, LOOKUP and CREATE `nfsd --stdio` answers a second on one processor, in directories of 100
+and of 10,000 names. Of several programs, which take turns, it prints also how many times as quick as the first each is.
 A benchmark, not a test.
 
 usage: bench/calls.py [PROGRAM..]

@@ -1,7 +1,7 @@
 #!/usr/bin/env python3
-"""Prints how many WRITEs and READs of 4 KiB and of 64 KiB `nfsd --stdio` answers a second on one processor, over a file of
-1 MiB, and how many megabytes that are. Of several programs, which take turns, it prints also how many times as quick as
-the first each is. A benchmark, not a test.
+"""Prints how many WRITEs and READs of 4 KiB and of 64 KiB `nfsd --stdio` answers a second on one processor, over a file
+of 1 MiB, and how many megabytes that are. Of several programs, which take turns, it prints also how many times as quick
+as the first each is. A benchmark, not a test.
 
 usage: bench/data.py [PROGRAM..]
 """

@@ -1,9 +1,9 @@
 #!/usr/bin/env python3
-"""Prints what calls on a directory of so many names cost `nfsd --stdio`, in microseconds of a processor each: CREATE while
-it grows and at that size, LOOKUP, REMOVE of the newest names and of names anywhere, RENAME, and a name of whole readings by
-READDIR and READDIRPLUS, which are compared with the names that were made; and what a name keeps in memory, with its empty
-file. With --depth: what a RENAME of a directory costs to a target that lies so deep, and back. Other work on the machine
-makes all of it dearer: compare programs by turns. A benchmark, not a test.
+"""Prints what calls on a directory of so many names cost `nfsd --stdio`, in microseconds of a processor each: CREATE
+while it grows and at that size, LOOKUP, REMOVE of the newest names and of names anywhere, RENAME, and a name of whole
+readings by READDIR and READDIRPLUS, which are compared with the names that were made; and what a name keeps in memory,
+with its empty file. With --depth: what a RENAME of a directory costs to a target that lies so deep, and back. Other
+work on the machine makes all of it dearer: compare programs by turns. A benchmark, not a test.
 
 usage: bench/directories.py [--program PROGRAM] [--depth] NUMBER..
 """

@@ -55,8 +55,8 @@ class Filler:
         return self.connection.answer(*self.call())
 
     def end(self):
-        """Fills an era, in which one record is. The waits of single calls, that of the one which found it full and is the
-        first of the next, and the processor's time behind it."""
+        """Fills an era, in which one record is. The waits of single calls, that of the one which found it full and is
+        the first of the next, and the processor's time behind it."""
         self.fill(RECORDS - 1 - SINGLE)
         waits = [self.wait() for _ in range(SINGLE)]
         before = self.server.used()

@@ -1,8 +1,8 @@
 #!/usr/bin/env python3
 """Prints the resident memory of `nfsd --stdio` with so many kept replies: to CREATEs that find their file there, and to
-WRITEs of 64 KiB. What was executed is let go after 16 records, so what stays is what is kept: of each call its record and
-its reply. Further calls push out the first, and the memory grows by some more and comes to a bound: it is told when the
-list is full, and when it was filled 8 times and 16 times, which is about the same. A benchmark, not a test.
+WRITEs of 64 KiB. What was executed is let go after 16 records, so what stays is what is kept: of each call its record
+and its reply. Further calls push out the first, and the memory grows by some more and comes to a bound: it is told when
+the list is full, and when it was filled 8 times and 16 times, which is about the same. A benchmark, not a test.
 
 usage: bench/kept.py [REPLIES] [PROGRAM]      (1024 where it is left out; a WRITE keeps some 70 KB and more)
 """
@@ -53,7 +53,8 @@ def measure(program, name, make, replies):
 
 def main():
     words = nfsd.parser(__doc__)
-    words.add_argument("replies", metavar="REPLIES", nargs="?", type=int, default=1_024, help="how many are kept (1024)")
+    words.add_argument("replies", metavar="REPLIES", nargs="?", type=int, default=1_024,
+                       help="how many are kept (1024)")
     words.add_argument("program", metavar="PROGRAM", nargs="?", default=nfsd.PROGRAM, help="the program (this one)")
     given = words.parse_args()
     # each is measured, whatever the other comes to

@@ -60,7 +60,8 @@ def status(reply):
 
 
 class Host:
-    """A host that is called back: it listens, and answers each GRANTED with the next of these statuses, the last for ever."""
+    """A host that is called back: it listens, and answers each GRANTED with the next of these statuses, the last for
+    ever."""
 
     def __init__(self, *statuses, address="127.0.0.1"):
         self.statuses = list(statuses)

@@ -73,7 +73,8 @@ def tell(name, server, count, passed):
 
 def main():
     words = nfsd.parser(__doc__)
-    words.add_argument("limit", metavar="LIMIT", nargs="?", type=int, default=65_536, help="how many are listed (65536)")
+    words.add_argument("limit", metavar="LIMIT", nargs="?", type=int, default=65_536,
+                       help="how many are listed (65536)")
     words.add_argument("more", metavar="MORE", nargs="?", type=int, default=2_000, help="how many more come (2000)")
     given = words.parse_args()
     limit, more = given.limit, given.more

@@ -49,7 +49,8 @@ def place(name):
 
 
 def create(xid, name, behind=b""):
-    """CREATE UNCHECKED of a name in the root, with no attributes given (RFC 1813, 3.3.8), and bytes behind its arguments."""
+    """CREATE UNCHECKED of a name in the root, with no attributes given (RFC 1813, 3.3.8), and bytes behind its
+    arguments."""
     return call(xid, CREATE, place(name) + bytes(28) + behind)
 
 
@@ -150,8 +151,9 @@ def seconds(records, reply_bytes):
 
 
 def compare(programs, turns, measure, line):
-    """Prints the best rates of so many turns, each thing that is measured and each program on a line; of several programs
-    also how many times as quick as the first each is. `measure(program)` gives the rates by the names of the things."""
+    """Prints the best rates of so many turns, each thing that is measured and each program on a line; of several
+    programs also how many times as quick as the first each is. `measure(program)` gives the rates by the names of the
+    things."""
     programs = programs or [PROGRAM]
     best = {}
     for _ in range(turns):

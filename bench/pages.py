@@ -1,6 +1,6 @@
 #!/usr/bin/env python3
-"""Prints how many entries a second `nfsd --stdio` lists by READDIR and READDIRPLUS on one processor, in whole readings of
-directories of 1,000, 10,000 and 20,000 names, page by page; and how long a whole reading takes, which grows with the
+"""Prints how many entries a second `nfsd --stdio` lists by READDIR and READDIRPLUS on one processor, in whole readings
+of directories of 1,000, 10,000 and 20,000 names, page by page; and how long a whole reading takes, which grows with the
 directory and not with its square. Of several programs, which take turns, it prints also how many times as quick as the
 first each is. A benchmark, not a test.
 
@@ -61,7 +61,8 @@ def main():
                 ratio = f", {first[procedure] / passed:.2f} times the first" if len(programs) > 1 else ""
                 told = "READDIR" if procedure == READDIR else "READDIRPLUS"
                 rate = (names + 2) / passed
-                print(f"{told:11} of {names:6} names: {passed * 1000:9.2f} ms, {rate:11,.0f} entries a second{ratio} ({program})")
+                print(f"{told:11} of {names:6} names: {passed * 1000:9.2f} ms, {rate:11,.0f} entries a second{ratio} "
+                      f"({program})")
 
 
 if __name__ == "__main__":

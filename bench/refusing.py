@@ -1,6 +1,5 @@
-"""Runs of programs while refuse.c refuses them growths: a program of any kind, each scene, and each test that is made for
-it. Shared by bench/refuse, whose text says what must be.
-"""
+"""Runs of programs while refuse.c refuses them growths: a program of any kind, each scene, and each test that is made
+for it. Shared by bench/refuse, whose text says what must be. """
 import mmap
 import os
 import pathlib
@@ -255,8 +254,8 @@ def tried_test(crate, program, name, given, orders):
     judged(expected)
     runs.judge(growths, idle, judged)
     print(
-        f"{crate} {name}: {growths - idle:,} growths; {runs.count:,} runs, of which {runs.refused:,} had growths refused;"
-        f" {len(runs.wrong)} wrong",
+        f"{crate} {name}: {growths - idle:,} growths; {runs.count:,} runs, of which {runs.refused:,} had growths"
+        f" refused; {len(runs.wrong)} wrong",
         flush=True,
     )
     return runs.tell()

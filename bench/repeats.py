@@ -1,10 +1,10 @@
 #!/usr/bin/env python3
 """Prints how many records that come again `nfsd --stdio` answers a second on one processor, with 100 and with 65,536
-replies kept: SETATTRs of a file, each of which is answered by the reply that is kept for it. They come again in the order in
-which they came, and scattered, each way many in one piece; and scattered again, each when the one before it was answered, as
-from a client that waits. No list is scanned: the figures for many in one piece are smaller as far as what is kept is more
-than the processor's cache has. Of several programs, which take turns, it prints also how many times as quick as the first
-each is. A benchmark, not a test.
+replies kept: SETATTRs of a file, each of which is answered by the reply that is kept for it. They come again in the
+order in which they came, and scattered, each way many in one piece; and scattered again, each when the one before it
+was answered, as from a client that waits. No list is scanned: the figures for many in one piece are smaller as far as
+what is kept is more than the processor's cache has. Of several programs, which take turns, it prints also how many
+times as quick as the first each is. A benchmark, not a test.
 
 usage: bench/repeats.py [PROGRAM..]
 """

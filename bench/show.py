@@ -10,8 +10,8 @@ import nfsd
 
 ACCEPTED = ["SUCCESS", "PROG_UNAVAIL", "PROG_MISMATCH", "PROC_UNAVAIL", "GARBAGE_ARGS", "SYSTEM_ERR"]
 KINDS = [None, "file", "directory", "block device", "character device", "link", "socket", "FIFO"]
-NFS = ["NULL", "GETATTR", "SETATTR", "LOOKUP", "ACCESS", "READLINK", "READ", "WRITE", "CREATE", "MKDIR", "SYMLINK", "MKNOD",
-       "REMOVE", "RMDIR", "RENAME", "LINK", "READDIR", "READDIRPLUS", "FSSTAT", "FSINFO", "PATHCONF", "COMMIT"]
+NFS = ["NULL", "GETATTR", "SETATTR", "LOOKUP", "ACCESS", "READLINK", "READ", "WRITE", "CREATE", "MKDIR", "SYMLINK",
+       "MKNOD", "REMOVE", "RMDIR", "RENAME", "LINK", "READDIR", "READDIRPLUS", "FSSTAT", "FSINFO", "PATHCONF", "COMMIT"]
 MOUNT = ["NULL of MOUNT", "MNT", "DUMP", "UMNT", "UMNTALL", "EXPORT"]
 NAMES = ({(100003, number): name for number, name in enumerate(NFS)}
          | {(100005, number): name for number, name in enumerate(MOUNT)} | {(100021, 0): "NULL of NLM"})

@@ -6,8 +6,8 @@ what must be there. In a shared directory all make and remove the same few direc
 were made and not removed; move files out and back, each of which must be in one place at the end; and write parts of
 one file. One call in eight is sent again, the same bytes: beside the first, or over a new connection when the first one
 was closed, before its answer came or with the answer unread. Each client has an address of its own, since a repeat is
-one of the same host. At the end every name and byte is compared. With --era 1000 eras end often. With --stats the server
-tells its counts (`--stats 1`), which must add up to what the clients saw.
+one of the same host. At the end every name and byte is compared. With --era 1000 eras end often. With --stats the
+server tells its counts (`--stats 1`), which must add up to what the clients saw.
 
 usage: bench/soak.py [--era N] [--seconds S] [--connections N] [--stats] [PROGRAM]
 """
@@ -38,8 +38,8 @@ PROCESSES = 4
 MOST_READ = 65_536  # bytes that a READ gives at most
 KEPT = 1024  # replies that the server keeps of a host (--cache)
 # the procedures that clients here call (RFC 1813, 3.3), by which name they are counted
-NAMES = {0: "null", 2: "setattr", 3: "lookup", 6: "read", 7: "write", 8: "create", 9: "mkdir", 12: "remove", 13: "rmdir"}
-NAMES |= {14: "rename", READDIR: "readdir"}
+NAMES = {0: "null", 2: "setattr", 3: "lookup", 6: "read", 7: "write", 8: "create", 9: "mkdir", 12: "remove"}
+NAMES |= {13: "rmdir", 14: "rename", READDIR: "readdir"}
 SIZES = [1, 7, 100, 1000, 5000, 40_000]  # of what is written
 
 
@@ -414,7 +414,8 @@ def compare_counts(counts, all_seen, twice, again, era):
     }, "a procedure is counted that nobody called"
     for procedure, most in total["asked"].items():
         told, lost = counts.get(f"nfs_{NAMES[procedure]}", 0), total["lost"][procedure]
-        print(f"{NAMES[procedure]}: {told:,} counted, {most:,} sent, {lost:,} of them over connections that were closed")
+        print(f"{NAMES[procedure]}: {told:,} counted, {most:,} sent, {lost:,} of them over connections that were "
+              "closed")
         assert most - lost <= told <= most, f"{NAMES[procedure]} is counted {told} times"
     assert twice <= counts["repeated"] <= again, "as many calls came again"
     opened = sum(each.opened for each in all_seen)
