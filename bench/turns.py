@@ -3,11 +3,12 @@
 same calls over TCP. For each workload it prints calls a second of each, the share of the do-nothing server's rate, how
 many times the other build's rate this one has, and what a call takes of a processor. A benchmark, not a test.
 
-There are 4 connections with 8 calls in progress on each, and every reply is checked. Each figure is the median of the
-rounds, and a ratio that of the rounds' ratios, since the turns of a round follow each other. The load generator (load/)
-and the do-nothing server (null_server.c) are compiled by gcc each time. All run at real-time priority where this is
-allowed, so that other work on the machine takes little from them; what it says above the table tells whether they do.
-The kernel then gives 50 ms of each second to others, which the pauses between turns of up to 0.7 s serve.
+There are 4 connections with 8 calls in progress on each, if no others are named, and every reply is checked. Each
+figure is the median of the rounds, and a ratio that of the rounds' ratios, since the turns of a round follow each
+other. The load generator (load/) and the do-nothing server (null_server.c) are compiled by gcc each time. All run at
+real-time priority where this is allowed, so that other work on the machine takes little from them; what it says above
+the table tells whether they do. The kernel then gives 50 ms of each second to others, which the pauses between turns of
+up to 0.7 s serve.
 
 With --beside another client asks for attributes meanwhile, one call after the other: how long 99 of 100 of its calls
 took at most, and how long the longest of all rounds did. The server's time of a processor is then also for them. At
@@ -19,8 +20,8 @@ where these have real-time priority.
 
     bench/turns.py --programs /tmp/nfsd /tmp/nfsd-before --workloads read4k,write4k --rounds 9
 
-usage: bench/turns.py [--programs THIS [OTHER]] [--workloads A,B..] [--rounds N] [--seconds S] [--beside] [--busy]
-                      [--plain]
+usage: bench/turns.py [--programs THIS [OTHER]] [--workloads A,B..] [--connections N] [--depth N] [--rounds N]
+                      [--seconds S] [--beside] [--busy] [--plain]
 """
 import contextlib
 import json
@@ -128,8 +129,8 @@ class Side:
 def side(name, program, load, given):
     """A server that runs, and a load generator that has made its files there."""
     with network.Server(program) as server:
-        words = [load, "--port", server.port, "--server", server.process.pid, "--connections", CONNECTIONS]
-        words += ["--depth", DEPTH, "--warm-up", WARM_UP, "--seconds", given.seconds]
+        words = [load, "--port", server.port, "--server", server.process.pid, "--connections", given.connections]
+        words += ["--depth", given.depth, "--warm-up", WARM_UP, "--seconds", given.seconds]
         words += ["--beside"] * given.beside + ["--unchecked"] * (name == NOTHING)
         pipes = {"stdin": subprocess.PIPE, "stdout": subprocess.PIPE, "text": True}
         with subprocess.Popen(list(map(str, words)), **pipes) as process:
@@ -265,7 +266,7 @@ def print_about(programs, given, busy, has_priority):
     """What is measured, and how."""
     for name, program in programs.items():
         print(f"{name}: {program}")
-    print(f"nothing: a server that does nothing\n{CONNECTIONS} connections of depth {DEPTH}; ", end="")
+    print(f"nothing: a server that does nothing\nconnections: {given.connections}, depth: {given.depth}; ", end="")
     print(f"medians of {given.rounds} rounds of {given.seconds:g} s; ", end="")
     print(f"{SPINNERS} processors taken by spinning processes; " if given.busy else "", end="")
     print(f"real-time priority: {'yes' if has_priority else 'NO'}; ", end="")
@@ -298,6 +299,9 @@ def options():
                        help="this build and, if it is to be compared, another (the proved one alone)")
     words.add_argument("--workloads", metavar="A,B..", type=lambda text: text.split(","), default=list(WORKLOADS),
                        help=f"which, with commas between (all: {','.join(WORKLOADS)})")
+    words.add_argument("--connections", metavar="N", type=int, default=CONNECTIONS, help=f"how many ({CONNECTIONS})")
+    words.add_argument("--depth", metavar="N", type=int, default=DEPTH,
+                       help=f"calls in progress on each connection ({DEPTH})")
     words.add_argument("--rounds", metavar="N", type=int, default=5, help="how many (5)")
     words.add_argument("--seconds", metavar="S", type=float, default=0.5, help="of each turn that are counted (0.5)")
     words.add_argument("--beside", action="store_true", help="how long another client waits for its GETATTRs meanwhile")
@@ -314,6 +318,8 @@ def options():
             words.error(f"there is no workload {workload}")
     if given.rounds < 1 or given.seconds <= 0:
         words.error("there is no round, or it has no length")
+    if given.connections < 1 or given.depth < 1:
+        words.error("there is no connection, or no call in progress")
     return given
 
 
