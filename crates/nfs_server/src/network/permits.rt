@@ -72,7 +72,8 @@ pub(crate) struct Permits<L: Ledger + Naming> {
 }
 
 impl<L: Ledger + Naming> Permits<L> {
-    /// Places come from `free`, whose other end is `back`, and go to `back`, or where the era is to be ended to `full`.
+    /// Permits come from `free`, whose other end is `back`, and go to `back`, or where the era is to be ended to
+    /// `full`.
     pub(crate) fn new(
         free: Receiver<Permit<L>>,
         back: Sender<Permit<L>>,
@@ -174,7 +175,7 @@ struct EraRest<L: Ledger> {
 pub(crate) struct EraThread<L: Ledger + Naming> {
     pub(crate) free: Receiver<Permit<L>>,
     pub(crate) back: Sender<Permit<L>>,
-    /// Places whose era is to be ended.
+    /// Permits whose era is to be ended.
     pub(crate) full: Receiver<Permit<L>>,
     /// How many permits there are.
     pub(crate) count: usize,
