@@ -728,7 +728,7 @@ def uses_of_locks(part):
 
 
 def uses_of_mounts(part):
-    for count in (20_000 // part, 65_536 // part):
+    for count in (10, 20_000 // part, 65_536 // part):
         yield Use([f"MNT beside {count:,} mounts", f"DUMP of {count:,} mounts"], mounted(count))
     for count in (1_000 // part, 8_000 // part, 65_536 // part):
         lines = [f"MNT beside {count:,} of 900 bytes", f"DUMP of {count:,} of 900 bytes"]
@@ -780,7 +780,8 @@ def milliseconds(figure):
         return "-"
     if math.isinf(figure):
         return "no end"
-    return f"{figure:,.3f}" if figure < 10 else f"{figure:,.1f}" if figure < 1000 else f"{figure:,.0f}"
+    digits = 4 if figure < 1 else 3 if figure < 10 else 1 if figure < 1000 else 0
+    return f"{figure:,.{digits}f}"
 
 
 def print_line(line, cells, bounds, notes=()):
