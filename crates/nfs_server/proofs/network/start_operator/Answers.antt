@@ -1,4 +1,4 @@
--- A clerk and the operator go to their own thread.
+-- A dispatcher and the operator go to their own thread.
 use denote.Param.{copied, param}
 use denote.Param.Send.{sendable}
 use Rattle.std.proofs.Crossing.{crosses}

@@ -1,4 +1,4 @@
--- A clerk and the other end of the jobs go to each worker's thread.
+-- A dispatcher and the other end of the jobs go to each worker's thread.
 use denote.Param.{copied, param}
 use denote.Param.Send.{sendable}
 use Rattle.std.proofs.Crossing.{crosses}
