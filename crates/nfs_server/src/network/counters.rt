@@ -103,35 +103,32 @@ pub enum CountedEvent {
     Era,
 }
 
-/// The names by which that is told, each at the place of its count.
-const EVENTS: [&str; 16] = [
-    "repeated",
-    "refused",
-    "faulty",
-    "unanswered",
-    "opened",
-    "ended",
-    "failed",
-    "late",
-    "starved",
-    "turned_away",
-    "datagrams",
-    "datagrams_dropped",
-    "messages_sent",
-    "messages_dropped",
-    "callbacks_failed",
-    "eras",
-];
+/// How many events are counted; the era is the last one.
+const EVENTS: usize = CountedEvent::Era as usize + 1;
 
-/// What is told of standard streams beside calls.
-const OF_STREAMS: [CountedEvent; 6] = [
-    CountedEvent::Repeated,
-    CountedEvent::Refused,
-    CountedEvent::Faulty,
-    CountedEvent::Ended,
-    CountedEvent::Failed,
-    CountedEvent::Starved,
-];
+impl CountedEvent {
+    /// By which name its count is told.
+    fn name(self) -> &'static str {
+        match self {
+            CountedEvent::Repeated => "repeated",
+            CountedEvent::Refused => "refused",
+            CountedEvent::Faulty => "faulty",
+            CountedEvent::Unanswered => "unanswered",
+            CountedEvent::Opened => "opened",
+            CountedEvent::Ended => "ended",
+            CountedEvent::Failed => "failed",
+            CountedEvent::Late => "late",
+            CountedEvent::Starved => "starved",
+            CountedEvent::TurnedAway => "turned_away",
+            CountedEvent::Datagram => "datagrams",
+            CountedEvent::DatagramDropped => "datagrams_dropped",
+            CountedEvent::Sent => "messages_sent",
+            CountedEvent::Dropped => "messages_dropped",
+            CountedEvent::CallbackFailed => "callbacks_failed",
+            CountedEvent::Era => "eras",
+        }
+    }
+}
 
 /// How much of something there is.
 #[derive(Clone, Copy)]
@@ -146,52 +143,77 @@ pub enum Gauge {
     KeptBytes,
 }
 
-/// The names by which that is told, each at its place.
-const GAUGES: [&str; 4] = ["objects", "kept_hosts", "kept_replies", "kept_bytes"];
+/// How many gauges there are; the bytes are the last one.
+const GAUGES: usize = Gauge::KeptBytes as usize + 1;
 
 impl Gauge {
-    /// Where it stands.
-    fn place(self) -> usize {
-        match self {
-            Gauge::Objects => 0,
-            Gauge::KeptHosts => 1,
-            Gauge::KeptReplies => 2,
-            Gauge::KeptBytes => 3,
-        }
-    }
-}
-
-impl CountedEvent {
-    /// Where its count stands.
-    fn place(self) -> usize {
-        match self {
-            CountedEvent::Repeated => 0,
-            CountedEvent::Refused => 1,
-            CountedEvent::Faulty => 2,
-            CountedEvent::Unanswered => 3,
-            CountedEvent::Opened => 4,
-            CountedEvent::Ended => 5,
-            CountedEvent::Failed => 6,
-            CountedEvent::Late => 7,
-            CountedEvent::Starved => 8,
-            CountedEvent::TurnedAway => 9,
-            CountedEvent::Datagram => 10,
-            CountedEvent::DatagramDropped => 11,
-            CountedEvent::Sent => 12,
-            CountedEvent::Dropped => 13,
-            CountedEvent::CallbackFailed => 14,
-            CountedEvent::Era => 15,
-        }
-    }
-
     /// By which name it is told.
     fn name(self) -> &'static str {
-        match EVENTS.get(self.place()) {
-            Some(name) => name,
-            None => "",
+        match self {
+            Gauge::Objects => "objects",
+            Gauge::KeptHosts => "kept_hosts",
+            Gauge::KeptReplies => "kept_replies",
+            Gauge::KeptBytes => "kept_bytes",
         }
     }
 }
+
+/// What is told in one word, beside calls.
+#[derive(Clone, Copy)]
+enum Told {
+    /// How many connections are open.
+    Connections,
+    /// How often this happened.
+    Event(CountedEvent),
+    /// How much of this there is.
+    Gauge(Gauge),
+}
+
+impl Told {
+    fn name(self) -> &'static str {
+        match self {
+            Told::Connections => "connections",
+            Told::Event(event) => event.name(),
+            Told::Gauge(gauge) => gauge.name(),
+        }
+    }
+}
+
+/// What is told of the network, in this order.
+const OF_NETWORK: [Told; 21] = [
+    Told::Connections,
+    Told::Event(CountedEvent::Repeated),
+    Told::Event(CountedEvent::Refused),
+    Told::Event(CountedEvent::Faulty),
+    Told::Event(CountedEvent::Unanswered),
+    Told::Event(CountedEvent::Opened),
+    Told::Event(CountedEvent::Ended),
+    Told::Event(CountedEvent::Failed),
+    Told::Event(CountedEvent::Late),
+    Told::Event(CountedEvent::Starved),
+    Told::Event(CountedEvent::TurnedAway),
+    Told::Event(CountedEvent::Datagram),
+    Told::Event(CountedEvent::DatagramDropped),
+    Told::Event(CountedEvent::Sent),
+    Told::Event(CountedEvent::Dropped),
+    Told::Event(CountedEvent::CallbackFailed),
+    Told::Event(CountedEvent::Era),
+    Told::Gauge(Gauge::Objects),
+    Told::Gauge(Gauge::KeptHosts),
+    Told::Gauge(Gauge::KeptReplies),
+    Told::Gauge(Gauge::KeptBytes),
+];
+
+/// What is told of standard streams, in this order.
+const OF_STREAMS: [Told; 7] = [
+    Told::Event(CountedEvent::Repeated),
+    Told::Event(CountedEvent::Refused),
+    Told::Event(CountedEvent::Faulty),
+    Told::Event(CountedEvent::Ended),
+    Told::Event(CountedEvent::Failed),
+    Told::Event(CountedEvent::Starved),
+    Told::Gauge(Gauge::Objects),
+];
 
 /// Counts of what happened since the server began, and how much of something there was last. Who counts waits for
 /// nobody, and takes no memory.
@@ -202,8 +224,8 @@ pub struct Counters {
     nlm: Vec<AtomicU64>,
     events: Vec<AtomicU64>,
     gauges: Vec<AtomicU64>,
-    /// Whether standard streams are served, and no network.
-    is_of_streams: bool,
+    /// What is told beside calls.
+    told: &'static [Told],
 }
 
 impl Counters {
@@ -213,7 +235,7 @@ impl Counters {
     ///
     /// There is no memory for the counts.
     pub fn new(alloc: Global) -> Result<Arc<Counters>, AllocError> {
-        Counters::zero(alloc, false)
+        Counters::zero(alloc, &OF_NETWORK)
     }
 
     /// Nothing happened on standard streams.
@@ -222,17 +244,17 @@ impl Counters {
     ///
     /// There is no memory for the counts.
     pub fn of_streams(alloc: Global) -> Result<Arc<Counters>, AllocError> {
-        Counters::zero(alloc, true)
+        Counters::zero(alloc, &OF_STREAMS)
     }
 
-    fn zero(alloc: Global, is_of_streams: bool) -> Result<Arc<Counters>, AllocError> {
+    fn zero(alloc: Global, told: &'static [Told]) -> Result<Arc<Counters>, AllocError> {
         let counters = Counters {
             nfs: zeros(alloc, NFS.len())?,
             mount: zeros(alloc, MOUNT.len())?,
             nlm: zeros(alloc, NLM.len())?,
-            events: zeros(alloc, EVENTS.len())?,
-            gauges: zeros(alloc, GAUGES.len())?,
-            is_of_streams,
+            events: zeros(alloc, EVENTS)?,
+            gauges: zeros(alloc, GAUGES)?,
+            told,
         };
         Ok(Arc::new(alloc, counters)?)
     }
@@ -274,17 +296,17 @@ impl Counters {
 
     /// Counts this.
     pub fn happened(&self, event: CountedEvent) {
-        count(&self.events, event.place());
+        count(&self.events, event as usize);
     }
 
     /// How often this happened.
     pub fn of(&self, event: CountedEvent) -> u64 {
-        counted(&self.events, event.place())
+        counted(&self.events, event as usize)
     }
 
     /// There is so much of this now.
     pub fn set(&self, gauge: Gauge, value: u64) {
-        if let Some(count) = self.gauges.get(gauge.place()) {
+        if let Some(count) = self.gauges.get(gauge as usize) {
             count.store(value, Ordering::Relaxed);
         }
     }
@@ -308,31 +330,20 @@ impl Counters {
         add_calls(&mut text, "nfs", &NFS, &self.nfs)?;
         add_calls(&mut text, "mount", &MOUNT, &self.mount)?;
         add_calls(&mut text, "nlm", &NLM, &self.nlm)?;
-        if self.is_of_streams {
-            self.add_streams(&mut text)?;
-        } else {
-            self.add_network(&mut text)?;
+        for told in self.told.iter() {
+            let (name, value) = (told.name(), self.value(*told));
+            write!(text, " {name}={value}")?;
         }
         Ok(text)
     }
 
-    /// Adds what is told of the network.
-    fn add_network(&self, text: &mut String) -> Result<(), AllocError> {
-        let connections = self.connections();
-        write!(text, " connections={connections}")?;
-        add_all(text, &EVENTS, &self.events)?;
-        add_all(text, &GAUGES, &self.gauges)
-    }
-
-    /// Adds what is told of standard streams.
-    fn add_streams(&self, text: &mut String) -> Result<(), AllocError> {
-        for event in OF_STREAMS.iter() {
-            let (name, value) = (event.name(), self.of(*event));
-            write!(text, " {name}={value}")?;
+    /// The number that this is told by.
+    fn value(&self, told: Told) -> u64 {
+        match told {
+            Told::Connections => self.connections(),
+            Told::Event(event) => self.of(event),
+            Told::Gauge(gauge) => counted(&self.gauges, gauge as usize),
         }
-        let objects = counted(&self.gauges, Gauge::Objects.place());
-        write!(text, " objects={objects}")?;
-        Ok(())
     }
 
     fn calls(&self, program: Program) -> &Vec<AtomicU64> {
@@ -376,15 +387,6 @@ fn counted(counts: &Vec<AtomicU64>, place: usize) -> u64 {
         Some(count) => count.load(Ordering::Relaxed),
         None => 0,
     }
-}
-
-/// Adds counts by their names.
-fn add_all(text: &mut String, names: &[&str], counts: &Vec<AtomicU64>) -> Result<(), AllocError> {
-    for (place, name) in names.iter().enumerate() {
-        let value = counted(counts, place);
-        write!(text, " {name}={value}")?;
-    }
-    Ok(())
 }
 
 /// Adds the procedures of a program that were called.
