@@ -3,7 +3,7 @@
 use crate::tests::bursts::{are_answered_together, are_in_order};
 use crate::tests::callbacks::is_called_back;
 use crate::tests::crowds::all_play;
-use crate::tests::deaf::{are_answered, are_answered_until_given_up};
+use crate::tests::deaf::{Beside, are_answered};
 use crate::tests::hosts::{are_called_back, is_passed_over, is_told_beside};
 use crate::tests::left::are_done;
 use crate::tests::operators::is_operated;
@@ -45,10 +45,8 @@ pub(super) enum Visit {
     Crowd,
     /// Clients who leave before they are answered, beside one who stays.
     Left,
-    /// A peer that takes no answer, beside one that is answered.
-    Deaf,
-    /// The same, until the first is given up.
-    GivenUp,
+    /// A peer that takes no answer, beside one that calls so and is answered.
+    Deaf(Beside),
     /// These exchanges by datagrams, which have no marks; then it opens a connection and closes it.
     Datagrams(&'static [Exchange]),
     /// A connection that is closed when the answer to this call has come and is not read; and one over which the call
@@ -90,8 +88,7 @@ impl Visit {
             Visit::Burst => are_in_order(rt, tcp),
             Visit::Crowd => all_play(rt, tcp),
             Visit::Left => are_done(rt, tcp),
-            Visit::Deaf => are_answered(rt, tcp),
-            Visit::GivenUp => are_answered_until_given_up(rt, tcp),
+            Visit::Deaf(beside) => are_answered(rt, tcp, beside),
             Visit::Datagrams(exchanges) => exchange_datagrams(rt, tcp, udp, exchanges),
             Visit::Lost(call, then) => lose(rt, tcp, call, then),
             Visit::Refused(exchange) => open_beside(rt, tcp, exchange, &[], false),

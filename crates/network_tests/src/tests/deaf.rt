@@ -19,15 +19,30 @@ use std::{io, thread};
 /// How many READs of 64 KiB are sent at once: their answers have 16 MiB.
 const READS: u32 = 256;
 
-/// How often the other client calls, and how long it waits before the next call, in milliseconds.
-const CALLS: u32 = 100;
+/// How the other client calls.
+#[derive(Clone, Copy)]
+pub(super) struct Beside {
+    /// How often it calls, at most.
+    calls: u32,
+    /// How long it waits before the next call, in milliseconds.
+    pause: u64,
+    /// Whether it calls until the peer is given up, which has to be before it has called so often.
+    is_until_given_up: bool,
+}
 
-const PAUSE: u64 = 2;
+/// A hundred calls.
+const QUICK: Beside = Beside {
+    calls: 100,
+    pause: 2,
+    is_until_given_up: false,
+};
 
-/// The same at most, until the peer is given up.
-const MOST_CALLS: u32 = 1_000;
-
-const LONG_PAUSE: u64 = 20;
+/// Calls for 20 seconds at most.
+const UNTIL_GIVEN_UP: Beside = Beside {
+    calls: 1_000,
+    pause: 20,
+    is_until_given_up: true,
+};
 
 /// A name that nothing has.
 const NAME: u32 = 0x62000000;
@@ -69,41 +84,32 @@ fn is_answered<R: AllocGlobal>(rt: &R, stream: &TcpStream, xid: u32) -> io::Resu
     is_told(rt.alloc(), stream, &on_name(xid, LOOKUP, NAME), NOENT)
 }
 
-/// Whether a client is answered beside a peer that takes no answer.
-pub(crate) fn are_answered<
-    R: AllocGlobal + Clock + Net<Listener = TcpListener, Stream = TcpStream>,
->(rt: &R, tcp: SocketAddr) -> io::Result<bool> {
-    let stream = connect(rt, tcp)?;
-    let deaf = connect(rt, tcp)?;
-    let mut is_well = are_asked(rt, &stream, &deaf)?;
-    for xid in 0..CALLS {
-        is_well = is_well && is_answered(rt, &stream, xid)?;
-        thread::sleep(rt, Duration::from_millis(PAUSE));
-    }
-    Ok(is_well)
+/// Whether a peer is given up: what it sends is refused then.
+fn is_given_up(deaf: &TcpStream) -> bool {
+    let mut writer = deaf;
+    writer.write(&[0]).is_err()
 }
 
-/// The same, until that peer is given up: what it sends is refused then.
-pub(crate) fn are_answered_until_given_up<
+/// Whether a client that calls so is answered beside a peer that takes no answer.
+pub(super) fn are_answered<
     R: AllocGlobal + Clock + Net<Listener = TcpListener, Stream = TcpStream>,
->(rt: &R, tcp: SocketAddr) -> io::Result<bool> {
+>(rt: &R, tcp: SocketAddr, beside: Beside) -> io::Result<bool> {
     let stream = connect(rt, tcp)?;
     let deaf = connect(rt, tcp)?;
-    let mut writer = &deaf;
     let mut is_well = are_asked(rt, &stream, &deaf)?;
-    for xid in 0..MOST_CALLS {
+    for xid in 0..beside.calls {
         is_well = is_well && is_answered(rt, &stream, xid)?;
-        if writer.write(&[0]).is_err() {
+        if beside.is_until_given_up && is_given_up(&deaf) {
             return Ok(is_well);
         }
-        thread::sleep(rt, Duration::from_millis(LONG_PAUSE));
+        thread::sleep(rt, Duration::from_millis(beside.pause));
     }
-    Ok(false)
+    Ok(is_well && !beside.is_until_given_up)
 }
 
 #[test]
 fn a_peer_that_takes_no_answer(rt: HostRuntime) -> Result<(), Fail> {
-    assert!(rt; is_served(rt, &TWO, Visit::Deaf)?);
-    assert!(rt; is_served_within(rt, &TWO, HASTE, Visit::GivenUp)?);
+    assert!(rt; is_served(rt, &TWO, Visit::Deaf(QUICK))?);
+    assert!(rt; is_served_within(rt, &TWO, HASTE, Visit::Deaf(UNTIL_GIVEN_UP))?);
     Ok(())
 }
