@@ -20,14 +20,10 @@ mod sockets;
 mod waits;
 
 use crate::tests::clients::Visit;
-use nfs_server::{Options, Patience, Sockets, Transport, configure, serve_sockets};
+use nfs_server::{NetworkRuntime, Options, Patience, Sockets, Transport, configure, serve_sockets};
 use std::alloc::{AllocError, Global};
-use std::net::{Net, TcpListener, TcpStream};
-use std::rt::Clock;
-use std::sync::Wait;
 use std::test::Fail;
 use std::thread;
-use std::thread::Threads;
 
 const SERVE: [&str; 9] = [
     "nfsd",
@@ -79,37 +75,18 @@ fn with_patience(options: Options, patience: Patience) -> Options
 }
 
 /// As `is_served_within`, where peers are waited for as ever.
-fn is_served<
-    R: AllocGlobal
-        + Net<Listener = TcpListener, Stream = TcpStream>
-        + Threads
-        + Wait
-        + Clock
-        + Eprint
-        + Copy
-        + Drop
-        + Send
-        + Sync
-        + 'static,
->(rt: R, more: &[&str], visit: Visit) -> Result<bool, Fail> {
+fn is_served<R: NetworkRuntime>(rt: R, more: &[&str], visit: Visit) -> Result<bool, Fail> {
     is_served_within(rt, more, Patience::USUAL, visit)
 }
 
 /// Serves a client on sockets of the system's choice, until so many connections have come and ended as the words say.
 /// Peers are waited for so long. Whether all went as it should.
-fn is_served_within<
-    R: AllocGlobal
-        + Net<Listener = TcpListener, Stream = TcpStream>
-        + Threads
-        + Wait
-        + Clock
-        + Eprint
-        + Copy
-        + Drop
-        + Send
-        + Sync
-        + 'static,
->(rt: R, more: &[&str], patience: Patience, visit: Visit) -> Result<bool, Fail> {
+fn is_served_within<R: NetworkRuntime>(
+    rt: R,
+    more: &[&str],
+    patience: Patience,
+    visit: Visit,
+) -> Result<bool, Fail> {
     let options = with_patience(options(rt.alloc(), more)?, patience);
     match Sockets::bind(&rt, rt.alloc(), &options) {
         Ok(sockets) => Ok(serve_beside(rt, options, sockets, visit)),
@@ -122,19 +99,7 @@ fn is_served_within<
 }
 
 /// Serves on these sockets beside a client.
-fn serve_beside<
-    R: AllocGlobal
-        + Net<Listener = TcpListener, Stream = TcpStream>
-        + Threads
-        + Wait
-        + Clock
-        + Eprint
-        + Copy
-        + Drop
-        + Send
-        + Sync
-        + 'static,
->(rt: R, options: Options, sockets: Sockets, visit: Visit) -> bool
+fn serve_beside<R: NetworkRuntime>(rt: R, options: Options, sockets: Sockets, visit: Visit) -> bool
     requires { AreWithin options }
 {
     let (tcp, udp) = (sockets.tcp_address(), sockets.udp_address());

@@ -44,6 +44,7 @@ use crate::network::sending::CallbackThread;
 use crate::network::sorting::Sorter;
 pub use crate::network::tally::Tally;
 use crate::options::{Network, Options, Transport};
+use crate::runtime::{NetworkRuntime, Runtime};
 use crate::started::open;
 use crossbeam_channel::{Receiver, bounded};
 use nfs_engine::{Config, Engine};
@@ -51,12 +52,10 @@ use nfs_machine::{Limits, Moment, Moments};
 use nfs_pool::{EraRoom, Naming, Opened, Pool, Seat};
 use std::alloc::{AllocError, Global};
 use std::marker::Brand;
-use std::net::{Net, TcpListener, TcpStream, UdpSocket};
-use std::rt::Clock;
+use std::net::{TcpListener, UdpSocket};
 use std::sync::ledger::{Blank, Ledger};
 use std::sync::{Arc, Wait};
 use std::thread;
-use std::thread::Threads;
 
 /// For how many connections there are permits beside those of the workers; more connections share them.
 const OWN_PERMITS: u64 = 64;
@@ -68,20 +67,7 @@ const OWN_PERMITS: u64 = 64;
 ///
 /// `CannotListen`; `Memory` where there is none to begin; `NoTransport` where the options name no address; `Receipts`
 /// where a record has no receipt. A permit that was lost is waited for at the end of its era, for good.
-pub fn serve_network<
-    R: AllocGlobal
-        + Net<Listener = TcpListener, Stream = TcpStream>
-        + Threads
-        + Wait
-        + Clock
-        + Eprint
-        + Operator
-        + Copy
-        + Drop
-        + Send
-        + Sync
-        + 'static,
->(rt: R, options: Options) -> Result<(), Exit>
+pub fn serve_network<R: NetworkRuntime + Operator>(rt: R, options: Options) -> Result<(), Exit>
     requires { AreWithin options }
 {
     let sockets = Sockets::bind(&rt, rt.alloc(), &options)?;
@@ -95,19 +81,11 @@ pub fn serve_network<
 /// # Errors
 ///
 /// As `serve_network`, but for `CannotListen`.
-pub fn serve_sockets<
-    R: AllocGlobal
-        + Net<Listener = TcpListener, Stream = TcpStream>
-        + Threads
-        + Wait
-        + Clock
-        + Eprint
-        + Copy
-        + Drop
-        + Send
-        + Sync
-        + 'static,
->(rt: R, options: Options, sockets: Sockets) -> Result<(), Exit>
+pub fn serve_sockets<R: NetworkRuntime>(
+    rt: R,
+    options: Options,
+    sockets: Sockets,
+) -> Result<(), Exit>
     requires { AreWithin options }
 {
     serve_operated(rt, options, sockets, Nobody)
@@ -119,20 +97,12 @@ pub fn serve_sockets<
 /// # Errors
 ///
 /// As `serve_network`, but for `CannotListen`.
-pub fn serve_operated<
-    R: AllocGlobal
-        + Net<Listener = TcpListener, Stream = TcpStream>
-        + Threads
-        + Wait
-        + Clock
-        + Eprint
-        + Copy
-        + Drop
-        + Send
-        + Sync
-        + 'static,
-    O: Operator + Drop + Send + 'static,
->(rt: R, options: Options, sockets: Sockets, operator: O) -> Result<(), Exit>
+pub fn serve_operated<R: NetworkRuntime, O: Operator + Drop + Send + 'static>(
+    rt: R,
+    options: Options,
+    sockets: Sockets,
+    operator: O,
+) -> Result<(), Exit>
     requires { AreWithin options }
 {
     let Options {
@@ -167,20 +137,7 @@ pub fn serve_operated<
 }
 
 /// Serves from the opening state that is configured so.
-fn serve_from<
-    R: AllocGlobal
-        + Net<Listener = TcpListener, Stream = TcpStream>
-        + Threads
-        + Wait
-        + Clock
-        + Eprint
-        + Copy
-        + Drop
-        + Send
-        + Sync
-        + 'static,
-    O: Operator + Drop + Send + 'static,
->(
+fn serve_from<R: NetworkRuntime, O: Operator + Drop + Send + 'static>(
     rt: R,
     config: Config,
     network: Network,
@@ -226,17 +183,7 @@ fn kept_told(network: &Network, capacity: u64) -> Option<usize> {
 /// Serves with a pool of so many seats. Threads of their own serve those who come; this one ends eras.
 fn serve_pool<
     L: Ledger + Naming + Send + Sync + 'static,
-    R: AllocGlobal
-        + Net<Listener = TcpListener, Stream = TcpStream>
-        + Threads
-        + Wait
-        + Clock
-        + Eprint
-        + Copy
-        + Drop
-        + Send
-        + Sync
-        + 'static,
+    R: NetworkRuntime,
     O: Operator + Drop + Send + 'static,
 >(
     rt: R,
@@ -280,16 +227,7 @@ fn serve_pool<
 /// Starts the threads that serve those who come, and those beside them.
 fn start_service<
     L: Ledger + Naming + Send + Sync + 'static,
-    R: Net<Listener = TcpListener, Stream = TcpStream>
-        + Threads
-        + Wait
-        + Clock
-        + Eprint
-        + Copy
-        + Drop
-        + Send
-        + Sync
-        + 'static,
+    R: NetworkRuntime,
     O: Operator + Drop + Send + 'static,
 >(
     rt: R,
@@ -352,9 +290,12 @@ fn open_permits<L: Ledger + Naming, R: Wait>(
 }
 
 /// Starts the thread that says how the server is.
-pub(crate) fn start_reporter<
-    R: Threads + Wait + Clock + Eprint + Copy + Drop + Send + Sync + 'static,
->(rt: R, alloc: Global, counters: &Arc<Counters>, stats: u64) -> Result<(), AllocError> {
+pub(crate) fn start_reporter<R: Runtime + Eprint>(
+    rt: R,
+    alloc: Global,
+    counters: &Arc<Counters>,
+    stats: u64,
+) -> Result<(), AllocError> {
     let reporter = Reporter {
         counters: Arc::try_clone(counters)?,
         stats,
@@ -364,10 +305,7 @@ pub(crate) fn start_reporter<
 }
 
 /// Starts the workers.
-fn start_workers<
-    L: Ledger + Naming + Send + Sync + 'static,
-    R: Threads + Wait + Clock + Copy + Drop + Send + Sync + 'static,
->(
+fn start_workers<L: Ledger + Naming + Send + Sync + 'static, R: Runtime>(
     rt: R,
     alloc: Global,
     service: &Service<L>,
@@ -383,18 +321,12 @@ fn start_workers<
 }
 
 /// Starts a thread for each callback, which sends the messages to its host, and the thread that hands them on to these.
-fn start_senders<
-    L: Ledger + Naming + Send + Sync + 'static,
-    R: Net<Listener = TcpListener, Stream = TcpStream>
-        + Threads
-        + Wait
-        + Clock
-        + Copy
-        + Drop
-        + Send
-        + Sync
-        + 'static,
->(rt: R, alloc: Global, service: &Service<L>, callbacks: Callbacks) -> Result<(), AllocError> {
+fn start_senders<L: Ledger + Naming + Send + Sync + 'static, R: NetworkRuntime>(
+    rt: R,
+    alloc: Global,
+    service: &Service<L>,
+    callbacks: Callbacks,
+) -> Result<(), AllocError> {
     let count = callbacks.list.len();
     let callbacks = Arc::new(alloc, callbacks)?;
     let mut mailboxes = Vec::with_capacity(alloc, count)?;
@@ -413,18 +345,7 @@ fn start_senders<
 }
 
 /// Starts the thread that sends the messages to one host.
-fn start_sender<
-    L: Ledger + Naming + Send + Sync + 'static,
-    R: Net<Listener = TcpListener, Stream = TcpStream>
-        + Threads
-        + Wait
-        + Clock
-        + Copy
-        + Drop
-        + Send
-        + Sync
-        + 'static,
->(
+fn start_sender<L: Ledger + Naming + Send + Sync + 'static, R: NetworkRuntime>(
     rt: R,
     alloc: Global,
     service: &Service<L>,
@@ -444,7 +365,7 @@ fn start_sender<
 /// Starts the thread that does what an operator's lines say. Nothing waits for its end.
 fn start_operator<
     L: Ledger + Naming + Send + Sync + 'static,
-    R: Threads + Wait + Clock + Copy + Drop + Send + Sync + 'static,
+    R: Runtime,
     O: Operator + Drop + Send + 'static,
 >(rt: R, alloc: Global, service: &Service<L>, operator: O) -> Result<(), AllocError> {
     let mut dispatcher = service.dispatcher(rt)?;
@@ -455,10 +376,7 @@ fn start_operator<
 }
 
 /// Starts the threads that serve those who come.
-fn attend<
-    L: Ledger + Naming + Send + Sync + 'static,
-    R: Threads + Wait + Clock + Copy + Drop + Send + Sync + 'static,
->(
+fn attend<L: Ledger + Naming + Send + Sync + 'static, R: Runtime>(
     rt: R,
     alloc: Global,
     sockets: Sockets,
@@ -479,10 +397,7 @@ fn attend<
 }
 
 /// Starts the thread that lets connections in, until so many have come. When these have ended the last era ends.
-fn start_connections<
-    L: Ledger + Naming + Send + Sync + 'static,
-    R: Threads + Wait + Clock + Copy + Drop + Send + Sync + 'static,
->(
+fn start_connections<L: Ledger + Naming + Send + Sync + 'static, R: Runtime>(
     rt: R,
     alloc: Global,
     listener: TcpListener,
@@ -499,10 +414,12 @@ fn start_connections<
 }
 
 /// Starts the thread that takes datagrams.
-fn start_datagrams<
-    L: Ledger + Naming + Send + Sync + 'static,
-    R: Threads + Wait + Clock + Copy + Drop + Send + Sync + 'static,
->(rt: R, alloc: Global, socket: UdpSocket, service: Service<L>) -> Result<(), AllocError> {
+fn start_datagrams<L: Ledger + Naming + Send + Sync + 'static, R: Runtime>(
+    rt: R,
+    alloc: Global,
+    socket: UdpSocket,
+    service: Service<L>,
+) -> Result<(), AllocError> {
     let socket = Arc::new(alloc, socket)?;
     let buffer = Vec::from_elem(alloc, 0u8, DATAGRAM_SIZE)?;
     thread::spawn(&rt, move || {

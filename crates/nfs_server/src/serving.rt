@@ -6,13 +6,10 @@ use crate::exit::Exit;
 use crate::keys::name_key;
 use crate::network::{Operator, serve_network};
 use crate::options::{Options, Streams, Transport};
+use crate::runtime::NetworkRuntime;
 use crate::stdio::{serve_counted, serve_stdio};
 use crate::warnings::warn_of_hosts;
-use std::net::{Net, TcpListener, TcpStream};
 use std::random::RandomSource;
-use std::rt::Clock;
-use std::sync::Wait;
-use std::thread::Threads;
 
 /// Serves on what the options name: standard streams to the end of the input, or sockets. A host that an export names
 /// and no peer has is warned of on standard error. Names are placed by random bytes.
@@ -20,23 +17,10 @@ use std::thread::Threads;
 /// # Errors
 ///
 /// Those of `serve_stdio` and of `serve_network`; and `NoRandomBytes`.
-pub fn serve<
-    R: AllocGlobal
-        + Clock
-        + Input
-        + Print
-        + Eprint
-        + Operator
-        + RandomSource
-        + Net<Listener = TcpListener, Stream = TcpStream>
-        + Threads
-        + Wait
-        + Copy
-        + Drop
-        + Send
-        + Sync
-        + 'static,
->(rt: R, options: Options) -> Result<(), Exit>
+pub fn serve<R: NetworkRuntime + Input + Print + Operator + RandomSource>(
+    rt: R,
+    options: Options,
+) -> Result<(), Exit>
     requires { AreWithin options }
 {
     let mut options = options;

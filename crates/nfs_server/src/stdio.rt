@@ -6,14 +6,14 @@ use crate::clock::{ServerClock, start_number};
 use crate::exit::Exit;
 use crate::network::{CountedEvent, Counters, start_reporter, tell};
 use crate::options::Options;
+use crate::runtime::Runtime;
 use crate::started::serve_options;
 use nfs_rpc::stream::Counted;
 use nfs_streams::{Unseen, Witness};
 use std::alloc::{AllocError, Global};
 use std::io;
 use std::rt::Clock;
-use std::sync::{Arc, Wait};
-use std::thread::Threads;
+use std::sync::Arc;
 
 /// Serves the records of standard input, as the options say, and writes the answers to standard output, to the end of
 /// the input. What it writes is what `serve_options` promises, for what the runtime reads and writes.
@@ -36,20 +36,11 @@ pub fn serve_stdio<R: AllocGlobal + Clock + Input + Print>(
 /// # Errors
 ///
 /// Those of `serve_options`.
-pub fn serve_counted<
-    R: AllocGlobal
-        + Clock
-        + Input
-        + Print
-        + Eprint
-        + Threads
-        + Wait
-        + Copy
-        + Drop
-        + Send
-        + Sync
-        + 'static,
->(rt: R, options: Options, seconds: u64) -> Result<(), Exit>
+pub fn serve_counted<R: Runtime + AllocGlobal + Input + Print + Eprint>(
+    rt: R,
+    options: Options,
+    seconds: u64,
+) -> Result<(), Exit>
     requires era { IsLimit options.era_records }
     requires capacity { IsLimit options.capacity }
 {
@@ -65,7 +56,7 @@ pub fn serve_counted<
 }
 
 /// The counts of standard streams, with the thread that tells them every so many seconds.
-fn start_counting<R: Threads + Wait + Clock + Eprint + Copy + Drop + Send + Sync + 'static>(
+fn start_counting<R: Runtime + Eprint>(
     rt: R,
     alloc: Global,
     seconds: u64,

@@ -3,15 +3,13 @@
 
 use crate::tests::clients::{ANY, Visit, add_words, connect, is_next, next, send, spelled};
 use crate::tests::is_served;
+use nfs_server::NetworkRuntime;
 use std::alloc::{AllocError, Global};
 use std::io;
 use std::io::{Read, Write};
 use std::net::{Net, SocketAddr, TcpListener, TcpStream};
 use std::process::Abort;
-use std::rt::Clock;
-use std::sync::Wait;
 use std::test::Fail;
-use std::thread::Threads;
 
 /// CREATE of `a` in the root, GUARDED, with no attributes given; and where its handle is in the answer.
 const CREATE: [u32; 29] = [
@@ -288,19 +286,7 @@ pub(crate) fn is_called_back<R: AllocGlobal + Net<Listener = TcpListener, Stream
 }
 
 /// Whether a client is called back so by a server that is told where.
-fn calls_back<
-    R: AllocGlobal
-        + Net<Listener = TcpListener, Stream = TcpStream>
-        + Threads
-        + Wait
-        + Clock
-        + Eprint
-        + Copy
-        + Drop
-        + Send
-        + Sync
-        + 'static,
->(rt: R, status: u32) -> Result<bool, Fail> {
+fn calls_back<R: NetworkRuntime>(rt: R, status: u32) -> Result<bool, Fail> {
     let listener = TcpListener::bind(&rt, "127.0.0.1:0")?;
     let address = listener.local_addr()?;
     let callback = format!(in rt.alloc(); "127.0.0.1={address}")?;

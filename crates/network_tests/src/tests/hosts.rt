@@ -6,13 +6,12 @@ use crate::tests::callbacks::{
 };
 use crate::tests::clients::{MOST, PATIENCE, Visit, connect, spelled};
 use crate::tests::is_served;
+use nfs_server::NetworkRuntime;
 use std::alloc::{AllocError, Global};
 use std::net::{IpAddr, Ipv4Addr, Net, SocketAddr, TcpListener, TcpStream, UdpSocket};
 use std::process::Abort;
 use std::rt::Clock;
-use std::sync::Wait;
 use std::test::Fail;
-use std::thread::Threads;
 use std::time::{Duration, Instant};
 use std::{io, thread};
 
@@ -268,19 +267,12 @@ fn is_told_soon<R: AllocGlobal + Clock>(
 }
 
 /// Whether a server that calls the second host and the third back at these addresses serves this visit well.
-fn is_served_with<
-    R: AllocGlobal
-        + Net<Listener = TcpListener, Stream = TcpStream>
-        + Threads
-        + Wait
-        + Clock
-        + Eprint
-        + Copy
-        + Drop
-        + Send
-        + Sync
-        + 'static,
->(rt: R, to_second: SocketAddr, to_third: SocketAddr, visit: Visit) -> Result<bool, Fail> {
+fn is_served_with<R: NetworkRuntime>(
+    rt: R,
+    to_second: SocketAddr,
+    to_third: SocketAddr,
+    visit: Visit,
+) -> Result<bool, Fail> {
     let to_second = format!(in rt.alloc(); "127.0.0.2={to_second}")?;
     let to_third = format!(in rt.alloc(); "127.0.0.3={to_third}")?;
     let more = [

@@ -8,15 +8,12 @@ use crate::tests::clients::{ANY, Exchange, Visit, connect, exchange_each, next};
 use crate::tests::options;
 use nfs_machine::Exports;
 use nfs_rpc::stream::Counted;
-use nfs_server::{Applied, Operator, Options, Sockets, control, serve_operated};
+use nfs_server::{Applied, NetworkRuntime, Operator, Options, Sockets, control, serve_operated};
 use std::alloc::Global;
 use std::io::{Read, Write};
 use std::net::{Net, Shutdown, SocketAddr, TcpListener, TcpStream};
 use std::process::Abort;
-use std::rt::Clock;
-use std::sync::Wait;
 use std::test::Fail;
-use std::thread::Threads;
 use std::{io, thread};
 
 /// An operator at the other end of a connection.
@@ -106,19 +103,12 @@ pub(super) fn is_operated<R: AllocGlobal + Net<Listener = TcpListener, Stream = 
 }
 
 /// Serves a client, and the operator who comes to this listener.
-fn serve_operator<
-    R: AllocGlobal
-        + Net<Listener = TcpListener, Stream = TcpStream>
-        + Threads
-        + Wait
-        + Clock
-        + Eprint
-        + Copy
-        + Drop
-        + Send
-        + Sync
-        + 'static,
->(rt: R, options: Options, sockets: Sockets, listener: &TcpListener) -> bool
+fn serve_operator<R: NetworkRuntime>(
+    rt: R,
+    options: Options,
+    sockets: Sockets,
+    listener: &TcpListener,
+) -> bool
     requires { AreWithin options }
 {
     match listener.accept() {
@@ -133,19 +123,13 @@ fn serve_operator<
 }
 
 /// Serves beside the client who is the operator too.
-fn serve_beside<
-    R: AllocGlobal
-        + Net<Listener = TcpListener, Stream = TcpStream>
-        + Threads
-        + Wait
-        + Clock
-        + Eprint
-        + Copy
-        + Drop
-        + Send
-        + Sync
-        + 'static,
->(rt: R, options: Options, sockets: Sockets, listener: &TcpListener, operator: SocketAddr) -> bool
+fn serve_beside<R: NetworkRuntime>(
+    rt: R,
+    options: Options,
+    sockets: Sockets,
+    listener: &TcpListener,
+    operator: SocketAddr,
+) -> bool
     requires { AreWithin options }
 {
     let tcp = sockets.tcp_address();
@@ -159,19 +143,7 @@ fn serve_beside<
 }
 
 /// Whether a client is served on sockets of the system's choice, and an operator's lines are answered.
-fn is_served<
-    R: AllocGlobal
-        + Net<Listener = TcpListener, Stream = TcpStream>
-        + Threads
-        + Wait
-        + Clock
-        + Eprint
-        + Copy
-        + Drop
-        + Send
-        + Sync
-        + 'static,
->(rt: R) -> Result<bool, Fail> {
+fn is_served<R: NetworkRuntime>(rt: R) -> Result<bool, Fail> {
     let listener = TcpListener::bind(&rt, "127.0.0.1:0")?;
     let operator = listener.local_addr()?;
     let options = options(rt.alloc(), &OPERATED)?;

@@ -12,6 +12,7 @@ use crate::network::reading::ConnectionThread;
 use crate::network::wakeup::Wakeup;
 use crate::options::{Network, Options, Transport};
 use crate::patience::Patience;
+use crate::runtime::Runtime;
 use bytes::Bytes;
 use crossbeam_channel::Sender;
 use nfs_engine::Host;
@@ -23,7 +24,6 @@ use std::net::{IpAddr, Net, SocketAddr, TcpListener, TcpStream, UdpSocket};
 use std::rt::Clock;
 use std::sync::ledger::Ledger;
 use std::sync::{Arc, Wait};
-use std::thread::Threads;
 use std::time::Duration;
 use std::{io, thread};
 
@@ -193,10 +193,7 @@ impl<L: Ledger + Naming> Service<L> {
 
 /// Lets connections in, each served by a thread of its own: so many in all, or for ever. One that comes while so many
 /// are open as may be is closed at once.
-pub(crate) fn let_in<
-    R: Threads + Wait + Clock + Copy + Drop + Send + Sync + 'static,
-    L: Ledger + Naming + Send + Sync + 'static,
->(
+pub(crate) fn let_in<R: Runtime, L: Ledger + Naming + Send + Sync + 'static>(
     rt: &R,
     alloc: Global,
     listener: &TcpListener,
@@ -240,10 +237,7 @@ pub(crate) fn let_in<
 }
 
 /// Starts the thread of a connection.
-fn start<
-    R: Threads + Wait + Clock + Copy + Drop + Send + Sync + 'static,
-    L: Ledger + Naming + Send + Sync + 'static,
->(
+fn start<R: Runtime, L: Ledger + Naming + Send + Sync + 'static>(
     rt: &R,
     alloc: Global,
     stream: TcpStream,
