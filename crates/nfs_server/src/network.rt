@@ -60,6 +60,30 @@ use std::thread;
 /// For how many connections there are permits beside those of the workers; more connections share them.
 const OWN_PERMITS: u64 = 64;
 
+/// What a pool is made of.
+struct PoolParts {
+    blank: Blank,
+    opened: Opened,
+    engine: Engine,
+    /// How many seats it has.
+    count: usize,
+    /// How many replies are kept of each host, where somebody is told of them.
+    kept: Option<usize>,
+}
+
+/// What a service is made of.
+#[derive(Drop)]
+struct ServiceParts<O> {
+    sockets: Sockets,
+    network: Network,
+    /// The second at which every moment is, if any.
+    clock: Option<u32>,
+    /// The moment at which the server began.
+    begin: Moment,
+    callbacks: Callbacks,
+    operator: O,
+}
+
 /// Serves on the network as the options say: until so many connections have come and ended, or for ever. Where they ask
 /// for it, the runtime is the operator. Each era is compared when it is over, the last one too.
 ///
@@ -122,10 +146,11 @@ pub fn serve_operated<R: NetworkRuntime, O: Operator + Drop + Send + 'static>(
         return Err(Exit::NoTransport);
     };
     let mut first = ServerClock::new(rt, clock);
+    let begin = first.moment();
     let config = Config {
         exports,
         start: start.unwrap_or(start_number(&rt)),
-        moment: first.moment(),
+        moment: begin,
         capacity,
         limits: Limits {
             total_bytes: bytes,
@@ -133,43 +158,39 @@ pub fn serve_operated<R: NetworkRuntime, O: Operator + Drop + Send + 'static>(
         },
         era_records,
     };
-    serve_from(rt, config, network, sockets, clock, callbacks, operator)
-}
-
-/// Serves from the opening state that is configured so.
-fn serve_from<R: NetworkRuntime, O: Operator + Drop + Send + 'static>(
-    rt: R,
-    config: Config,
-    network: Network,
-    sockets: Sockets,
-    clock: Option<u32>,
-    callbacks: Callbacks,
-    operator: O,
-) -> Result<(), Exit>
-    requires capacity { IsLimit config.capacity }
-    requires era { IsLimit config.era_records }
-    requires workers { network.workers ≤ 64 }
-{
-    let alloc = rt.alloc();
-    let begin = config.moment;
-    let kept = kept_told(&network, config.capacity);
-    let engine = open(alloc, config)?;
-    let count = network.workers + network.connections.min(OWN_PERMITS);
-    let blank = Blank::new(count);
-    serve_pool::<Brand, R, O>(
-        rt,
-        blank,
-        Opened::new(),
-        engine,
-        count as usize,
+    let service = ServiceParts {
         sockets,
         network,
         clock,
         begin,
         callbacks,
         operator,
+    };
+    serve_from(rt, config, service)
+}
+
+/// Serves from the opening state that is configured so.
+fn serve_from<R: NetworkRuntime, O: Operator + Drop + Send + 'static>(
+    rt: R,
+    config: Config,
+    service: ServiceParts<O>,
+) -> Result<(), Exit>
+    requires capacity { IsLimit config.capacity }
+    requires era { IsLimit config.era_records }
+    requires workers { service.network.workers ≤ 64 }
+{
+    let network = &service.network;
+    let count = network.workers + network.connections.min(OWN_PERMITS);
+    let kept = kept_told(network, config.capacity);
+    let engine = open(rt.alloc(), config)?;
+    let pool = PoolParts {
+        blank: Blank::new(count),
+        opened: Opened::new(),
+        engine,
+        count: count as usize,
         kept,
-    )
+    };
+    serve_pool::<Brand, R, O>(rt, pool, service)
 }
 
 /// How many replies are kept of each host, where somebody is told of them.
@@ -180,32 +201,26 @@ fn kept_told(network: &Network, capacity: u64) -> Option<usize> {
     Some(capacity as usize)
 }
 
-/// Serves with a pool of so many seats. Threads of their own serve those who come; this one ends eras.
+/// Serves with a pool. Threads of their own serve those who come; this one ends eras.
 fn serve_pool<
     L: Ledger + Naming + Send + Sync + 'static,
     R: NetworkRuntime,
     O: Operator + Drop + Send + 'static,
->(
-    rt: R,
-    blank: Blank,
-    opened: Opened,
-    engine: Engine,
-    count: usize,
-    sockets: Sockets,
-    network: Network,
-    clock: Option<u32>,
-    begin: Moment,
-    callbacks: Callbacks,
-    operator: O,
-    kept: Option<usize>,
-) -> Result<(), Exit>
-    requires name { blank.name ≡ L.name }
-    requires parts { blank.parts ≡ L.parts }
-    requires count { blank.parts ≡ count }
-    requires log { opened.seen.book ≡ L.book }
-    requires records { engine.book.records ≡ [] }
+>(rt: R, pool: PoolParts, service: ServiceParts<O>) -> Result<(), Exit>
+    requires name { pool.blank.name ≡ L.name }
+    requires parts { pool.blank.parts ≡ L.parts }
+    requires count { pool.blank.parts ≡ pool.count }
+    requires log { pool.opened.seen.book ≡ L.book }
+    requires records { pool.engine.book.records ≡ [] }
 {
     let alloc = rt.alloc();
+    let PoolParts {
+        blank,
+        opened,
+        engine,
+        count,
+        kept,
+    } = pool;
     let Ok((pool, seats)) = Pool::<L>::new(alloc, blank, opened, engine, count) else {
         return Err(Exit::Memory);
     };
@@ -213,10 +228,8 @@ fn serve_pool<
     let (permits, era_thread, seats, room) = open_permits(
         &rt, alloc, pool, seats, count, &counters, kept,
     )?;
-    let stats = network.stats;
-    start_service(
-        rt, alloc, permits, &counters, sockets, network, clock, begin, callbacks, operator,
-    )?;
+    let stats = service.network.stats;
+    start_service(rt, alloc, permits, &counters, service)?;
     let ended = era_thread.work(&rt, alloc, seats, room);
     if stats > 0 {
         tell(&rt, alloc, &counters);
@@ -234,13 +247,16 @@ fn start_service<
     alloc: Global,
     permits: Permits<L>,
     counters: &Arc<Counters>,
-    sockets: Sockets,
-    network: Network,
-    clock: Option<u32>,
-    begin: Moment,
-    callbacks: Callbacks,
-    operator: O,
+    parts: ServiceParts<O>,
 ) -> Result<(), Exit> {
+    let ServiceParts {
+        sockets,
+        network,
+        clock,
+        begin,
+        callbacks,
+        operator,
+    } = parts;
     let (jobs, queue) = bounded(alloc, JOBS)?;
     let service = Service::new(
         alloc,
