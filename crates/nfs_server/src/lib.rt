@@ -41,7 +41,7 @@ pub use nfs_engine::Host;
 pub use nfs_streams::{Served, StreamFault, Unseen, Witness, serve_stream};
 pub use options::{Network, Options, Streams, Transport};
 pub use patience::Patience;
-pub use runtime::{NetworkRuntime, Runtime};
+pub use runtime::{NetworkRuntime, Runtime, SystemNet};
 pub use serving::serve;
 pub use started::serve_options;
 pub use stdio::{serve_counted, serve_stdio};

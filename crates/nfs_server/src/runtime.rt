@@ -5,18 +5,17 @@ use std::rt::Clock;
 use std::sync::Wait;
 use std::thread::Threads;
 
-/// What each thread of the server is given.
+/// A runtime that each thread of the server is given.
 pub trait Runtime: Threads + Wait + Clock + Copy + Drop + Send + Sync + 'static {}
 
 impl<R: Threads + Wait + Clock + Copy + Drop + Send + Sync + 'static> Runtime for R {}
 
-/// What the network is served by.
-pub trait NetworkRuntime:
-    Runtime + AllocGlobal + Eprint + Net<Listener = TcpListener, Stream = TcpStream>
-{
-}
+/// A runtime whose sockets are the system's own.
+pub trait SystemNet: Net<Listener = TcpListener, Stream = TcpStream> {}
 
-impl<R: Runtime + AllocGlobal + Eprint + Net<Listener = TcpListener, Stream = TcpStream>>
-    NetworkRuntime for R
-{
-}
+impl<R: Net<Listener = TcpListener, Stream = TcpStream>> SystemNet for R {}
+
+/// A runtime by which the network is served.
+pub trait NetworkRuntime: Runtime + AllocGlobal + Eprint + SystemNet {}
+
+impl<R: Runtime + AllocGlobal + Eprint + SystemNet> NetworkRuntime for R {}

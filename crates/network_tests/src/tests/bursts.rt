@@ -9,10 +9,11 @@ use crate::tests::clients::{
 };
 use crate::tests::is_served;
 use crate::tests::names::{OK, is_answer};
+use nfs_server::SystemNet;
 use std::alloc::{AllocError, Global};
 use std::io;
 use std::io::Write;
-use std::net::{Net, SocketAddr, TcpListener, TcpStream};
+use std::net::{SocketAddr, TcpStream};
 use std::process::Abort;
 use std::test::Fail;
 
@@ -132,7 +133,7 @@ fn send_burst(alloc: Global, stream: &TcpStream, file: &[u8]) -> io::Result<()> 
 }
 
 /// Whether calls that are sent at once are each answered, in order.
-pub(crate) fn are_in_order<R: AllocGlobal + Net<Listener = TcpListener, Stream = TcpStream>>(
+pub(crate) fn are_in_order<R: AllocGlobal + SystemNet>(
     rt: &R,
     tcp: SocketAddr,
 ) -> io::Result<bool> {
@@ -150,9 +151,11 @@ pub(crate) fn are_in_order<R: AllocGlobal + Net<Listener = TcpListener, Stream =
 }
 
 /// Whether the calls of these exchanges are each answered, in order, where they are sent at once.
-pub(crate) fn are_answered_together<
-    R: AllocGlobal + Net<Listener = TcpListener, Stream = TcpStream>,
->(rt: &R, tcp: SocketAddr, exchanges: &[Exchange]) -> io::Result<bool> {
+pub(crate) fn are_answered_together<R: AllocGlobal + SystemNet>(
+    rt: &R,
+    tcp: SocketAddr,
+    exchanges: &[Exchange],
+) -> io::Result<bool> {
     let alloc = rt.alloc();
     let stream = connect(rt, tcp)?;
     let mut writer = &stream;

@@ -3,11 +3,11 @@
 
 use crate::tests::clients::{ANY, Visit, add_words, connect, is_next, next, send, spelled};
 use crate::tests::is_served;
-use nfs_server::NetworkRuntime;
+use nfs_server::{NetworkRuntime, SystemNet};
 use std::alloc::{AllocError, Global};
 use std::io;
 use std::io::{Read, Write};
-use std::net::{Net, SocketAddr, TcpListener, TcpStream};
+use std::net::{SocketAddr, TcpListener, TcpStream};
 use std::process::Abort;
 use std::test::Fail;
 
@@ -271,7 +271,7 @@ fn is_told_of(
 
 /// Whether a client that waits for a lock is called back where it is its own, and has it then, or has not, as it
 /// answers with this status.
-pub(crate) fn is_called_back<R: AllocGlobal + Net<Listener = TcpListener, Stream = TcpStream>>(
+pub(crate) fn is_called_back<R: AllocGlobal + SystemNet>(
     rt: &R,
     tcp: SocketAddr,
     listener: &TcpListener,

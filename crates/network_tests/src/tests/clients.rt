@@ -8,10 +8,11 @@ use crate::tests::hosts::{are_called_back, is_passed_over, is_told_beside};
 use crate::tests::left::are_done;
 use crate::tests::operators::is_operated;
 use crate::tests::waits::are_given_up;
+use nfs_server::SystemNet;
 use std::alloc::{AllocError, Global};
 use std::io;
 use std::io::{ErrorKind, Read, Write};
-use std::net::{Net, Shutdown, SocketAddr, TcpListener, TcpStream, UdpSocket};
+use std::net::{Shutdown, SocketAddr, TcpListener, TcpStream, UdpSocket};
 use std::rt::Clock;
 use std::thread::Threads;
 use std::time::Duration;
@@ -76,9 +77,12 @@ pub(super) enum Visit {
 
 impl Visit {
     /// Whether all is answered as it should be.
-    pub(super) fn is_well<
-        R: AllocGlobal + Clock + Threads + Sync + Net<Listener = TcpListener, Stream = TcpStream>,
-    >(self, rt: &R, tcp: Option<SocketAddr>, udp: Option<SocketAddr>) -> bool {
+    pub(super) fn is_well<R: AllocGlobal + Clock + Threads + Sync + SystemNet>(
+        self,
+        rt: &R,
+        tcp: Option<SocketAddr>,
+        udp: Option<SocketAddr>,
+    ) -> bool {
         let Some(tcp) = tcp else {
             return false;
         };
@@ -121,7 +125,7 @@ pub(crate) fn add_words(bytes: &mut Vec<u8>, words: &[u32]) -> Result<(), AllocE
 }
 
 /// A connection, which waits for no answer for ever.
-pub(crate) fn connect<R: AllocGlobal + Net<Listener = TcpListener, Stream = TcpStream>>(
+pub(crate) fn connect<R: AllocGlobal + SystemNet>(
     rt: &R,
     address: SocketAddr,
 ) -> io::Result<TcpStream> {
@@ -182,7 +186,7 @@ pub(crate) fn exchange(alloc: Global, stream: &TcpStream, exchange: Exchange) ->
     is_next(alloc, stream, exchange.1)
 }
 
-fn exchange_all<R: AllocGlobal + Net<Listener = TcpListener, Stream = TcpStream>>(
+fn exchange_all<R: AllocGlobal + SystemNet>(
     rt: &R,
     tcp: SocketAddr,
     exchanges: &[Exchange],
@@ -222,7 +226,7 @@ fn exchange_datagram(
     Ok(peer == udp && told.get(..count) == answer.get(4..))
 }
 
-fn exchange_datagrams<R: AllocGlobal + Net<Listener = TcpListener, Stream = TcpStream>>(
+fn exchange_datagrams<R: AllocGlobal + SystemNet>(
     rt: &R,
     tcp: SocketAddr,
     udp: Option<SocketAddr>,
@@ -249,7 +253,7 @@ pub(crate) fn next(alloc: Global, stream: &TcpStream) -> io::Result<Vec<u8>> {
     Ok(Vec::from_slice(alloc, bytes.get(..count).unwrap_or(&[]))?)
 }
 
-fn lose<R: AllocGlobal + Net<Listener = TcpListener, Stream = TcpStream>>(
+fn lose<R: AllocGlobal + SystemNet>(
     rt: &R,
     tcp: SocketAddr,
     call: &[u32],
@@ -268,7 +272,7 @@ fn lose<R: AllocGlobal + Net<Listener = TcpListener, Stream = TcpStream>>(
 }
 
 /// Sends a call, and closes the connection once its answer has come, which is looked at and not read.
-fn send_and_leave<R: AllocGlobal + Net<Listener = TcpListener, Stream = TcpStream>>(
+fn send_and_leave<R: AllocGlobal + SystemNet>(
     rt: &R,
     tcp: SocketAddr,
     call: &[u32],
@@ -279,7 +283,7 @@ fn send_and_leave<R: AllocGlobal + Net<Listener = TcpListener, Stream = TcpStrea
     stream.peek(peeked)
 }
 
-fn open_beside<R: AllocGlobal + Net<Listener = TcpListener, Stream = TcpStream>>(
+fn open_beside<R: AllocGlobal + SystemNet>(
     rt: &R,
     tcp: SocketAddr,
     each: Exchange,

@@ -5,8 +5,9 @@ use crate::tests::answers::GETATTR;
 use crate::tests::clients::{Exchange, Visit, connect, exchange, next_record, send};
 use crate::tests::is_served;
 use crate::tests::names::{LOOKUP, NOENT, OK, RMDIR, is_answer, is_told, mkdir, on_name, rename};
+use nfs_server::SystemNet;
 use std::alloc::Global;
-use std::net::{Net, SocketAddr, TcpListener, TcpStream};
+use std::net::{SocketAddr, TcpStream};
 use std::process::Abort;
 use std::test::Fail;
 use std::thread::Threads;
@@ -79,11 +80,7 @@ fn is_round_well(alloc: Global, stream: &TcpStream, client: Client, xid: u32) ->
 }
 
 /// Whether all rounds of a client go well.
-fn plays<R: AllocGlobal + Net<Listener = TcpListener, Stream = TcpStream>>(
-    rt: &R,
-    tcp: SocketAddr,
-    client: Client,
-) -> io::Result<bool> {
+fn plays<R: AllocGlobal + SystemNet>(rt: &R, tcp: SocketAddr, client: Client) -> io::Result<bool> {
     let stream = connect(rt, tcp)?;
     let mut is_well = true;
     for round in 0..ROUNDS {
@@ -94,9 +91,10 @@ fn plays<R: AllocGlobal + Net<Listener = TcpListener, Stream = TcpStream>>(
 }
 
 /// Whether all clients' rounds go well beside each other, and the root was changed by each of their calls once.
-pub(crate) fn all_play<
-    R: AllocGlobal + Threads + Sync + Net<Listener = TcpListener, Stream = TcpStream>,
->(rt: &R, tcp: SocketAddr) -> io::Result<bool> {
+pub(crate) fn all_play<R: AllocGlobal + Threads + Sync + SystemNet>(
+    rt: &R,
+    tcp: SocketAddr,
+) -> io::Result<bool> {
     let play = |number: usize| -> bool {
         match CLIENTS.get(number) {
             Some(client) => plays(rt, tcp, *client).unwrap_or(false),

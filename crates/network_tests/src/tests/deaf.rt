@@ -6,10 +6,10 @@ use crate::tests::callbacks::create;
 use crate::tests::clients::{Visit, connect};
 use crate::tests::names::{LOOKUP, NOENT, is_told, on_name};
 use crate::tests::{is_served, is_served_within};
-use nfs_server::Patience;
+use nfs_server::{Patience, SystemNet};
 use std::alloc::Global;
 use std::io::Write;
-use std::net::{Net, SocketAddr, TcpListener, TcpStream};
+use std::net::{SocketAddr, TcpStream};
 use std::process::Abort;
 use std::rt::Clock;
 use std::test::Fail;
@@ -91,9 +91,11 @@ fn is_given_up(deaf: &TcpStream) -> bool {
 }
 
 /// Whether a client that calls so is answered beside a peer that takes no answer.
-pub(super) fn are_answered<
-    R: AllocGlobal + Clock + Net<Listener = TcpListener, Stream = TcpStream>,
->(rt: &R, tcp: SocketAddr, beside: Beside) -> io::Result<bool> {
+pub(super) fn are_answered<R: AllocGlobal + Clock + SystemNet>(
+    rt: &R,
+    tcp: SocketAddr,
+    beside: Beside,
+) -> io::Result<bool> {
     let stream = connect(rt, tcp)?;
     let deaf = connect(rt, tcp)?;
     let mut is_well = are_asked(rt, &stream, &deaf)?;

@@ -6,7 +6,7 @@ use crate::tests::callbacks::{
 };
 use crate::tests::clients::{MOST, PATIENCE, Visit, connect, spelled};
 use crate::tests::is_served;
-use nfs_server::NetworkRuntime;
+use nfs_server::{NetworkRuntime, SystemNet};
 use std::alloc::{AllocError, Global};
 use std::net::{IpAddr, Ipv4Addr, Net, SocketAddr, TcpListener, TcpStream, UdpSocket};
 use std::process::Abort;
@@ -163,9 +163,7 @@ fn all_are_told<R: AllocGlobal + Clock>(
 }
 
 /// Whether two hosts are called back, each where it listens here, and the one that is not called back gets nothing.
-pub(crate) fn are_called_back<
-    R: AllocGlobal + Clock + Net<Listener = TcpListener, Stream = TcpStream>,
->(
+pub(crate) fn are_called_back<R: AllocGlobal + Clock + SystemNet>(
     rt: &R,
     tcp: SocketAddr,
     udp: Option<SocketAddr>,
@@ -185,9 +183,7 @@ pub(crate) fn are_called_back<
 }
 
 /// Whether a host that can't be reached is told nothing, also where it could be soon after, and the other of its own.
-pub(crate) fn is_passed_over<
-    R: AllocGlobal + Clock + Net<Listener = TcpListener, Stream = TcpStream>,
->(
+pub(crate) fn is_passed_over<R: AllocGlobal + Clock + SystemNet>(
     rt: &R,
     tcp: SocketAddr,
     udp: Option<SocketAddr>,
@@ -208,7 +204,7 @@ pub(crate) fn is_passed_over<
 }
 
 /// Whether only the third host is told, where the second one listens again.
-fn is_told_alone<R: AllocGlobal + Clock + Net<Listener = TcpListener, Stream = TcpStream>>(
+fn is_told_alone<R: AllocGlobal + Clock + SystemNet>(
     rt: &R,
     stream: &TcpStream,
     second: SocketAddr,
@@ -227,9 +223,7 @@ fn is_told_alone<R: AllocGlobal + Clock + Net<Listener = TcpListener, Stream = T
 
 /// Whether the third host is told of its own soon, one after the other, where the second one takes a call and does not
 /// answer.
-pub(crate) fn is_told_beside<
-    R: AllocGlobal + Clock + Net<Listener = TcpListener, Stream = TcpStream>,
->(
+pub(crate) fn is_told_beside<R: AllocGlobal + Clock + SystemNet>(
     rt: &R,
     tcp: SocketAddr,
     udp: Option<SocketAddr>,
@@ -311,7 +305,7 @@ fn a_host_that_does_not_answer_holds_up_no_other(rt: HostRuntime) -> Result<(), 
 }
 
 /// An address at which nobody listens.
-fn unreached<R: Net<Listener = TcpListener, Stream = TcpStream>>(rt: &R) -> io::Result<SocketAddr> {
+fn unreached<R: SystemNet>(rt: &R) -> io::Result<SocketAddr> {
     TcpListener::bind(rt, "127.0.0.1:0")?.local_addr()
 }
 

@@ -5,7 +5,8 @@ use crate::tests::answers::{GETATTR, NULL};
 use crate::tests::clients::{Exchange, Visit, connect, exchange, send};
 use crate::tests::is_served;
 use crate::tests::names::{LOOKUP, OK, is_told, mkdir, on_name};
-use std::net::{Net, SocketAddr, TcpListener, TcpStream};
+use nfs_server::SystemNet;
+use std::net::{SocketAddr, TcpStream};
 use std::process::Abort;
 use std::rt::Clock;
 use std::test::Fail;
@@ -46,7 +47,7 @@ const LOOKS: u32 = 1_000;
 const PAUSE: u64 = 3;
 
 /// Sends a call and leaves.
-fn leave<R: AllocGlobal + Net<Listener = TcpListener, Stream = TcpStream>>(
+fn leave<R: AllocGlobal + SystemNet>(
     rt: &R,
     tcp: SocketAddr,
     call: &[u32],
@@ -87,7 +88,7 @@ fn is_done<R: AllocGlobal + Clock>(
 }
 
 /// Whether what clients sent who left is done, once, and a client beside them is answered all the while.
-pub(crate) fn are_done<R: AllocGlobal + Clock + Net<Listener = TcpListener, Stream = TcpStream>>(
+pub(crate) fn are_done<R: AllocGlobal + Clock + SystemNet>(
     rt: &R,
     tcp: SocketAddr,
 ) -> io::Result<bool> {

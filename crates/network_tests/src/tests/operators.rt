@@ -8,10 +8,12 @@ use crate::tests::clients::{ANY, Exchange, Visit, connect, exchange_each, next};
 use crate::tests::options;
 use nfs_machine::Exports;
 use nfs_rpc::stream::Counted;
-use nfs_server::{Applied, NetworkRuntime, Operator, Options, Sockets, control, serve_operated};
+use nfs_server::{
+    Applied, NetworkRuntime, Operator, Options, Sockets, SystemNet, control, serve_operated,
+};
 use std::alloc::Global;
 use std::io::{Read, Write};
-use std::net::{Net, Shutdown, SocketAddr, TcpListener, TcpStream};
+use std::net::{Shutdown, SocketAddr, TcpListener, TcpStream};
 use std::process::Abort;
 use std::test::Fail;
 use std::{io, thread};
@@ -85,7 +87,7 @@ fn are_over(alloc: Global, operator: &TcpStream) -> io::Result<bool> {
 }
 
 /// Whether exports are replaced as an operator's lines say, and the client is served behind the last one too.
-pub(super) fn is_operated<R: AllocGlobal + Net<Listener = TcpListener, Stream = TcpStream>>(
+pub(super) fn is_operated<R: AllocGlobal + SystemNet>(
     rt: &R,
     tcp: SocketAddr,
     operator: SocketAddr,

@@ -3,10 +3,10 @@
 use crate::tests::answers::NULL;
 use crate::tests::clients::{Exchange, Visit, connect, exchange, send};
 use crate::tests::is_served_within;
-use nfs_server::Patience;
+use nfs_server::{Patience, SystemNet};
 use std::io;
 use std::io::{ErrorKind, Read, Write};
-use std::net::{Net, SocketAddr, TcpListener, TcpStream};
+use std::net::{SocketAddr, TcpStream};
 use std::process::Abort;
 use std::test::Fail;
 use std::time::Duration;
@@ -53,7 +53,7 @@ fn trickle(stream: &TcpStream) -> io::Result<usize> {
 
 /// Whether a connection over which nothing comes is closed, and so is one over which a record begins behind a whole one
 /// and does not end, however it goes on; and not one over which whole ones came alone.
-pub(crate) fn are_given_up<R: AllocGlobal + Net<Listener = TcpListener, Stream = TcpStream>>(
+pub(crate) fn are_given_up<R: AllocGlobal + SystemNet>(
     rt: &R,
     tcp: SocketAddr,
     each: Exchange,

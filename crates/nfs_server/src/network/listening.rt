@@ -12,7 +12,7 @@ use crate::network::reading::ConnectionThread;
 use crate::network::wakeup::Wakeup;
 use crate::options::{Network, Options, Transport};
 use crate::patience::Patience;
-use crate::runtime::Runtime;
+use crate::runtime::{Runtime, SystemNet};
 use bytes::Bytes;
 use crossbeam_channel::Sender;
 use nfs_engine::Host;
@@ -46,11 +46,7 @@ impl Sockets {
     /// # Errors
     ///
     /// `CannotListen` at one of them; `Memory` where there is none to say that; `NoTransport` where none is named.
-    pub fn bind<R: Net<Listener = TcpListener, Stream = TcpStream>>(
-        rt: &R,
-        alloc: Global,
-        options: &Options,
-    ) -> Result<Sockets, Exit> {
+    pub fn bind<R: SystemNet>(rt: &R, alloc: Global, options: &Options) -> Result<Sockets, Exit> {
         let Transport::Network(network) = &options.transport else {
             return Err(Exit::NoTransport);
         };
@@ -92,11 +88,7 @@ impl Sockets {
     }
 }
 
-fn bind_tcp<R: Net<Listener = TcpListener, Stream = TcpStream>>(
-    rt: &R,
-    alloc: Global,
-    text: &str,
-) -> Result<TcpListener, Exit> {
+fn bind_tcp<R: SystemNet>(rt: &R, alloc: Global, text: &str) -> Result<TcpListener, Exit> {
     let Ok(address) = text.parse::<SocketAddr>() else {
         return Err(cannot_listen(alloc, text));
     };

@@ -8,13 +8,14 @@ use crate::network::failures::Failures;
 use crate::network::mailbox::Mailbox;
 use crate::network::messages::{Letter, addressed, call_of_answer};
 use crate::network::peer::read_some;
+use crate::runtime::SystemNet;
 use nfs_engine::{Host, Posted};
 use nfs_pool::Naming;
 use nfs_rpc::{Record, RecordError, Records};
 use side_wire::Callback;
 use std::alloc::Global;
 use std::io::Write;
-use std::net::{Net, SocketAddr, TcpListener, TcpStream};
+use std::net::{SocketAddr, TcpStream};
 use std::rt::Clock;
 use std::sync::ledger::Ledger;
 use std::sync::{Arc, Wait};
@@ -50,11 +51,7 @@ pub(crate) struct CallbackThread<L: Ledger + Naming, C> {
 
 impl<L: Ledger + Naming, C: Clock> CallbackThread<L, C> {
     /// Sends messages as they come, the oldest first.
-    pub(crate) fn work<R: Wait + Clock + Net<Listener = TcpListener, Stream = TcpStream>>(
-        &mut self,
-        rt: &R,
-        alloc: Global,
-    ) {
+    pub(crate) fn work<R: Wait + Clock + SystemNet>(&mut self, rt: &R, alloc: Global) {
         for _ in rt.forever() {
             let posted = self.mailbox.take(rt);
             self.send(rt, alloc, &posted);
@@ -65,12 +62,7 @@ impl<L: Ledger + Naming, C: Clock> CallbackThread<L, C> {
 
     /// Sends a message, and takes in what its host answers to GRANTED. A message whose host is not called back, or is
     /// passed over, is dropped; so is one that there is no memory to spell in all that time.
-    fn send<R: Wait + Clock + Net<Listener = TcpListener, Stream = TcpStream>>(
-        &mut self,
-        rt: &R,
-        alloc: Global,
-        posted: &Posted,
-    ) {
+    fn send<R: Wait + Clock + SystemNet>(&mut self, rt: &R, alloc: Global, posted: &Posted) {
         for _ in 0..TRIES {
             match addressed(alloc, &self.callbacks, posted) {
                 Ok(Some(letter)) => {
@@ -94,11 +86,7 @@ impl<L: Ledger + Naming, C: Clock> CallbackThread<L, C> {
 }
 
 /// Sends a letter and takes in what is answered, unless its address is passed over. From a failure on it is.
-fn deliver<
-    L: Ledger + Naming,
-    C: Clock,
-    R: Wait + Clock + Net<Listener = TcpListener, Stream = TcpStream>,
->(
+fn deliver<L: Ledger + Naming, C: Clock, R: Wait + Clock + SystemNet>(
     rt: &R,
     alloc: Global,
     dispatcher: &mut Dispatcher<L, C>,
@@ -146,11 +134,7 @@ fn pass_over<R: Clock>(rt: &R, failures: &mut Failures, address: SocketAddr) {
 /// # Errors
 ///
 /// The connection failed, or no answer to GRANTED came in time. Other messages need no answer.
-fn asked<
-    L: Ledger + Naming,
-    C: Clock,
-    R: Wait + Clock + Net<Listener = TcpListener, Stream = TcpStream>,
->(
+fn asked<L: Ledger + Naming, C: Clock, R: Wait + Clock + SystemNet>(
     rt: &R,
     alloc: Global,
     dispatcher: &Dispatcher<L, C>,
@@ -166,10 +150,7 @@ fn asked<
 }
 
 /// A connection to an address, whose peer is waited for so long.
-fn connected<R: Net<Listener = TcpListener, Stream = TcpStream>>(
-    rt: &R,
-    address: SocketAddr,
-) -> io::Result<TcpStream> {
+fn connected<R: SystemNet>(rt: &R, address: SocketAddr) -> io::Result<TcpStream> {
     let patience = Duration::from_secs(PATIENCE);
     let stream = TcpStream::connect_timeout(rt, &address, patience)?;
     stream.set_write_timeout(Some(patience))?;
