@@ -1,6 +1,6 @@
 -- What came in is told by its seat, and answered so.
 use Rattle.std.proofs.Common.{◌≡◌, ℕ, ◌-◌, ◌≤◌, List, [], ◌∷◌, ◌++◌, length, length-append, slice_get, Option, Some}
-use Rattle.std.proofs.Common.{Result, Ok, Err, IfErr, IfOk, IsSome, get_or, refl, sym, ◌∙◌, ap, subst, arith}
+use Rattle.std.proofs.Common.{Result, Ok, Err, IfErr, IfOk, IsSome, get_or, inl, inr, refl, sym, ◌∙◌, ap, subst, arith}
 use Rattle.std.proofs.Math.Seq.{get_or-append_seam}
 use Rattle.std.proofs.lemmas.Option.{get_or_from_slice_get}
 use Rattle.nfs_machine.specs.Run.{Arrival, FromHost}
@@ -16,7 +16,7 @@ use Rattle.nfs_pool.specs.declared.sent.PoolError.{PoolError}
 use Rattle.nfs_pool.specs.declared.sent.PoolError.TheVariants.{EraFull, Memory}
 use Rattle.nfs_pool.specs.declared.sent.Sent.{Sent}
 use Rattle.nfs_pool.specs.declared.sent.Sent.TheVariants.{Early, Executed, Refused, Repeated, Unanswered}
-use Rattle.nfs_server.specs.AnswersTo.{AnswersRecord, HandsBack, HasReceipt, IsAnswerTo, IsTold}
+use Rattle.nfs_server.specs.AnswersTo.{AnswersRecord, GainsAtMostOne, HandsBack, HasReceipt, IsAnswerTo, IsTold}
 use Rattle.nfs_server.specs.declared.network.dispatcher.Closed.{Closed}
 
 -- a seat's last receipt is of what came in
@@ -44,6 +44,17 @@ pub pool_back : (a : ArrivalValue) (old new : SeatValue) (error : PoolError) →
     HandsBack a.received error
 pool_back a old new (Memory back) t = ap (λ (x : ArrivalValue). x.received) t.0
 pool_back a old new (EraFull back) t = ap (λ (x : ArrivalValue). x.received) t.0
+
+-- the seat has at most one receipt more
+pub pool_once : (a : ArrivalValue) (old new : SeatValue) (x : Result Sent PoolError) → Tells a old new x →
+    GainsAtMostOne old new
+pool_once a old new (Ok Executed) t = inr (t.receipt, t.more)
+pool_once a old new (Ok (Repeated kept)) t = inl (ap (λ (s : SeatValue). s.receipts) t.1)
+pool_once a old new (Ok (Refused declined)) t = inl (ap (λ (s : SeatValue). s.receipts) t.1)
+pool_once a old new (Ok (Early fault)) t = inl (ap (λ (s : SeatValue). s.receipts) t.2)
+pool_once a old new (Ok (Unanswered received)) t = inl (ap (λ (s : SeatValue). s.receipts) t.1)
+pool_once a old new (Err (Memory back)) t = inl (ap (λ (s : SeatValue). s.receipts) t.1)
+pool_once a old new (Err (EraFull back)) t = inl (ap (λ (s : SeatValue). s.receipts) t.1)
 
 -- one more owner of a receipt has the same
 pub receipt_shared : (r : Arrival) (own shared : Receipt) → IsReceiptOf r own →

@@ -1,5 +1,5 @@
 -- How a record that came in is answered.
-use Rattle.std.specs.Prelude.{◌≡◌, ◌<◌, ℕ, List, [], ◌∷◌, ◌++◌, IsSome, Result, Ok}
+use Rattle.std.specs.Prelude.{◌≡◌, ◌<◌, ◌⊎◌, ℕ, List, [], ◌∷◌, ◌++◌, IsSome, Result, Ok}
 use Rattle.nfs_machine.specs.Run.{Arrival, FromHost}
 use Rattle.nfs_machine.specs.declared.moment.Moment.{Moment}
 use Rattle.nfs_engine.specs.Answers.{answer_of}
@@ -36,6 +36,11 @@ IsTold n r s (Repeated kept) = kept.received ≡ r
 IsTold n r s (Refused declined) = IsDeclined r declined
 IsTold n r s (Early faulted) = IsFaulted r faulted
 IsTold n r s (Unanswered received) = incoming_value received ≡ r
+
+-- the seat has the receipts that it had, or these and one more
+abbrev pub GainsAtMostOne : (old new : SeatValue) → Type 0
+GainsAtMostOne old new =
+    (new.receipts ≡ old.receipts) ⊎ ((receipt : Receipt) × (new.receipts ≡ old.receipts ++ receipt ∷ []))
 
 -- it was not taken in, and is handed back
 abbrev pub HandsBack : Arrival → PoolError → Type 0

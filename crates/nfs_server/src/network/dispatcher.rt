@@ -1,6 +1,6 @@
 //! What answers records: each is executed on a permit, and no permit is held while answers are sent.
 
-ghost use Rattle.std.specs.Prelude.{◌≡◌, ◌++◌, ℕ, List, Option, [], false, true};
+ghost use Rattle.std.specs.Prelude.{◌≡◌, ◌++◌, ◌<◌, ℕ, List, Option, [], false, true};
 ghost use Rattle.std.specs.Prelude.{IfErr, IfNone, IfOk, IsSome, OnErr, OnOk};
 ghost use Rattle.nfs_machine.specs.Run as machine;
 ghost use Rattle.nfs_engine.specs.Arrivals.{incoming_value, received_value};
@@ -8,8 +8,8 @@ ghost use Rattle.nfs_engine.specs.Asked.{IsAskedBy};
 ghost use Rattle.nfs_schedule.specs.Answers.{reply_bytes};
 ghost use Rattle.nfs_pool.specs.Seats.{IsDeclined};
 ghost use Rattle.nfs_streams.specs.Connections.{waiting};
-ghost use Rattle.nfs_server.specs.AnswersTo.{AnswersRecord, HandsBack, HasReceipt, IsAnswerTo, IsTold};
-ghost use Rattle.nfs_server.specs.AnswersTo.{number_after};
+ghost use Rattle.nfs_server.specs.AnswersTo.{AnswersRecord, GainsAtMostOne, HandsBack, HasReceipt, IsAnswerTo};
+ghost use Rattle.nfs_server.specs.AnswersTo.{IsTold, number_after};
 ghost use Rattle.nfs_server.specs.CalledBack.{MayHavePosted};
 ghost use Rattle.nfs_server.specs.Conversations.{Adds, Cuts, GoesOn, IsCutOff};
 
@@ -266,7 +266,7 @@ impl<L: Ledger + Naming, C: Clock> Dispatcher<L, C> {
     ///
     /// # Errors
     ///
-    /// It was not taken in, and is handed back.
+    /// It was not taken in, and is handed back, on a permit that was handed out behind the end of an era.
     fn submit<R: Wait>(
         &self,
         rt: &R,
@@ -276,6 +276,7 @@ impl<L: Ledger + Naming, C: Clock> Dispatcher<L, C> {
     ) -> (Permit<L>, Result<Sent, Arrival>)
         ensures told { IfOk result.1 (IsTold self.now.last arrival.received result.0.seat) }
         ensures back { IfErr result.1 (λ back. back.received ≡ arrival.received) }
+        ensures late { IfErr result.1 (λ back. permit.turns < result.0.turns) }
     {
         let mut permit = permit;
         let mut arrival = arrival;
@@ -301,7 +302,9 @@ impl<L: Ledger + Naming, C: Clock> Dispatcher<L, C> {
 
 /// Whether one more end of an era may give memory, behind so many: the first one lets go what was recorded, and others
 /// what dead files leave.
-fn gives_more(turns: usize, is_sweeping: bool) -> bool {
+fn gives_more(turns: usize, is_sweeping: bool) -> bool
+    ensures { turns ≡ 0 → result ≡ true }
+{
     turns == 0 || (is_sweeping && turns < MOST_TURNS)
 }
 
@@ -342,7 +345,8 @@ fn last_after(last: u64, answered: &Answered) -> u64
     }
 }
 
-/// Submits what came in to the pool of a permit, whose seat gets its receipt, with a number above this one.
+/// Submits what came in to the pool of a permit, once: its seat gets its receipt, with a number above this one, and no
+/// other.
 ///
 /// # Errors
 ///
@@ -356,6 +360,8 @@ fn submit<R: Wait, L: Ledger + Naming>(
 ) -> Result<Sent, PoolError>
     ensures told { IfOk result (IsTold last arrival.received permit.new.seat) }
     ensures back { IfErr result (HandsBack arrival.received) }
+    ensures once { GainsAtMostOne permit.old.seat permit.new.seat }
+    ensures turns { permit.new.turns ≡ permit.old.turns }
 {
     // It brings that what came in is read so.
     arrival.reading();

@@ -3,6 +3,8 @@
 //! A seat travels with its pool. Whoever executes calls takes a permit, and gives it back behind them. So when all
 //! permits are gathered nobody else has the pool, and its era can be ended: no thread has to be joined for that.
 
+ghost use Rattle.std.specs.Prelude.{◌<◌};
+
 use crate::exit::Exit;
 use crate::network::counters::{CountedEvent, Counters, Gauge};
 use crate::network::tally::Tally;
@@ -143,7 +145,9 @@ impl<L: Ledger + Naming> Permits<L> {
 
     /// Hands a permit in, so that the era is ended, and takes one that was handed out after that. One that it takes
     /// before is handed in too.
-    pub(crate) fn turn<R: Wait>(&self, rt: &R, permit: Permit<L>) -> Permit<L> {
+    pub(crate) fn turn<R: Wait>(&self, rt: &R, permit: Permit<L>) -> Permit<L>
+        ensures { permit.turns < result.turns }
+    {
         let before = permit.turns;
         let mut permit = permit;
         for _ in rt.forever() {

@@ -1,7 +1,8 @@
-use Rattle.std.proofs.Common.{◌≤◌, subst, sym}
+use Rattle.std.proofs.Common.{◌≤◌, Ok, refl, subst, sym}
 use Rattle.std.proofs.Math.Nat.{le-max_right}
 use Rattle.nfs_pool.specs.Seats.{SeatValue}
-use Rattle.nfs_server.proofs.AnswersToLemmas.{pool_told}
+use Rattle.nfs_server.specs.AnswersTo.{GainsAtMostOne}
+use Rattle.nfs_server.proofs.AnswersToLemmas.{pool_once, pool_told}
 use Rattle.nfs_server.proofs.network.dispatcher.submit.Goals as goal
 
 pub returns-in_default : goal.returns-in_default
@@ -12,4 +13,8 @@ returns-in_default g c = record {
       (le-max_right c.args.permit.now.seat.last c.args.last))
       c.in_ok-sent.sent c.in_ok-sent.ensures;
   back = tt;
+  once =
+      subst (λ (s : SeatValue). GainsAtMostOne s c.submit.new.seat) c.go_above.ensures
+      (pool_once c.args.arrival c.go_above.new.self c.submit.new.seat (Ok c.in_ok-sent.sent) c.in_ok-sent.ensures);
+  turns = refl;
 }
