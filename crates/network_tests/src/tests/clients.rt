@@ -7,7 +7,7 @@ use crate::tests::deaf::{Beside, are_answered};
 use crate::tests::hosts::{are_called_back, is_passed_over, is_told_beside};
 use crate::tests::left::are_done;
 use crate::tests::operators::is_operated;
-use crate::tests::waits::are_given_up;
+use crate::tests::waits::{are_closed, are_given_up};
 use nfs_server::SystemNet;
 use std::alloc::{AllocError, Global};
 use std::io;
@@ -62,6 +62,8 @@ pub(super) enum Visit {
     Ended(Exchange, &'static [u32]),
     /// A connection with this exchange, two beside it over which no whole record comes, and the exchange again.
     Slow(Exchange),
+    /// Three connections, one after the other, that can't be served.
+    Unserved,
     /// A lock that is given back while another caller waits for it; that one is called back here, and answers with this
     /// status.
     Called(TcpListener, u32),
@@ -99,6 +101,7 @@ impl Visit {
             Visit::Closed(exchange, words) => open_beside(rt, tcp, exchange, words, false),
             Visit::Ended(exchange, words) => open_beside(rt, tcp, exchange, words, true),
             Visit::Slow(exchange) => are_given_up(rt, tcp, exchange),
+            Visit::Unserved => are_closed(rt, tcp),
             Visit::Called(listener, status) => is_called_back(rt, tcp, &listener, status),
             Visit::Hosts(second, third) => are_called_back(rt, tcp, udp, &second, &third),
             Visit::PassedOver(second, third) => is_passed_over(rt, tcp, udp, second, &third),

@@ -1,4 +1,5 @@
-//! Peers that are not waited for any longer: one that sends nothing, and one that does not come to a record's end.
+//! Peers that are not waited for any longer: one that sends nothing, and one that does not come to a record's end. And
+//! peers that can't be served at all.
 
 use crate::tests::answers::NULL;
 use crate::tests::clients::{Exchange, Visit, connect, exchange, send};
@@ -18,6 +19,13 @@ const HASTE: Patience = Patience {
     answers: 30,
 };
 
+/// A record is not waited for: no socket takes such a time, so no connection can be served.
+const NO_TIME: Patience = Patience {
+    record: 0,
+    idle: 600,
+    answers: 30,
+};
+
 /// The header of a record of 4,096 bytes.
 const BEGUN: [u32; 1] = [0x80001000];
 
@@ -27,6 +35,16 @@ const MOST_LOOKS: usize = 60;
 const FEWEST_LOOKS: usize = 3;
 
 const THREE: [&str; 4] = ["--tcp", "127.0.0.1:0", "--accept", "3"];
+
+/// The same, one at a time.
+const THREE_APART: [&str; 6] = [
+    "--tcp",
+    "127.0.0.1:0",
+    "--accept",
+    "3",
+    "--connections",
+    "1",
+];
 
 /// Whether a connection is closed, or is before a read of it has waited long enough.
 fn is_closed(stream: &TcpStream) -> bool {
@@ -67,6 +85,23 @@ pub(crate) fn are_given_up<R: AllocGlobal + SystemNet>(
     let looks = trickle(&slow)?;
     let given_up = FEWEST_LOOKS <= looks && looks < MOST_LOOKS && is_closed(&silent);
     Ok(before && given_up && exchange(alloc, &idle, each)?)
+}
+
+/// Whether each of three connections that can't be served is closed, one after the other. Behind each one an era is
+/// ended, for which all permits are gathered: there are two, so one that were lost would be waited for in vain.
+pub(crate) fn are_closed<R: AllocGlobal + SystemNet>(rt: &R, tcp: SocketAddr) -> io::Result<bool> {
+    let mut are_closed = true;
+    for _ in 0..3 {
+        let stream = connect(rt, tcp)?;
+        are_closed = are_closed && is_closed(&stream);
+    }
+    Ok(are_closed)
+}
+
+#[test]
+fn peers_that_can_not_be_served(rt: HostRuntime) -> Result<(), Fail> {
+    assert!(rt; is_served_within(rt, &THREE_APART, NO_TIME, Visit::Unserved)?);
+    Ok(())
 }
 
 #[test]
