@@ -95,14 +95,14 @@ const CALL_LOCK: [u32; 4] = [1, 2, 0x63320000, 32];
 /// What a host may answer.
 pub(super) const GRANTED: u32 = 0;
 
-const DENIED: u32 = 1;
+pub(super) const DENIED: u32 = 1;
 
 /// Where the cookie stands in the call, and how many bytes it and the whole call have.
 const COOKIE_AT: usize = 48;
 
 const COOKIE_SIZE: usize = 8;
 
-const CALL_SIZE: usize = 132;
+pub(super) const CALL_SIZE: usize = 132;
 
 /// Words, bytes, and words.
 pub(super) fn around(

@@ -2,12 +2,13 @@
 //! order and once, also while another does not answer, and one that could not be reached is passed over for a while.
 
 use crate::tests::callbacks::{
-    GRANTED, LOCK, LockExchange, UNLOCK, around, create, is_answered, is_heard,
+    CALL_SIZE, DENIED, GRANTED, LOCK, LockExchange, UNLOCK, around, create, is_answered, is_heard,
 };
 use crate::tests::clients::{MOST, PATIENCE, Visit, connect, spelled};
 use crate::tests::is_served;
 use nfs_server::{NetworkRuntime, SystemNet};
 use std::alloc::{AllocError, Global};
+use std::io::Read;
 use std::net::{IpAddr, Ipv4Addr, Net, SocketAddr, TcpListener, TcpStream, UdpSocket};
 use std::process::Abort;
 use std::rt::Clock;
@@ -22,6 +23,9 @@ type Request = (u8, u32);
 /// Requests in the order in which they come, and so in which they are granted. The fourth host is not called back.
 const REQUESTS: [Request; 6] = [(2, 1), (3, 2), (4, 3), (2, 4), (3, 5), (2, 6)];
 
+/// The byte that the third host does not want any more: it answers DENIED.
+const UNWANTED: u32 = 2;
+
 /// The same, where the second host can't be reached at first.
 const REQUESTS_UNREACHED: [Request; 4] = [(2, 1), (3, 2), (2, 3), (3, 4)];
 
@@ -30,6 +34,18 @@ const REQUESTS_UNANSWERED: [Request; 6] = [(2, 1), (2, 2), (3, 3), (2, 4), (3, 5
 
 /// In how many seconds a host is told beside one that does not answer, which is waited for five.
 const SOON: u64 = 3;
+
+/// For how many seconds at least one is waited for that does not answer.
+const LEAST_WAIT: u64 = 4;
+
+/// TEST by c1 of the byte that the third host does not want, which finds nothing in its way: GRANTED.
+const FREE_UNWANTED: LockExchange = (
+    &[
+        0x8000007c, 6, 0, 2, 100021, 4, 1, 0, 0, 0, 0, 4, 0xc00c1e00, 1, 2, 0x63310000, 32,
+    ],
+    &[1, 0x01000000, 1, 0, 2, 0, 1],
+    &[0x80000024, 6, 1, 0, 0, 0, 0, 4, 0xc00c1e00, 0],
+);
 
 /// UNLOCK of what stands before byte 3 by c1: GRANTED.
 const UNLOCK_FRONT: LockExchange = (
@@ -124,17 +140,28 @@ fn accepted<R: Clock>(rt: &R, listener: &TcpListener) -> io::Result<TcpStream> {
     Err(io::Error::from(io::ErrorKind::TimedOut))
 }
 
-/// Whether the next call that comes tells a host that its byte is granted. It answers so.
+/// Whether the next call that comes tells a host that its byte is granted. It answers with this status.
+fn hears<R: AllocGlobal + Clock>(
+    rt: &R,
+    listener: &TcpListener,
+    file: &[u8],
+    request: Request,
+    status: u32,
+) -> io::Result<bool> {
+    let stream = accepted(rt, listener)?;
+    stream.set_read_timeout(Some(Duration::from_secs(PATIENCE)))?;
+    let lock = [1, 0x01000000, u32::from(request.0), 0, request.1, 0, 1];
+    is_heard(rt.alloc(), &stream, file, request.1, &lock, status)
+}
+
+/// The same, where it answers that it was granted.
 fn is_told<R: AllocGlobal + Clock>(
     rt: &R,
     listener: &TcpListener,
     file: &[u8],
     request: Request,
 ) -> io::Result<bool> {
-    let stream = accepted(rt, listener)?;
-    stream.set_read_timeout(Some(Duration::from_secs(PATIENCE)))?;
-    let lock = [1, 0x01000000, u32::from(request.0), 0, request.1, 0, 1];
-    is_heard(rt.alloc(), &stream, file, request.1, &lock, GRANTED)
+    hears(rt, listener, file, request, GRANTED)
 }
 
 /// Whether no connection has come.
@@ -153,16 +180,18 @@ fn all_are_told<R: AllocGlobal + Clock>(
     let mut is_well = true;
     for request in &REQUESTS {
         is_well = is_well
-            && match request.0 {
-                2 => is_told(rt, second, file, *request)?,
-                3 => is_told(rt, third, file, *request)?,
+            && match *request {
+                (2, _) => is_told(rt, second, file, *request)?,
+                (3, UNWANTED) => hears(rt, third, file, *request, DENIED)?,
+                (3, _) => is_told(rt, third, file, *request)?,
                 _ => true,
             };
     }
     Ok(is_well && is_left_alone(second)? && is_left_alone(third)?)
 }
 
-/// Whether two hosts are called back, each where it listens here, and the one that is not called back gets nothing.
+/// Whether two hosts are called back, each where it listens here, and the one that is not called back gets nothing. What
+/// the third host answered to its first call was taken in before its next one: the byte is free.
 pub(crate) fn are_called_back<R: AllocGlobal + Clock + SystemNet>(
     rt: &R,
     tcp: SocketAddr,
@@ -178,7 +207,8 @@ pub(crate) fn are_called_back<R: AllocGlobal + Clock + SystemNet>(
     Ok(
         all_wait(rt, udp, &stream, &file, &REQUESTS)?
             && is_answered(rt.alloc(), &stream, &file, UNLOCK)?
-            && all_are_told(rt, second, third, &file)?,
+            && all_are_told(rt, second, third, &file)?
+            && is_answered(rt.alloc(), &stream, &file, FREE_UNWANTED)?,
     )
 }
 
@@ -242,7 +272,20 @@ pub(crate) fn is_told_beside<R: AllocGlobal + Clock + SystemNet>(
     )
 }
 
-/// Whether the third host is told of its own soon, once a call of the second one has come, which gets no answer.
+/// Whether a host that has taken a call and does not answer is given up, and not at once.
+fn is_given_up<R: Clock>(rt: &R, stream: &TcpStream, begin: Instant) -> io::Result<bool> {
+    stream.set_nonblocking(false)?;
+    stream.set_read_timeout(Some(Duration::from_secs(PATIENCE)))?;
+    let mut stream = stream;
+    let mut call = [0u8; CALL_SIZE];
+    stream.read_exact(&mut call)?;
+    let mut more = [0u8; 1];
+    let count = stream.read(&mut more)?;
+    Ok(count == 0 && begin.elapsed(rt)? >= Duration::from_secs(LEAST_WAIT))
+}
+
+/// Whether the third host is told of its own soon, once a call of the second one has come, which gets no answer, and
+/// whose host is given up then.
 fn is_told_soon<R: AllocGlobal + Clock>(
     rt: &R,
     second: &TcpListener,
@@ -256,8 +299,10 @@ fn is_told_soon<R: AllocGlobal + Clock>(
         is_well = is_well && (request.0 == 2 || is_told(rt, third, file, *request)?);
     }
     let took = begin.elapsed(rt)?;
+    let is_given_up = is_given_up(rt, &unanswered, begin)?;
     drop(unanswered);
-    Ok(is_well && is_left_alone(third)? && took < Duration::from_secs(SOON))
+    let is_soon = took < Duration::from_secs(SOON);
+    Ok(is_well && is_soon && is_given_up && is_left_alone(second)? && is_left_alone(third)?)
 }
 
 /// Whether a server that calls the second host and the third back at these addresses serves this visit well.
