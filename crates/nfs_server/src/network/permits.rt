@@ -24,6 +24,10 @@ const LOOK: u64 = 1000;
 /// that, in which nobody is served.
 const HURRY: u64 = 20;
 
+/// How often the era thread waits a second for the next permit: one that does not come in an hour was lost. A process
+/// that was stopped, for however long, goes on within one of these waits.
+const MOST_WAITS: usize = 3_600;
+
 /// A seat with its pool: the leave to execute calls.
 #[derive(Drop)]
 pub(crate) struct Permit<L: Ledger + Naming> {
@@ -195,7 +199,7 @@ impl<L: Ledger + Naming> EraThread<L> {
     ///
     /// # Errors
     ///
-    /// A record has no receipt (`Receipts`). A permit that was lost is waited for, for good.
+    /// A record has no receipt, or a permit was lost (`Receipts`).
     pub(crate) fn work<R: Wait + Clock>(
         &self,
         rt: &R,
@@ -269,7 +273,7 @@ impl<L: Ledger + Naming> EraThread<L> {
 
     /// Ends the era, hands out the permits of the next one, and compares what is over. None where a seat is missing, or
     /// a record has no receipt.
-    fn end_era<R: Wait>(
+    fn end_era<R: Wait + Clock>(
         &self,
         rt: &R,
         alloc: Global,
@@ -313,8 +317,9 @@ impl<L: Ledger + Naming> EraThread<L> {
         }
     }
 
-    /// All seats, and the pool, which nobody else has then; and whether nobody calls any more. It takes no memory.
-    fn gather<R: Wait>(
+    /// All seats, and the pool, which nobody else has then; and whether nobody calls any more. It takes no memory. None
+    /// where a permit was lost.
+    fn gather<R: Wait + Clock>(
         &self,
         rt: &R,
         first: Permit<L>,
@@ -333,12 +338,17 @@ impl<L: Ledger + Naming> EraThread<L> {
         Some((permit.pool, is_last))
     }
 
-    /// The next permit that comes, handed in or free.
-    fn next<R: Wait>(&self, rt: &R) -> Option<Permit<L>> {
-        match self.free.try_recv(rt) {
-            Ok(permit) => Some(permit),
-            Err(_) => self.full.recv(rt).ok(),
+    /// The next permit that comes, handed in or free. None where none comes.
+    fn next<R: Wait + Clock>(&self, rt: &R) -> Option<Permit<L>> {
+        for _ in 0..MOST_WAITS {
+            if let Ok(permit) = self.free.try_recv(rt) {
+                return Some(permit);
+            }
+            if let Ok(permit) = self.full.recv_timeout(rt, Duration::from_secs(1)) {
+                return Some(permit);
+            }
         }
+        None
     }
 
     /// Hands all permits out. Nobody has one before, and so none is given to the era thread any more.
