@@ -17,8 +17,11 @@ struct Trouble {
     text: &'static str,
 }
 
+/// How many kinds there are.
+const KINDS: usize = 6;
+
 /// The kinds of trouble.
-const TROUBLES: [Trouble; 5] = [
+const TROUBLES: [Trouble; KINDS] = [
     Trouble {
         event: CountedEvent::TurnedAway,
         text: "connections above --connections, closed at once",
@@ -30,6 +33,10 @@ const TROUBLES: [Trouble; 5] = [
     Trouble {
         event: CountedEvent::Starved,
         text: "connections closed for want of memory",
+    },
+    Trouble {
+        event: CountedEvent::DatagramDropped,
+        text: "datagrams dropped for want of memory",
     },
     Trouble {
         event: CountedEvent::CallbackFailed,
@@ -52,7 +59,7 @@ pub(crate) struct Reporter {
 impl Reporter {
     /// Says what is to be said, for ever.
     pub(crate) fn work<R: Wait + Clock + Eprint>(&self, rt: &R, alloc: Global) {
-        let mut told = [0u64; 5];
+        let mut told = [0u64; KINDS];
         let mut seconds: u64 = 0;
         for _ in rt.forever() {
             thread::sleep(rt, Duration::from_secs(1));
@@ -68,7 +75,7 @@ impl Reporter {
     }
 
     /// Says which trouble there was since it was said last.
-    fn tell_troubles<R: Eprint>(&self, rt: &R, told: &mut [u64; 5]) {
+    fn tell_troubles<R: Eprint>(&self, rt: &R, told: &mut [u64; KINDS]) {
         for (trouble, before) in TROUBLES.iter().zip(told.iter_mut()) {
             let now = self.counters.of(trouble.event);
             let count = now.saturating_sub(*before);
