@@ -1,10 +1,12 @@
 //! What the server's clock makes of the machine's, which a contract cannot speak of.
 
-use nfs_machine::Moments;
-use nfs_server::{ServerClock, start_number};
+use nfs_machine::{Moment, Moments};
+use nfs_server::{Latest, ServerClock, start_number};
+use std::alloc::AllocError;
 use std::cell::Cell;
 use std::io;
 use std::rt::Clock;
+use std::sync::Arc;
 use std::time::Duration;
 
 /// A clock that gives the time that was set, or none.
@@ -58,6 +60,33 @@ fn the_machine_s_clock_falls_back_on_the_last_moment(rt: HostRuntime) {
             "at {time:?}"
         );
     }
+}
+
+/// The first moment of a clock beside this latest moment, at this time.
+fn moment_beside(latest: &Arc<Latest>, time: Duration) -> Result<(u32, u32), AllocError> {
+    let time = set(Some(time));
+    let mut clock = ServerClock::beside(&time, None, latest)?;
+    let moment = clock.moment();
+    Ok((moment.seconds, moment.nanoseconds))
+}
+
+/// A clock gives no moment before one that another clock of its server gave.
+#[test]
+fn clocks_of_a_server_go_behind_none_of_theirs(rt: HostRuntime) -> Result<(), AllocError> {
+    let begin = Moment {
+        seconds: 0,
+        nanoseconds: 0,
+    };
+    let latest = Arc::new(rt.alloc(), Latest::new(begin))?;
+    let given = [
+        (Duration::new(1000, 5), (1000, 5)),
+        (Duration::from_secs(999), (1000, 5)),
+        (Duration::from_secs(1001), (1001, 0)),
+    ];
+    for (time, moment) in given {
+        assert_eq!(rt; moment_beside(&latest, time)?, moment, "at {time:?}");
+    }
+    Ok(())
 }
 
 #[test]

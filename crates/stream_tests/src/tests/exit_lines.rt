@@ -17,6 +17,14 @@ fn is_told(
     Ok(())
 }
 
+/// The exit where an address can't be listened on has this line and status 1.
+fn cannot_listen(rt: &(impl Abort + AllocGlobal), address: &str, line: &str) -> Result<(), Fail> {
+    let exit = Exit::CannotListen(String::from_str(rt.alloc(), address)?);
+    let told = is_told(rt, &exit, 1, line);
+    drop(exit);
+    told
+}
+
 /// A fault of exports has this line and status 1.
 fn is_refused(rt: &(impl Abort + AllocGlobal), fault: ExportError, line: &str) -> Result<(), Fail> {
     let exit = Exit::from(fault);
@@ -32,9 +40,20 @@ fn each_exit_has_a_status_and_a_line(rt: HostRuntime) -> Result<(), Fail> {
     is_told(&rt, &Exit::NoRandomBytes, 1, "nfsd: no random bytes")?;
     is_told(
         &rt,
+        &Exit::Receipts,
+        1,
+        "nfsd: a record without its receipt",
+    )?;
+    is_told(
+        &rt,
         &Exit::StandardStream,
         1,
         "nfsd: standard stream failed",
+    )?;
+    cannot_listen(
+        &rt,
+        "127.0.0.1:2049",
+        "nfsd: cannot listen on 127.0.0.1:2049",
     )
 }
 
