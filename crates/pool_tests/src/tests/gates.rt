@@ -60,7 +60,7 @@ pub(super) struct Meeting {
     pub(super) answered: AtomicU64,
     /// 1 where the first call was let go before.
     late: AtomicU64,
-    /// 1 once a call that is counted waits for an address.
+    /// How often a call that is counted waits for an address.
     pub(super) waits: AtomicU64,
     /// Of the first call, where its steps are counted.
     acquired: AtomicU64,
@@ -93,10 +93,10 @@ fn copy(from: &AtomicU64, to: &AtomicU64) {
     to.store(count(from), Ordering::SeqCst);
 }
 
-/// Waits until this is 1; no where it takes too long.
+/// Waits until this is above 0; no where it takes too long.
 pub(super) fn comes<R: Runs>(rt: &R, word: &AtomicU64) -> bool {
     for _turn in 0..TURNS {
-        if count(word) == 1 {
+        if count(word) > 0 {
             return true;
         }
         thread::sleep(rt, Duration::from_millis(1));
@@ -170,7 +170,7 @@ impl<'a, L: Ledger + Naming> Steps<L> for Counting<'a, L> {
     }
 
     fn wait_for<R: Wait>(&self, rt: &R, address: Addr, mode: Mode) {
-        self.meeting.waits.store(1, Ordering::SeqCst);
+        self.meeting.waits.fetch_add(1, Ordering::SeqCst);
         self.pool.wait_for(rt, address, mode);
     }
 

@@ -66,7 +66,7 @@ impl Part for Wakes {
     }
 }
 
-/// Who waits for an address is woken by who releases it.
+/// Who waits for an address is woken by who releases it, and not before: it waits once, since nobody else has the root.
 #[test]
 fn a_release_wakes_who_waits(rt: HostRuntime) -> Result<(), AllocError> {
     let wakes = Wakes {
