@@ -8,6 +8,7 @@ mod beside;
 mod buried;
 mod callers;
 mod calls;
+mod deep;
 mod ends;
 mod gates;
 mod holds;

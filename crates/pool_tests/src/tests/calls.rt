@@ -59,6 +59,8 @@ pub(super) enum Ask {
     Rmdir(u32),
     /// RENAME of a name to another.
     Rename(u32, u32),
+    /// RENAME of a name to another one in the file, which is a directory then.
+    RenameInto(u32, u32),
     /// MNT of `/data`.
     Mount,
     /// LOCK of the file's first byte, alone and at once.
@@ -107,7 +109,7 @@ impl Ask {
             Ask::Link(_) => 15,
             Ask::Mkdir(_) => 9,
             Ask::Rmdir(_) => 13,
-            Ask::Rename(..) => 14,
+            Ask::Rename(..) | Ask::RenameInto(..) => 14,
             Ask::Readdir(_) => 16,
             Ask::Readdirplus(_) => 17,
         }
@@ -141,6 +143,10 @@ impl Ask {
             Ask::Rename(from, to) => {
                 add_on(bytes, 32, directory, &[4, *from])?;
                 add_on(bytes, 32, directory, &[4, *to])
+            }
+            Ask::RenameInto(from, to) => {
+                add_on(bytes, 32, directory, &[4, *from])?;
+                add_on(bytes, 32, file, &[4, *to])
             }
             Ask::Mount => add(bytes, &PATH),
             Ask::Lock => {
