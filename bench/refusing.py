@@ -40,6 +40,7 @@ TESTS = {
         "an_era_ends_in_the_room_of_the_one_before_it",
         "a_pool_is_stopped_with_its_records",
         "a_call_is_refused_at_each_of_its_steps",
+        "a_call_is_refused_in_each_shard",
     ],
 }
 
