@@ -62,23 +62,44 @@ const TOLD: &str = " nfs_getattr=2 mount_export=1 nlm_free_all=1 \
     messages_sent=0 messages_dropped=0 callbacks_failed=0 eras=0 \
     objects=20 kept_hosts=2 kept_replies=5 kept_bytes=1234";
 
-#[test]
-fn counts_are_told_by_name(rt: HostRuntime) -> Result<(), Fail> {
-    let counters = Counters::new(rt.alloc())?;
-    let before = counters.words(rt.alloc())?;
-    assert!(rt; before.as_str() == NOTHING);
+/// Whether these are the words by which they are told.
+fn are_told(alloc: Global, counters: &Counters, wanted: &str) -> Result<bool, AllocError> {
+    let words = counters.words(alloc)?;
+    Ok(words.as_str() == wanted)
+}
+
+/// A call is counted.
+fn count(alloc: Global, counters: &Counters, call: &[u8]) -> Result<(), AllocError> {
+    let record = Bytes::copy_from_slice(alloc, call)?;
+    counters.count_call(&record);
+    Ok(())
+}
+
+/// All that is called is counted.
+fn count_calls(alloc: Global, counters: &Counters) -> Result<(), AllocError> {
     for call in CALLS.iter() {
-        let record = Bytes::copy_from_slice(rt.alloc(), call.as_slice())?;
-        counters.count_call(&record);
+        count(alloc, counters, call.as_slice())?;
     }
+    Ok(())
+}
+
+/// What happens is counted, and what stands is set.
+fn count_others(counters: &Counters) {
     for event in HAPPENED.iter() {
         counters.happened(*event);
     }
     for (gauge, value) in STANDS.iter() {
         counters.set(*gauge, *value);
     }
-    let words = counters.words(rt.alloc())?;
-    assert!(rt; words.as_str() == TOLD);
+}
+
+#[test]
+fn counts_are_told_by_name(rt: HostRuntime) -> Result<(), Fail> {
+    let counters = Counters::new(rt.alloc())?;
+    assert!(rt; are_told(rt.alloc(), &counters, NOTHING)?);
+    count_calls(rt.alloc(), &counters)?;
+    count_others(&counters);
+    assert!(rt; are_told(rt.alloc(), &counters, TOLD)?);
     Ok(())
 }
 
@@ -86,10 +107,8 @@ fn counts_are_told_by_name(rt: HostRuntime) -> Result<(), Fail> {
 #[test]
 fn a_record_that_is_cut_calls_nothing(rt: HostRuntime) -> Result<(), Fail> {
     let counters = Counters::new(rt.alloc())?;
-    let record = Bytes::copy_from_slice(rt.alloc(), &GETATTR[..23])?;
-    counters.count_call(&record);
-    let words = counters.words(rt.alloc())?;
-    assert!(rt; words.as_str() == NOTHING);
+    count(rt.alloc(), &counters, &GETATTR[..23])?;
+    assert!(rt; are_told(rt.alloc(), &counters, NOTHING)?);
     Ok(())
 }
 
@@ -176,7 +195,13 @@ fn executed_of(alloc: Global, received: Received) -> Result<Arc<Executed>, Alloc
         reply: Reply::Replaced,
         messages: Vec::new(alloc),
     };
-    Arc::new(alloc, executed).map_err(|_| AllocError)
+    match Arc::new(alloc, executed) {
+        Ok(executed) => Ok(executed),
+        Err(refused) => {
+            drop(refused);
+            Err(AllocError)
+        }
+    }
 }
 
 /// The record of a call.
