@@ -1,6 +1,7 @@
 -- What goes over a connection goes on.
 use Rattle.std.proofs.Common.{◌≡◌, ◌⊎◌, inl, inr, ℕ, List, [], ◌∷◌, ◌++◌, length, take, append_assoc, append-nil}
 use Rattle.std.proofs.Common.{Option, Some, None, Result, Ok, Err, OnOk, IsErrOf, refl, sym, ◌∙◌, ap, subst}
+use Rattle.std.proofs.Common.{◌+◌, ◌≤◌, suc, arith}
 use Rattle.std.proofs.Math.Seq.{take-append_seam}
 use Rattle.std.proofs.KnownBytes.{Appends-nil, Appends-trans, Consumes-nil, Consumes-trans}
 use Rattle.std.specs.List.{concat}
@@ -269,6 +270,25 @@ module _ (host : List ℕ) (n m : ℕ) (a b : ConnectionValue) (unread x y z : O
     then_breaks part =
         goes_break host n m a b unread unread x y z goes
         (breaks_sent host m b unread y z (subst (λ (v : ConnectionValue). WritesPart y z (waiting v)) equal part))
+
+-- ---- how many records were given
+-- one more was given, and answered
+pub given_more : (n k : ℕ) (r : List ℕ) (old mid new : RecordsValue) → n ≤ length old.queued + k →
+    old ≡ record mid { queued = r ∷ mid.queued } → new ≡ mid → n ≤ length new.queued + (k + 1)
+given_more n k r old mid new few gives same =
+    let one : length old.queued ≡ suc (length mid.queued) = ap (λ (v : RecordsValue). length v.queued) gives in
+    let still : length new.queued ≡ length mid.queued = ap (λ (v : RecordsValue). length v.queued) same in
+    omega (arith, few, one, still)
+
+-- what waited is sent behind them
+pub given_all : (n k most : ℕ) (later now new : ConnectionValue) → n ≤ length now.records.queued + k → k ≤ most →
+    later ≡ now → SendsAll later new → n ≤ length new.records.queued + most
+given_all n k most later now new few low equal all =
+    let still : length new.records.queued ≡ length later.records.queued =
+    ap (λ (v : ConnectionValue). length v.records.queued) all in
+    let so : length later.records.queued ≡ length now.records.queued =
+    ap (λ (v : ConnectionValue). length v.records.queued) equal in
+    omega (arith, few, low, still, so)
 
 -- ---- pieces
 -- what was read after a wait in which nothing came

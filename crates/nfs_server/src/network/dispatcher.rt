@@ -1,6 +1,6 @@
 //! What answers records: each is executed on a permit, and no permit is held while answers are sent.
 
-ghost use Rattle.std.specs.Prelude.{◌≡◌, ◌++◌, ◌<◌, ℕ, List, Option, [], false, true};
+ghost use Rattle.std.specs.Prelude.{◌≡◌, ◌++◌, ◌+◌, ◌<◌, ◌≤◌, ℕ, List, Option, [], false, true, length};
 ghost use Rattle.std.specs.Prelude.{IfErr, IfNone, IfOk, IsSome, OnErr, OnOk};
 ghost use Rattle.nfs_machine.specs.Run as machine;
 ghost use Rattle.nfs_engine.specs.Arrivals.{incoming_value, received_value};
@@ -102,6 +102,8 @@ impl<L: Ledger + Naming, C: Clock> Dispatcher<L, C> {
             connection.old connection.new unread unread (P.written link.old.peer) (P.written link.new.peer)) }
         ensures sent { OnOk result (waiting connection.old ≡ [] → waiting connection.new ≡ []) }
         ensures none { IfOk result (λ some. IfNone some (connection.new.records.queued ≡ [])) }
+        ensures few { OnOk result
+            (length connection.old.records.queued ≤ length connection.new.records.queued + 64) }
         ensures breaks { OnErr result ((unread : Option (List ℕ)) → IsCutOff link.old.host self.old.last connection.old
             unread (P.written link.old.peer) (P.written link.new.peer)) }
         ensures unread { P.unread link.new.peer ≡ P.unread link.old.peer }
@@ -114,7 +116,7 @@ impl<L: Ledger + Naming, C: Clock> Dispatcher<L, C> {
         let (mut permit, mut is_refused) = self.answer_next(
             rt, alloc, link, permit, first, connection,
         )?;
-        'records: for _ in 1..MOST_RECORDS {
+        'records: for _given in 1..MOST_RECORDS {
             let Some(message) = connection.next() else {
                 break;
             };

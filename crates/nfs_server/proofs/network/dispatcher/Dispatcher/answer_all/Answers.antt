@@ -1,6 +1,7 @@
-use Rattle.std.proofs.Common.{◌≡◌, ◌∙◌, refl}
+use Rattle.std.proofs.Common.{◌≡◌, ◌∙◌, arith, refl}
 use Rattle.nfs_server.proofs.AnsweredLinesLemmas.{on_err}
-use Rattle.nfs_server.proofs.ConversationLemmas.{goes_none, next_breaks, next_goes, then_breaks, then_sent}
+use Rattle.nfs_server.proofs.ConversationLemmas.{given_all, given_more, goes_none, next_breaks, next_goes}
+use Rattle.nfs_server.proofs.ConversationLemmas.{then_breaks, then_sent}
 use Rattle.nfs_server.proofs.network.dispatcher.Dispatcher.answer_all.Goals as goal
 use Rattle.nfs_server.proofs.network.dispatcher.Dispatcher.answer_all.Goals.{else-records-test}
 use Rattle.nfs_server.proofs.network.dispatcher.Dispatcher.answer_all.Goals.{then-records-test+in_default-next}
@@ -22,6 +23,7 @@ records-init g c = (
   c.in_ok-permit.ensures.unread,
   c.in_ok-permit.ensures.host,
   c.in_ok-permit.ensures.room,
+  given_more _ 0 _ _ _ _ (omega (arith)) c.in-Some.ensures.some c.in_ok-permit.ensures.adds.same,
 )
 
 pub records-preserved : goal.records-preserved
@@ -33,6 +35,8 @@ records-preserved g c = (
   c.in_ok-left.ensures.unread ∙ c.records.invariant.1,
   c.in_ok-left.ensures.host ∙ c.records.invariant.2,
   c.in_ok-left.ensures.room,
+  given_more _ c.records._given _ _ _ _ c.records.invariant.4 c.in-Some-next.ensures.some
+      c.in_ok-left.ensures.adds.same,
 )
 
 pub returns-in_err-left-clause-breaks : goal.returns-in_err-left-clause-breaks
@@ -63,3 +67,13 @@ returns-clause-goes g c =
     λ unread.
     then_sent _ _ _ _ _ unread _ _ _ (c.records.invariant.0 unread) c.records-test.connection same _
     c.send.ensures.sent c.in_ok-send.ensures.ok
+
+pub returns-clause-few : goal.returns-clause-few
+returns-clause-few g c =
+    let same : c.records-test.connection ≡ c.records.connection =
+    elim c.records-test.branch [
+      | else-records-test w ↦ w.connection-is
+      | then-records-test+in_default-next w ↦ w.connection-is ∙ w.in_default-next.ensures.none.1
+    ] in
+    given_all _ c.records._given _ c.records-test.connection c.records.connection c.send.new.connection
+    c.records.invariant.4 (omega (arith, c.records.auto._given, c.records.auto._given-end)) same c.send.ensures.sent

@@ -1,4 +1,4 @@
-use Rattle.std.proofs.Common.{◌≡◌, ℕ, List, Option, false}
+use Rattle.std.proofs.Common.{◌≡◌, ◌+◌, ◌≤◌, length, ℕ, List, Option, false}
 use Rattle.nfs_server.specs.Conversations.{GoesOn}
 use Rattle.nfs_server.proofs.network.dispatcher.Dispatcher.answer_all.Given as goal
 
@@ -9,3 +9,4 @@ invariant-records g l =
     × (g.P.Peer.unread l.link.peer ≡ g.P.Peer.unread l.fn.link.peer)
     × (l.link.host ≡ l.fn.link.host)
     × (l.connection.full ≡ false)
+    × (length l.fn.connection.records.queued ≤ length l.connection.records.queued + l._given)
