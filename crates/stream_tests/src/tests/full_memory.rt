@@ -42,17 +42,97 @@ const FEW: u32 = 200;
 /// No server makes as many names in what is left.
 const MOST: u32 = 100_000;
 
+/// Where the status of NFS stands in an answer, in bytes: behind the mark and six words (RFC 5531, section 9).
+const STATUS: usize = 28;
+
 /// NFS3_OK and NFS3ERR_JUKEBOX (RFC 1813, 2.6).
 const OK: u32 = 0;
 
 const JUKEBOX: u32 = 10008;
 
+/// DENIED_NOLOCKS (RFC 1813, 6.1.4).
+const NO_LOCKS: u32 = 2;
+
+/// CREATE GUARDED of `~~~~` in the root, with no attributes given: the first new object, which stays.
+const FIRST: [u32; 29] = [
+    0x80000070, 1, 0, 2, 100003, 3, 8, 0, 0, 0, 0, 32, 0x4e464433, 1, 0, 7, 0, 1, 0, 1, 4,
+    0x7e7e7e7e, 1, 0, 0, 0, 0, 0, 0,
+];
+
+/// A call that may add something.
+#[derive(Clone, Copy)]
+struct Adding {
+    words: &'static [u32],
+    /// Where its status stands in the answer, in bytes.
+    place: usize,
+    /// The status by which it is refused for want of memory.
+    refusal: u32,
+}
+
+/// WRITE of a word into the first new object; LINK of it under `~~~b`; SYMLINK at `~~~c` with `a` for its text; MKNOD
+/// of a FIFO at `~~~d`; RENAME of the object to `~~~e`; and LOCK of its first byte, alone and at once, in whose answer
+/// the status stands behind a cookie of no bytes (RFC 1813, 3.3 and 6.3.2).
+const ADDING: [Adding; 6] = [
+    Adding {
+        words: &[
+            0x80000064, 2, 0, 2, 100003, 3, 7, 0, 0, 0, 0, 32, 0x4e464433, 1, 0, 7, 0, 17, 0, 2, 0,
+            0, 4, 2, 4, 1,
+        ],
+        place: STATUS,
+        refusal: JUKEBOX,
+    },
+    Adding {
+        words: &[
+            0x80000078, 4, 0, 2, 100003, 3, 15, 0, 0, 0, 0, 32, 0x4e464433, 1, 0, 7, 0, 17, 0, 2,
+            32, 0x4e464433, 1, 0, 7, 0, 1, 0, 1, 4, 0x7e7e7e62,
+        ],
+        place: STATUS,
+        refusal: JUKEBOX,
+    },
+    Adding {
+        words: &[
+            0x80000074, 5, 0, 2, 100003, 3, 10, 0, 0, 0, 0, 32, 0x4e464433, 1, 0, 7, 0, 1, 0, 1, 4,
+            0x7e7e7e63, 0, 0, 0, 0, 0, 0, 1, 0x61000000,
+        ],
+        place: STATUS,
+        refusal: JUKEBOX,
+    },
+    Adding {
+        words: &[
+            0x80000070, 6, 0, 2, 100003, 3, 11, 0, 0, 0, 0, 32, 0x4e464433, 1, 0, 7, 0, 1, 0, 1, 4,
+            0x7e7e7e64, 7, 0, 0, 0, 0, 0, 0,
+        ],
+        place: STATUS,
+        refusal: JUKEBOX,
+    },
+    Adding {
+        words: &[
+            0x80000080, 7, 0, 2, 100003, 3, 14, 0, 0, 0, 0, 32, 0x4e464433, 1, 0, 7, 0, 1, 0, 1, 4,
+            0x7e7e7e7e, 32, 0x4e464433, 1, 0, 7, 0, 1, 0, 1, 4, 0x7e7e7e65,
+        ],
+        place: STATUS,
+        refusal: JUKEBOX,
+    },
+    Adding {
+        words: &[
+            0x80000084, 8, 0, 2, 100021, 4, 2, 0, 0, 0, 0, 0, 0, 1, 1, 0x63000000, 32, 0x4e464433,
+            1, 0, 7, 0, 17, 0, 2, 1, 0x01000000, 1, 0, 0, 0, 1, 0, 0,
+        ],
+        place: STATUS + 4,
+        refusal: NO_LOCKS,
+    },
+];
+
 /// What is done at present with names in the root.
 #[derive(Clone, Copy, PartialEq, Eq)]
 enum Stage {
-    /// They are made, until that is refused for want of memory.
+    /// The first object is made.
+    First,
+    /// Names are made, until that is refused for want of memory.
     Making,
-    /// Each of them is removed.
+    /// Calls that may add something are sent.
+    Adding,
+    /// Each name is removed.
     Removing,
     /// As many are made again.
     MakingAgain,
@@ -67,6 +147,9 @@ struct Progress {
     most: u32,
     calls: u32,
     made: u32,
+    added: u32,
+    /// How many of the calls that may add something were refused.
+    refused: u32,
     removed: u32,
     made_again: u32,
 }
@@ -74,40 +157,71 @@ struct Progress {
 impl Progress {
     fn new(most: u32) -> Progress {
         Progress {
-            stage: Stage::Making,
+            stage: Stage::First,
             most,
             calls: 0,
             made: 0,
+            added: 0,
+            refused: 0,
             removed: 0,
             made_again: 0,
         }
     }
 
-    /// The number of the name that is next.
+    /// The number of the name that is next, or of the call.
     fn number(&self) -> u32 {
         match self.stage {
+            Stage::First => 0,
             Stage::Making => self.made,
+            Stage::Adding => self.added,
             Stage::Removing => self.removed,
             Stage::MakingAgain | Stage::Over => self.made_again,
         }
     }
 
-    /// Behind the call on the name that was next, which was answered so.
-    fn answered(self, status: Option<u32>) -> Progress {
-        match status {
+    /// Behind the call that was next, which was answered so.
+    fn answered(self, answer: &[u8]) -> Progress {
+        let (place, refusal) = match self.adding() {
+            Some(call) => (call.place, call.refusal),
+            None => (STATUS, JUKEBOX),
+        };
+        match status(answer, place) {
             Some(OK) => self.done(),
-            Some(JUKEBOX) if self.stage == Stage::Making => self.at(Stage::Removing),
+            Some(word) if word == refusal => self.refused(),
             _ => self.at(Stage::Over),
         }
     }
 
-    /// The call on the name that was next is done.
+    /// The call that may add something, where that is next.
+    fn adding(&self) -> Option<Adding> {
+        match self.stage {
+            Stage::Adding => ADDING.get(self.added as usize).copied(),
+            _ => None,
+        }
+    }
+
+    /// The call that was next was refused for want of memory.
+    fn refused(self) -> Progress {
+        let mut next = self;
+        match self.stage {
+            Stage::Making => self.at(Stage::Adding),
+            Stage::Adding => {
+                next.refused = self.refused.saturating_add(1);
+                next.done()
+            }
+            _ => self.at(Stage::Over),
+        }
+    }
+
+    /// The call that was next is done.
     fn done(self) -> Progress {
         let mut next = self;
         next.calls = self.calls.saturating_add(1);
         let number = self.number().saturating_add(1);
         match self.stage {
+            Stage::First => return self.at(Stage::Making),
             Stage::Making => next.made = number,
+            Stage::Adding => next.added = number,
             Stage::Removing => next.removed = number,
             Stage::MakingAgain | Stage::Over => next.made_again = number,
         }
@@ -117,7 +231,8 @@ impl Progress {
     /// The next stage where all names of this one are done.
     fn followed(self) -> Progress {
         match self.stage {
-            Stage::Making if self.made == self.most => self.at(Stage::Removing),
+            Stage::Making if self.made == self.most => self.at(Stage::Adding),
+            Stage::Adding if self.adding().is_none() => self.at(Stage::Removing),
             Stage::Removing if self.removed == self.made => self.at(Stage::MakingAgain),
             Stage::MakingAgain if self.made_again == self.made => self.at(Stage::Over),
             _ => self,
@@ -171,6 +286,11 @@ fn add_call(
 fn add_next(call: &mut Vec<u8>, progress: &Progress) -> io::Result<()> {
     let is_directory = progress.number() % 2 == 1;
     match progress.stage {
+        Stage::First => add(call, &FIRST),
+        Stage::Adding => match progress.adding() {
+            Some(adding) => add(call, adding.words),
+            None => Ok(()),
+        },
         Stage::Over => Ok(()),
         Stage::Removing if is_directory => add_call(call, 13, progress, 0x80000054, &[]),
         Stage::Removing => add_call(call, 12, progress, 0x80000054, &[]),
@@ -179,9 +299,9 @@ fn add_next(call: &mut Vec<u8>, progress: &Progress) -> io::Result<()> {
     }
 }
 
-/// The status of NFS in an answer, where the call was accepted: behind the mark and six words (RFC 5531, section 9).
-fn status(answer: &[u8]) -> Option<u32> {
-    match answer.get(28..)? {
+/// The status at this place of an answer, where the call was accepted.
+fn status(answer: &[u8], place: usize) -> Option<u32> {
+    match answer.get(place..)? {
         [a, b, c, d, ..] => Some(u32::from_be_bytes([*a, *b, *c, *d])),
         _ => None,
     }
@@ -226,14 +346,21 @@ fn is_before(clock: &impl Clock, until: Duration) -> bool {
     }
 }
 
-/// Names were made, removed and made again, first a few of them where memory was there, so that the stack was as deep
-/// as it gets before the address space was taken; then where it was full: each was removed, so many tenths came again.
+/// Names were made, removed and made again, and before they went other calls were answered: first a few of the names
+/// where memory was there, so that the stack was as deep as it gets before the address space was taken; then where it
+/// was full. Each name was removed, so many tenths came again, and where some had to, some of those calls were refused.
 fn is_emptied(rt: &impl Abort, few: Progress, full: Progress, tenths: u32) -> Result<(), Fail> {
     assert_eq!(rt; (few.made, few.removed, few.made_again), (FEW, FEW, FEW));
+    assert_eq!(rt; (few.added as usize, few.refused), (ADDING.len(), 0));
     assert!(rt;
         1000 < full.made && full.made < MOST,
         "no memory was full: {} names",
         full.made
+    );
+    assert_eq!(rt; full.added as usize, ADDING.len());
+    assert!(rt;
+        tenths == 0 || full.refused > 0,
+        "no other call was refused"
     );
     assert!(rt;
         full.removed == full.made,

@@ -29,8 +29,7 @@ struct Answers<'a> {
 
 impl Write for Answers<'_> {
     fn write(&mut self, buffer: &[u8]) -> io::Result<usize> {
-        self.progress
-            .set(self.progress.get().answered(status(buffer)));
+        self.progress.set(self.progress.get().answered(buffer));
         Ok(buffer.len())
     }
 
