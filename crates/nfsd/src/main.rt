@@ -3,10 +3,13 @@
 //! It has no contract: what its words mean, how they are refused and what is served is the library's.
 #![tactic(auto)]
 
-use nfs_server::{Exit, NetworkRuntime, Operator, arguments, configure, serve};
+use nfs_server::{Exit, Operator, arguments, configure, serve};
+use std::net::{Net, TcpListener, TcpStream};
 use std::process::ExitCode;
 use std::random::RandomSource;
-use std::rt::Env;
+use std::rt::{Clock, Env};
+use std::sync::Wait;
+use std::thread::Threads;
 
 fn main(rt: HostRuntime) -> ExitCode {
     match run(rt) {
@@ -19,9 +22,24 @@ fn main(rt: HostRuntime) -> ExitCode {
     }
 }
 
-fn run<R: NetworkRuntime + Env + Input + Print + Operator + RandomSource>(
-    rt: R,
-) -> Result<(), Exit> {
+fn run<
+    R: AllocGlobal
+        + Clock
+        + Env
+        + Input
+        + Print
+        + Eprint
+        + Operator
+        + RandomSource
+        + Net<Listener = TcpListener, Stream = TcpStream>
+        + Threads
+        + Wait
+        + Copy
+        + Drop
+        + Send
+        + Sync
+        + 'static,
+>(rt: R) -> Result<(), Exit> {
     let words = arguments(&rt)?;
     let options = configure(rt.alloc(), &words)?;
     serve(rt, options)
