@@ -20,8 +20,11 @@ mod sockets;
 mod waits;
 
 use crate::tests::clients::Visit;
-use nfs_server::{NetworkRuntime, Options, Patience, Sockets, Transport, configure, serve_sockets};
+use nfs_server::{
+    NetworkRuntime, Options, Patience, Runtime, Sockets, Transport, configure, serve_sockets,
+};
 use std::alloc::{AllocError, Global};
+use std::net::{Net, TcpListener, TcpStream};
 use std::test::Fail;
 use std::thread;
 
@@ -75,18 +78,19 @@ fn with_patience(options: Options, patience: Patience) -> Options
 }
 
 /// As `is_served_within`, where peers are waited for as ever.
-fn is_served<R: NetworkRuntime>(rt: R, more: &[&str], visit: Visit) -> Result<bool, Fail> {
+fn is_served<R: Runtime + AllocGlobal + Eprint + Net<Listener = TcpListener, Stream = TcpStream>>(
+    rt: R,
+    more: &[&str],
+    visit: Visit,
+) -> Result<bool, Fail> {
     is_served_within(rt, more, Patience::USUAL, visit)
 }
 
 /// Serves a client on sockets of the system's choice, until so many connections have come and ended as the words say.
 /// Peers are waited for so long. Whether all went as it should.
-fn is_served_within<R: NetworkRuntime>(
-    rt: R,
-    more: &[&str],
-    patience: Patience,
-    visit: Visit,
-) -> Result<bool, Fail> {
+fn is_served_within<
+    R: Runtime + AllocGlobal + Eprint + Net<Listener = TcpListener, Stream = TcpStream>,
+>(rt: R, more: &[&str], patience: Patience, visit: Visit) -> Result<bool, Fail> {
     let options = with_patience(options(rt.alloc(), more)?, patience);
     match Sockets::bind(&rt, rt.alloc(), &options) {
         Ok(sockets) => Ok(serve_beside(rt, options, sockets, visit)),

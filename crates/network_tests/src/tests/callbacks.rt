@@ -3,11 +3,11 @@
 
 use crate::tests::clients::{ANY, Visit, add_words, connect, is_next, next, send, spelled};
 use crate::tests::is_served;
-use nfs_server::{NetworkRuntime, SystemNet};
+use nfs_server::{Runtime, SystemNet};
 use std::alloc::{AllocError, Global};
 use std::io;
 use std::io::{Read, Write};
-use std::net::{SocketAddr, TcpListener, TcpStream};
+use std::net::{Net, SocketAddr, TcpListener, TcpStream};
 use std::process::Abort;
 use std::test::Fail;
 
@@ -286,7 +286,10 @@ pub(crate) fn is_called_back<R: AllocGlobal + SystemNet>(
 }
 
 /// Whether a client is called back so by a server that is told where.
-fn calls_back<R: NetworkRuntime>(rt: R, status: u32) -> Result<bool, Fail> {
+fn calls_back<R: Runtime + AllocGlobal + Eprint + Net<Listener = TcpListener, Stream = TcpStream>>(
+    rt: R,
+    status: u32,
+) -> Result<bool, Fail> {
     let listener = TcpListener::bind(&rt, "127.0.0.1:0")?;
     let address = listener.local_addr()?;
     let callback = format!(in rt.alloc(); "127.0.0.1={address}")?;

@@ -6,7 +6,7 @@ use crate::tests::callbacks::{
 };
 use crate::tests::clients::{MOST, PATIENCE, Visit, connect, spelled};
 use crate::tests::is_served;
-use nfs_server::{NetworkRuntime, SystemNet};
+use nfs_server::{Runtime, SystemNet};
 use std::alloc::{AllocError, Global};
 use std::io::Read;
 use std::net::{IpAddr, Ipv4Addr, Net, SocketAddr, TcpListener, TcpStream, UdpSocket};
@@ -306,12 +306,9 @@ fn is_told_soon<R: AllocGlobal + Clock>(
 }
 
 /// Whether a server that calls the second host and the third back at these addresses serves this visit well.
-fn is_served_with<R: NetworkRuntime>(
-    rt: R,
-    to_second: SocketAddr,
-    to_third: SocketAddr,
-    visit: Visit,
-) -> Result<bool, Fail> {
+fn is_served_with<
+    R: Runtime + AllocGlobal + Eprint + Net<Listener = TcpListener, Stream = TcpStream>,
+>(rt: R, to_second: SocketAddr, to_third: SocketAddr, visit: Visit) -> Result<bool, Fail> {
     let to_second = format!(in rt.alloc(); "127.0.0.2={to_second}")?;
     let to_third = format!(in rt.alloc(); "127.0.0.3={to_third}")?;
     let more = [
@@ -350,7 +347,7 @@ fn a_host_that_does_not_answer_holds_up_no_other(rt: HostRuntime) -> Result<(), 
 }
 
 /// An address at which nobody listens.
-fn unreached<R: SystemNet>(rt: &R) -> io::Result<SocketAddr> {
+fn unreached<R: Net<Listener = TcpListener, Stream = TcpStream>>(rt: &R) -> io::Result<SocketAddr> {
     TcpListener::bind(rt, "127.0.0.1:0")?.local_addr()
 }
 

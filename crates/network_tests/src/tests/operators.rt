@@ -9,11 +9,12 @@ use crate::tests::options;
 use nfs_machine::Exports;
 use nfs_rpc::stream::Counted;
 use nfs_server::{
-    Applied, NetworkRuntime, Operator, Options, Sockets, SystemNet, control, serve_operated,
+    Applied, NetworkRuntime, Operator, Options, Runtime, Sockets, SystemNet, control,
+    serve_operated,
 };
 use std::alloc::Global;
 use std::io::{Read, Write};
-use std::net::{Shutdown, SocketAddr, TcpListener, TcpStream};
+use std::net::{Net, Shutdown, SocketAddr, TcpListener, TcpStream};
 use std::process::Abort;
 use std::test::Fail;
 use std::{io, thread};
@@ -145,7 +146,9 @@ fn serve_beside<R: NetworkRuntime>(
 }
 
 /// Whether a client is served on sockets of the system's choice, and an operator's lines are answered.
-fn is_served<R: NetworkRuntime>(rt: R) -> Result<bool, Fail> {
+fn is_served<R: Runtime + AllocGlobal + Eprint + Net<Listener = TcpListener, Stream = TcpStream>>(
+    rt: R,
+) -> Result<bool, Fail> {
     let listener = TcpListener::bind(&rt, "127.0.0.1:0")?;
     let operator = listener.local_addr()?;
     let options = options(rt.alloc(), &OPERATED)?;

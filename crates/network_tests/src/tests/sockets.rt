@@ -1,14 +1,14 @@
 //! Addresses that can't be listened on.
 
 use crate::tests::options;
-use nfs_server::{Exit, Sockets, SystemNet};
+use nfs_server::{Exit, Sockets};
 use std::alloc::Global;
-use std::net::{SocketAddr, TcpListener, UdpSocket};
+use std::net::{Net, SocketAddr, TcpListener, TcpStream, UdpSocket};
 use std::process::Abort;
 use std::test::Fail;
 
 /// Whether the sockets of these options can't be had, for this address.
-fn is_refused<R: AllocGlobal + SystemNet>(
+fn is_refused<R: AllocGlobal + Net<Listener = TcpListener, Stream = TcpStream>>(
     rt: &R,
     more: &[&str],
     address: &str,
@@ -49,7 +49,7 @@ fn no_address(rt: HostRuntime) -> Result<(), Fail> {
 }
 
 /// Whether an address that is taken, of this kind, is refused.
-fn is_taken<R: AllocGlobal + SystemNet>(
+fn is_taken<R: AllocGlobal + Net<Listener = TcpListener, Stream = TcpStream>>(
     rt: &R,
     option: &str,
     address: SocketAddr,
