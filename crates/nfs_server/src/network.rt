@@ -90,7 +90,7 @@ struct ServiceParts<O> {
 /// # Errors
 ///
 /// `CannotListen`; `Memory` where there is none to begin; `NoTransport` where the options name no address; `Receipts`
-/// where a record has no receipt. A permit that was lost is waited for at the end of its era, for good.
+/// where a record has no receipt, or a permit does not come to the end of its era within an hour.
 pub fn serve_network<R: NetworkRuntime + Operator>(rt: R, options: Options) -> Result<(), Exit>
     requires { AreWithin options }
 {
