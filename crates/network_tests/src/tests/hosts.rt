@@ -190,8 +190,8 @@ fn all_are_told<R: AllocGlobal + Clock>(
     Ok(is_well && is_left_alone(second)? && is_left_alone(third)?)
 }
 
-/// Whether two hosts are called back, each where it listens here, and the one that is not called back gets nothing. What
-/// the third host answered to its first call was taken in before its next one: the byte is free.
+/// Whether two hosts are called back, each where it listens here, and the one that is not called back gets nothing.
+/// What the third host answered to its first call was taken in before its next one: the byte is free.
 pub(crate) fn are_called_back<R: AllocGlobal + Clock + SystemNet>(
     rt: &R,
     tcp: SocketAddr,
