@@ -30,7 +30,6 @@ use crate::arrival::{Arrival, Executed, Incoming, Reading, Received};
 use crate::asking::Asked;
 use crate::calls::{Finished, Pending, Txn};
 use crate::candidate::{Candidate, Prepared};
-use crate::changing::is_changing;
 use crate::journal::{Committed, Journal};
 use crate::kept::{Kept, keep_answer};
 use crate::objects::Objects;
@@ -223,7 +222,7 @@ impl Book {
         ensures { Admits self.old self.new
             (record { received = FromHost (received_value received); reading = readings.Asks asked }) result }
     {
-        if !is_changing(&asked.call) {
+        if !asked.call.is_changing() {
             return Err((
                 self.want(),
                 Arrival::asking(Incoming::Record(received), asked),

@@ -11,7 +11,6 @@ ghost use Rattle.nfs_engine.specs.declared.arrival.Reading.TheVariants as readin
 use crate::admission::Faulted;
 use crate::arrival::{Arrival, Incoming, Reading, Received};
 use crate::asking::Asked;
-use crate::changing::is_changing;
 use crate::request::Request;
 use nfs_machine::{Call, Ctx, Limits};
 use nfs_replies::{Origin, RecordKey};
@@ -176,7 +175,7 @@ fn origin_of_record(
 ) -> Result<Option<Origin>, AllocError>
     ensures { IfOk result (λ origin. origin ≡ origin_of (FromHost (received_value received.now)) call.now) }
 {
-    if !is_changing(call) {
+    if !call.is_changing() {
         return Ok(None);
     }
     Ok(Some(received.origin(key)?))

@@ -11,7 +11,6 @@ ghost use Rattle.nfs_engine.specs.Running.{IsBegun, IsInProgress, living_count, 
 ghost use Rattle.nfs_engine.specs.Running.{without_call};
 
 use crate::arrival::{Incoming, Received};
-use crate::changing::is_changing;
 use bytes::Bytes;
 use nfs_machine::Call;
 use nfs_replies::{HashedRef, Origin, Origins, RecordKey};
@@ -175,11 +174,11 @@ fn is_origin_of_record(origin: &Option<Origin>, received: &Received, call: &Call
 {
     match origin {
         Some(origin) => {
-            is_changing(call)
+            call.is_changing()
                 && origin.host == *received.host.text()
                 && *origin.bytes.bytes() == received.message
         }
-        None => !is_changing(call),
+        None => !call.is_changing(),
     }
 }
 

@@ -1,5 +1,8 @@
 //! Calls and replies of the three programs.
 
+ghost use Rattle.std.specs.Prelude.{◌≡◌};
+ghost use Rattle.nfs_machine.specs.Changing.{is_changing};
+
 use crate::exports::Exports;
 use nfs_wire::{NfsCall, NfsReply};
 use side_wire::{MountCall, MountReply, NlmCall, NlmReply};
@@ -12,6 +15,21 @@ pub enum Call {
     Nlm(NlmCall),
     /// These are the exports from now on. No host asks it.
     Replace(Exports),
+}
+
+impl Call {
+    /// Whether a call may change something that a host sees: objects, mounts, locks, or the messages that are to be
+    /// sent.
+    pub fn is_changing(&self) -> bool
+        ensures { result ≡ is_changing self.now }
+    {
+        match self {
+            Call::Nfs(call) => call.is_changing(),
+            Call::Mount(call) => call.is_changing(),
+            Call::Nlm(call) => call.is_changing(),
+            Call::Replace(_) => false,
+        }
+    }
 }
 
 /// What the machine answers.

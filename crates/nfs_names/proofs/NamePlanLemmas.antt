@@ -15,7 +15,8 @@ use Rattle.nfs_objects.proofs.KnowsLemmas.{Covers, among-behind, names-objects, 
 use Rattle.nfs_objects.proofs.SeenLemmas.{unknown-unseen}
 use Rattle.nfs_objects.specs.Asks.{Asks}
 use Rattle.nfs_objects.specs.Begins.{Begins}
-use Rattle.nfs_objects.specs.Calls.{IsAmong, addresses_of, named_by, new_numbers, nfs_handles, objects_at, usages_of}
+use Rattle.nfs_wire.specs.Handles.{nfs_handles}
+use Rattle.nfs_objects.specs.Calls.{IsAmong, addresses_of, named_by, new_numbers, objects_at, usages_of}
 use Rattle.nfs_objects.specs.Modes.{held_mode, modes_of}
 use Rattle.nfs_objects.specs.Values.{DraftValue, ViewValue, known_at, new_draft}
 use Rattle.nfs_objects.specs.declared.address.Addr.{Addr}

@@ -7,7 +7,8 @@ use Rattle.nfs_machine.specs.declared.calls.Call.{Call}
 use Rattle.nfs_machine.specs.declared.calls.Call.TheVariants as calls
 use Rattle.nfs_objects.specs.Asks.{MayAsk}
 use Rattle.nfs_objects.specs.Attempt.{EndsCall}
-use Rattle.nfs_objects.specs.Calls.{made_by, named_by, nfs_handles}
+use Rattle.nfs_wire.specs.Handles.{nfs_handles}
+use Rattle.nfs_objects.specs.Calls.{made_by, named_by}
 use Rattle.nfs_objects.specs.Values.{DraftValue}
 use Rattle.nfs_objects.specs.declared.address.Addr.{Addr}
 use Rattle.nfs_objects.specs.declared.change.Missing.{Missing}

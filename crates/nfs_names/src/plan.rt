@@ -6,11 +6,11 @@
 //! itself or below). Where the checks of a call pass, all comes last that it has to hold to change its directories. A
 //! call that lists a directory goes through its pages.
 
-ghost use Rattle.std.specs.Prelude.{◌≡◌, [], IfErr, IfSome, option_copied, slice_get};
+ghost use Rattle.std.specs.Prelude.{◌≡◌, [], IfErr, IfSome};
 ghost use Rattle.nfs_machine.specs.declared.calls.Call.TheVariants as calls;
 ghost use Rattle.nfs_objects.specs.Asks.{IsThere};
 ghost use Rattle.nfs_objects.specs.Begins.{Begins};
-ghost use Rattle.nfs_objects.specs.Calls.{named_by, new_numbers, nfs_handles};
+ghost use Rattle.nfs_objects.specs.Calls.{named_by, new_numbers};
 ghost use Rattle.nfs_objects.specs.Modes.{Suits, modes_of};
 ghost use Rattle.nfs_objects.specs.declared.address.Addr.TheVariants as addresses;
 ghost use Rattle.nfs_inodes.specs.Gathers.{MayWish};
@@ -131,19 +131,8 @@ fn second_wish(draft: &Draft<'_>, call: &NfsCall) -> Option<Wish>
 fn second_number(call: &NfsCall) -> Option<u64>
     ensures { result ≡ second_number call.now }
 {
-    let handle = Handle::read(second_handle(call)?.as_slice())?;
+    let handle = Handle::read(call.second_handle()?.as_slice())?;
     Some(handle.fileid)
-}
-
-/// The handle that a call names second, if it names two.
-fn second_handle(call: &NfsCall) -> Option<&Bytes>
-    ensures { option_copied result ≡ slice_get (nfs_handles call.now) 1 }
-{
-    match call {
-        NfsCall::Rename(arguments) => Some(&arguments.to.directory),
-        NfsCall::Link(arguments) => Some(&arguments.place.directory),
-        _ => None,
-    }
 }
 
 /// The part of the old name, and what is behind that.

@@ -28,7 +28,9 @@ use Rattle.nfs_objects.specs.Bound.{AsksFew, Given, Gives, Grows, NamesFew, Name
 use Rattle.nfs_objects.specs.Bound.{asked_count}
 use Rattle.nfs_objects.specs.Bound.{empty_count, held, view_after, with_round}
 use Rattle.nfs_objects.specs.Calls.{IsAmong, added_by, addresses_of, blocks_at, blocks_from, data_of, in_file, made_by}
-use Rattle.nfs_objects.specs.Calls.{maps_at, named_by, new_numbers, nfs_handles, nlm_handles, objects_at, places_for}
+use Rattle.nfs_wire.specs.Handles.{nfs_handles}
+use Rattle.side_wire.specs.Handles.{nlm_handles}
+use Rattle.nfs_objects.specs.Calls.{maps_at, named_by, new_numbers, objects_at, places_for}
 use Rattle.nfs_objects.specs.Calls.{buckets_below, locks_at, locks_lost, locks_named, locks_of, locks_under, usages_of}
 use Rattle.std.proofs.Common.{take, min}
 use Rattle.nfs_machine.specs.Exports.{ExportValue}

@@ -16,9 +16,11 @@ use Rattle.nfs_objects.specs.Asks.{Asks, WantsNumber, WantsNumbers, Lacks, IsThe
 use Rattle.nfs_objects.specs.Attempt.{StopsCall}
 use Rattle.nfs_wire.specs.declared.calls.NfsCall.{NfsCall}
 use Rattle.side_wire.specs.declared.nlm.NlmCall.{NlmCall}
-use Rattle.nfs_objects.specs.Calls.{IsAmong, added_by, addresses_of, data_of, handles_of, named_by, nfs_handles}
+use Rattle.nfs_wire.specs.Handles.{nfs_handles}
+use Rattle.nfs_objects.specs.Calls.{IsAmong, added_by, addresses_of, data_of, handles_of, named_by}
 use Rattle.nfs_objects.specs.Calls.{objects_at}
-use Rattle.nfs_objects.specs.Calls.{locks_lost, locks_named, nlm_handles}
+use Rattle.side_wire.specs.Handles.{nlm_handles}
+use Rattle.nfs_objects.specs.Calls.{locks_lost, locks_named}
 use Rattle.nfs_objects.specs.Calls.{usages_of}
 use Rattle.nfs_objects.specs.Knows.{Turns}
 use Rattle.nfs_objects.specs.Modes.{held_mode}

@@ -2,9 +2,11 @@
 use Rattle.std.specs.Prelude.{◌≡◌, ℕ, zero, suc, Bool, true, false, List, [], ◌∷◌, ◌++◌, Some, None}
 use Rattle.std.specs.Prelude.{◌⊎◌, ◌/◌, ◌%◌, ◌==◌, Option, if◌then◌else◌, length, min, option_map, take}
 use Rattle.std.specs.Int.{w64, from_be_bytes}
+use Rattle.nfs_wire.specs.Handles.{nfs_handles}
 use Rattle.nfs_wire.specs.declared.calls.NfsCall.{NfsCall}
 use Rattle.nfs_wire.specs.declared.calls.NfsCall.TheVariants as nfs
 use Rattle.nfs_wire.specs.declared.calls.DirOp.{DirOp}
+use Rattle.side_wire.specs.Handles.{nlm_handles}
 use Rattle.side_wire.specs.declared.mount.MountCall.TheVariants as mount
 use Rattle.side_wire.specs.declared.nlm.NlmCall.{NlmCall}
 use Rattle.side_wire.specs.declared.nlm.NlmCall.TheVariants as nlm
@@ -26,47 +28,7 @@ use Rattle.nfs_objects.specs.Sums.{group_of}
 use Rattle.nfs_objects.specs.Values.{ViewValue, shown_at}
 use Rattle.nfs_objects.specs.declared.view.Reserved.{Reserved}
 
--- the handles of a call of NFS, in the order in which they are judged (RFC 1813, 3.3)
-abbrev pub nfs_handles : NfsCall → List (List ℕ)
-nfs_handles nfs.Null = []
-nfs_handles (nfs.Getattr object) = object ∷ []
-nfs_handles (nfs.Setattr a) = a.object ∷ []
-nfs_handles (nfs.Lookup place) = place.directory ∷ []
-nfs_handles (nfs.Access a) = a.object ∷ []
-nfs_handles (nfs.Readlink link) = link ∷ []
-nfs_handles (nfs.Read a) = a.file ∷ []
-nfs_handles (nfs.Write a) = a.file ∷ []
-nfs_handles (nfs.Create a) = a.place.directory ∷ []
-nfs_handles (nfs.Mkdir a) = a.place.directory ∷ []
-nfs_handles (nfs.Symlink a) = a.place.directory ∷ []
-nfs_handles (nfs.Mknod a) = a.place.directory ∷ []
-nfs_handles (nfs.Remove place) = place.directory ∷ []
-nfs_handles (nfs.Rmdir place) = place.directory ∷ []
-nfs_handles (nfs.Rename a) = a.from.directory ∷ a.to.directory ∷ []
-nfs_handles (nfs.Link a) = a.file ∷ a.place.directory ∷ []
-nfs_handles (nfs.Readdir a) = a.directory ∷ []
-nfs_handles (nfs.Readdirplus a) = a.directory ∷ []
-nfs_handles (nfs.Fsstat object) = object ∷ []
-nfs_handles (nfs.Fsinfo object) = object ∷ []
-nfs_handles (nfs.Pathconf object) = object ∷ []
-nfs_handles (nfs.Commit a) = a.file ∷ []
-
--- those of a call of NLM (RFC 1813, 6.2)
-abbrev pub nlm_handles : NlmCall → List (List ℕ)
-nlm_handles (nlm.Test a) = a.lock.file ∷ []
-nlm_handles (nlm.Lock a) = a.lock.file ∷ []
-nlm_handles (nlm.Cancel a) = a.lock.file ∷ []
-nlm_handles (nlm.Unlock a) = a.lock.file ∷ []
-nlm_handles (nlm.TestMsg a) = a.lock.file ∷ []
-nlm_handles (nlm.LockMsg a) = a.lock.file ∷ []
-nlm_handles (nlm.CancelMsg a) = a.lock.file ∷ []
-nlm_handles (nlm.UnlockMsg a) = a.lock.file ∷ []
-nlm_handles (nlm.Share a) = a.share.file ∷ []
-nlm_handles (nlm.Unshare a) = a.share.file ∷ []
-nlm_handles (nlm.NmLock a) = a.lock.file ∷ []
--- GRANTED and the results name locks of other servers, and FREE_ALL names a host
-nlm_handles call = []
-
+-- the handles of a call, in the order in which they are judged
 abbrev pub handles_of : Call → List (List ℕ)
 handles_of (calls.Nfs call) = nfs_handles call
 handles_of (calls.Mount call) = []

@@ -3,13 +3,12 @@ use Rattle.std.specs.Prelude.{◌≡◌, ◌==◌, ◌&&◌, Bool, true, false, 
 use Rattle.std.specs.Prelude.{Some, None, option_map, if◌then◌else◌}
 use Rattle.std.specs.List.{AllByRecursion}
 use Rattle.std.specs.Option.{option_map_or}
+use Rattle.nfs_wire.specs.Changing.{is_changing_nfs}
 use Rattle.nfs_wire.specs.declared.calls.NfsCall.{NfsCall}
 use Rattle.nfs_wire.specs.declared.calls.NfsCall.TheVariants as nfs
 use Rattle.nfs_wire.specs.declared.calls.DirOp.{DirOp}
 use Rattle.nfs_wire.specs.declared.calls.RenameArguments.{RenameArguments}
-use Rattle.side_wire.specs.declared.nlm.NlmCall.{NlmCall}
-use Rattle.side_wire.specs.declared.nlm.NlmCall.TheVariants as nlm
-use Rattle.nfs_machine.specs.Changing.{is_changing_mount, is_changing_nfs}
+use Rattle.side_wire.specs.Changing.{changes_locks, is_changing_mount}
 use Rattle.nfs_machine.specs.Checks.{entry_of}
 use Rattle.nfs_machine.specs.Handles.{handle_of}
 use Rattle.nfs_machine.specs.declared.calls.Call.{Call}
@@ -103,21 +102,6 @@ mode_for false = Shared
 abbrev pub renames_of : NfsCall → Option RenameArguments
 renames_of (nfs.Rename a) = Some a
 renames_of call = None
-
--- calls of NLM that may change what files have of locks, shares, requests and grants; what TEST_MSG changes is messages
-abbrev pub changes_locks : NlmCall → Bool
-changes_locks (nlm.Lock a) = true
-changes_locks (nlm.Cancel a) = true
-changes_locks (nlm.Unlock a) = true
-changes_locks (nlm.LockMsg a) = true
-changes_locks (nlm.CancelMsg a) = true
-changes_locks (nlm.UnlockMsg a) = true
-changes_locks (nlm.GrantedRes r) = true
-changes_locks (nlm.Share a) = true
-changes_locks (nlm.Unshare a) = true
-changes_locks (nlm.NmLock a) = true
-changes_locks (nlm.FreeAll a) = true
-changes_locks call = false
 
 -- those of the call that replaces the exports: it makes roots, and changes nothing else
 abbrev pub replacing : ModesValue

@@ -2,8 +2,7 @@
 
 ghost use Rattle.std.specs.Prelude.{◌≡◌, Some, option_copied, option_map};
 ghost use Rattle.std.specs.Arc.{arc_value};
-ghost use Rattle.nfs_machine.specs.Changing.{is_changing_mount, is_changing_nfs};
-ghost use Rattle.nfs_objects.specs.Modes.{changes_locks, covers, held_mode, is_apart, is_elsewhere, mode_for};
+ghost use Rattle.nfs_objects.specs.Modes.{covers, held_mode, is_apart, is_elsewhere, mode_for};
 ghost use Rattle.nfs_objects.specs.Modes.{modes_of, number_in};
 ghost use Rattle.nfs_objects.specs.Modes.{only_reads, part_address, renames_of};
 ghost use Rattle.nfs_objects.specs.Values.{modes_value};
@@ -13,7 +12,6 @@ use crate::object::{Object, header_known, part_known};
 use crate::view::View;
 use nfs_machine::{Call, Handle};
 use nfs_wire::{DirOp, NfsCall, RenameArguments};
-use side_wire::{MountCall, NlmCall};
 use std::sync::Arc;
 
 /// How a call holds an address until it ends.
@@ -138,18 +136,21 @@ impl<'a> Modes<'a> {
         ensures { modes_value result ≡ modes_of call.now }
     {
         match call {
-            Call::Nfs(call) => Modes {
-                inodes: nfs_mode(call),
-                locks: nfs_mode(call),
-                renames: renames(call),
-                ..READING
-            },
+            Call::Nfs(call) => {
+                let mode = mode_for(call.is_changing());
+                Modes {
+                    inodes: mode,
+                    locks: mode,
+                    renames: renames(call),
+                    ..READING
+                }
+            }
             Call::Mount(call) => Modes {
-                mounts: mount_mode(call),
+                mounts: mode_for(call.is_changing()),
                 ..READING
             },
             Call::Nlm(call) => Modes {
-                locks: nlm_mode(call),
+                locks: mode_for(call.changes_locks()),
                 ..READING
             },
             Call::Replace(_) => REPLACING,
@@ -226,52 +227,14 @@ fn renames(call: &NfsCall) -> Option<&RenameArguments>
     }
 }
 
-/// In which mode a call of NFS holds inodes.
-fn nfs_mode(call: &NfsCall) -> Mode
-    ensures { result ≡ mode_for (is_changing_nfs call.now) }
+/// How a call holds what it may change, or only reads.
+fn mode_for(changes: bool) -> Mode
+    ensures { result ≡ mode_for changes }
 {
-    match call {
-        NfsCall::Setattr(_) => Mode::Exclusive,
-        NfsCall::Write(_) => Mode::Exclusive,
-        NfsCall::Create(_) => Mode::Exclusive,
-        NfsCall::Mkdir(_) => Mode::Exclusive,
-        NfsCall::Symlink(_) => Mode::Exclusive,
-        NfsCall::Mknod(_) => Mode::Exclusive,
-        NfsCall::Remove(_) => Mode::Exclusive,
-        NfsCall::Rmdir(_) => Mode::Exclusive,
-        NfsCall::Rename(_) => Mode::Exclusive,
-        NfsCall::Link(_) => Mode::Exclusive,
-        _ => Mode::Shared,
-    }
-}
-
-/// In which mode a call of MOUNT holds the table of mounts.
-fn mount_mode(call: &MountCall) -> Mode
-    ensures { result ≡ mode_for (is_changing_mount call.now) }
-{
-    match call {
-        MountCall::Mnt(_) | MountCall::Unmount(_) | MountCall::UnmountAll => Mode::Exclusive,
-        MountCall::Null | MountCall::Dump | MountCall::Export => Mode::Shared,
-    }
-}
-
-/// In which mode a call of NLM holds what files have of locks.
-fn nlm_mode(call: &NlmCall) -> Mode
-    ensures { result ≡ mode_for (changes_locks call.now) }
-{
-    match call {
-        NlmCall::Lock(_) => Mode::Exclusive,
-        NlmCall::Cancel(_) => Mode::Exclusive,
-        NlmCall::Unlock(_) => Mode::Exclusive,
-        NlmCall::LockMsg(_) => Mode::Exclusive,
-        NlmCall::CancelMsg(_) => Mode::Exclusive,
-        NlmCall::UnlockMsg(_) => Mode::Exclusive,
-        NlmCall::GrantedRes(_) => Mode::Exclusive,
-        NlmCall::Share(_) => Mode::Exclusive,
-        NlmCall::Unshare(_) => Mode::Exclusive,
-        NlmCall::NmLock(_) => Mode::Exclusive,
-        NlmCall::FreeAll(_) => Mode::Exclusive,
-        _ => Mode::Shared,
+    if changes {
+        Mode::Exclusive
+    } else {
+        Mode::Shared
     }
 }
 

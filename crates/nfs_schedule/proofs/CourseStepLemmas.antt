@@ -23,7 +23,8 @@ use Rattle.nfs_objects.specs.Asks.{Asks, AsksNumbers, EachOnce, MayAsk}
 use Rattle.nfs_objects.specs.Attempt.{AsksFirst, Attempts}
 use Rattle.nfs_objects.specs.Bound.{Grows, HasNumbers, Round, held, view_after}
 use Rattle.nfs_objects.specs.Fits.{vacant}
-use Rattle.nfs_objects.specs.Calls.{IsAmong, addresses_of, named_by, new_numbers, nfs_handles, objects_at, usages_of}
+use Rattle.nfs_wire.specs.Handles.{nfs_handles}
+use Rattle.nfs_objects.specs.Calls.{IsAmong, addresses_of, named_by, new_numbers, objects_at, usages_of}
 use Rattle.nfs_objects.specs.Modes.{Suits, is_apart, modes_of, only_reads}
 use Rattle.nfs_objects.specs.Rooms.{with_seen, with_number}
 use Rattle.nfs_objects.specs.Values.{Seen, ViewValue, is_addr, seen_at}

@@ -1,6 +1,8 @@
 pub mod Arguments
 pub mod Attributes
 pub mod Calls
+pub mod Changing
+pub mod Handles
 pub mod Parts
 pub mod Replies
 pub mod Results

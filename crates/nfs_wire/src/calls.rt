@@ -1,8 +1,10 @@
 //! The calls of NFS version 3, with their arguments.
 
-ghost use Rattle.std.specs.Prelude.{◌≡◌, IfOk, IsErrOf};
+ghost use Rattle.std.specs.Prelude.{◌≡◌, IfOk, IsErrOf, option_copied, slice_get};
 ghost use Rattle.nfs_wire.specs.Calls.{procedure_of, IsFrontedBy, IsGarbage, CallHoldsBytes, ReadsCall};
 ghost use Rattle.nfs_wire.specs.Calls.{SpellsOneCall};
+ghost use Rattle.nfs_wire.specs.Changing.{is_changing_nfs};
+ghost use Rattle.nfs_wire.specs.Handles.{nfs_handles};
 
 mod data;
 mod items;
@@ -235,6 +237,68 @@ pub enum NfsCall {
     Pathconf(Bytes),
     /// Procedure 21 (RFC 1813, 3.3.21).
     Commit(CommitArguments),
+}
+
+impl NfsCall {
+    /// Whether a call may change something, so that it is not executed again where its record comes once more.
+    pub fn is_changing(&self) -> bool
+        ensures { result ≡ is_changing_nfs self.now }
+    {
+        match self {
+            NfsCall::Setattr(_) => true,
+            NfsCall::Write(_) => true,
+            NfsCall::Create(_) => true,
+            NfsCall::Mkdir(_) => true,
+            NfsCall::Symlink(_) => true,
+            NfsCall::Mknod(_) => true,
+            NfsCall::Remove(_) => true,
+            NfsCall::Rmdir(_) => true,
+            NfsCall::Rename(_) => true,
+            NfsCall::Link(_) => true,
+            _ => false,
+        }
+    }
+
+    /// The handle that a call names first, if it names one (RFC 1813, 3.3).
+    pub fn first_handle(&self) -> Option<&Bytes>
+        ensures { option_copied result ≡ slice_get (nfs_handles self.now) 0 }
+    {
+        match self {
+            NfsCall::Null => None,
+            NfsCall::Getattr(object) => Some(object),
+            NfsCall::Setattr(arguments) => Some(&arguments.object),
+            NfsCall::Lookup(place) => Some(&place.directory),
+            NfsCall::Access(arguments) => Some(&arguments.object),
+            NfsCall::Readlink(link) => Some(link),
+            NfsCall::Read(arguments) => Some(&arguments.file),
+            NfsCall::Write(arguments) => Some(&arguments.file),
+            NfsCall::Create(arguments) => Some(&arguments.place.directory),
+            NfsCall::Mkdir(arguments) => Some(&arguments.place.directory),
+            NfsCall::Symlink(arguments) => Some(&arguments.place.directory),
+            NfsCall::Mknod(arguments) => Some(&arguments.place.directory),
+            NfsCall::Remove(place) => Some(&place.directory),
+            NfsCall::Rmdir(place) => Some(&place.directory),
+            NfsCall::Rename(arguments) => Some(&arguments.from.directory),
+            NfsCall::Link(arguments) => Some(&arguments.file),
+            NfsCall::Readdir(arguments) => Some(&arguments.directory),
+            NfsCall::Readdirplus(arguments) => Some(&arguments.directory),
+            NfsCall::Fsstat(object) => Some(object),
+            NfsCall::Fsinfo(object) => Some(object),
+            NfsCall::Pathconf(object) => Some(object),
+            NfsCall::Commit(arguments) => Some(&arguments.file),
+        }
+    }
+
+    /// The handle that a call names second, if it names two.
+    pub fn second_handle(&self) -> Option<&Bytes>
+        ensures { option_copied result ≡ slice_get (nfs_handles self.now) 1 }
+    {
+        match self {
+            NfsCall::Rename(arguments) => Some(&arguments.to.directory),
+            NfsCall::Link(arguments) => Some(&arguments.place.directory),
+            _ => None,
+        }
+    }
 }
 
 /// The call of the procedure of this number that the bytes hold. Bytes after its arguments are ignored.

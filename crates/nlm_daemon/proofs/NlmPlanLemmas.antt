@@ -16,7 +16,8 @@ use Rattle.nfs_machine.specs.declared.handle.Handle.{Handle}
 use Rattle.nlm_ranges.specs.Buckets.{bucket_count}
 use Rattle.nfs_objects.proofs.KnowsLemmas.{among-behind, among-front}
 use Rattle.nfs_objects.proofs.SeenLemmas.{unknown-unseen}
-use Rattle.nfs_objects.specs.Calls.{IsAmong, addresses_of, locks_at, locks_named, locks_of, named_by, nlm_handles}
+use Rattle.side_wire.specs.Handles.{nlm_handles}
+use Rattle.nfs_objects.specs.Calls.{IsAmong, addresses_of, locks_at, locks_named, locks_of, named_by}
 use Rattle.nfs_objects.specs.Calls.{new_numbers, objects_at, usages_of}
 use Rattle.nfs_objects.specs.Modes.{held_mode, modes_of}
 use Rattle.nfs_objects.specs.Values.{DraftValue, ViewValue, known_at, new_draft}

@@ -5,7 +5,8 @@ use Rattle.side_wire.specs.declared.nlm.NlmCall.{NlmCall}
 use Rattle.nfs_machine.specs.Handles.{handle_of}
 use Rattle.nfs_machine.specs.declared.calls.Call.TheVariants as calls
 use Rattle.nfs_objects.specs.Asks.{MayAsk}
-use Rattle.nfs_objects.specs.Calls.{named_by, new_numbers, nlm_handles}
+use Rattle.side_wire.specs.Handles.{nlm_handles}
+use Rattle.nfs_objects.specs.Calls.{named_by, new_numbers}
 use Rattle.nfs_objects.specs.Values.{DraftValue}
 use Rattle.nfs_objects.specs.declared.address.Addr.{Addr}
 use Rattle.nfs_objects.specs.declared.modes.Mode.{Mode}

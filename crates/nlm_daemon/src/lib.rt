@@ -9,8 +9,9 @@
 #![tactic(auto)]
 
 ghost use Rattle.std.specs.Prelude.{◌≡◌, IfOk, false, true};
+ghost use Rattle.side_wire.specs.Changing.{changes_locks};
 ghost use Rattle.nfs_objects.specs.Attempt.{AsksFirst, Attempts, EndsCall, EndsFirst};
-ghost use Rattle.nfs_objects.specs.Modes.{Suits, changes_locks, modes_of};
+ghost use Rattle.nfs_objects.specs.Modes.{Suits, modes_of};
 ghost use Rattle.nfs_objects.specs.Begins.{Begins};
 ghost use Rattle.nfs_objects.specs.Only.{AnswersAtOnce, AsksFirstOnly, EndsAtOnce, EndsFirstOnly};
 ghost use Rattle.nlm_daemon.specs.Answering.{answers_at_once, reads_exports};
@@ -61,30 +62,10 @@ fn ended<'a>(
     ensures only { reads_exports call.now ≡ true → EndsFirstOnly (Call.Nlm call.now) view.now result }
     ensures at_once { answers_at_once call.now ≡ true → EndsAtOnce (Call.Nlm call.now) view.now result }
 {
-    if changes_locks(call) {
+    if call.changes_locks() {
         changed(Draft::new(alloc, ctx, view, LOCKING), call)
     } else {
         read(Draft::new(alloc, ctx, view, READING), call)
-    }
-}
-
-/// Whether a call may change what files have of locks.
-fn changes_locks(call: &NlmCall) -> bool
-    ensures { result ≡ changes_locks call.now }
-{
-    match call {
-        NlmCall::Lock(_) => true,
-        NlmCall::Cancel(_) => true,
-        NlmCall::Unlock(_) => true,
-        NlmCall::LockMsg(_) => true,
-        NlmCall::CancelMsg(_) => true,
-        NlmCall::UnlockMsg(_) => true,
-        NlmCall::GrantedRes(_) => true,
-        NlmCall::Share(_) => true,
-        NlmCall::Unshare(_) => true,
-        NlmCall::NmLock(_) => true,
-        NlmCall::FreeAll(_) => true,
-        _ => false,
     }
 }
 

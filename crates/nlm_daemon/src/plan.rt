@@ -3,8 +3,8 @@
 //! Behind the exports a call that names a file goes to what its handle names and, where its checks pass, to what the
 //! file has of locks. GRANTED_RES goes to what the file of its grant has, and FREE_ALL to what all files have.
 
-ghost use Rattle.std.specs.Prelude.{◌≡◌, [], IfSome, option_copied, slice_get};
-ghost use Rattle.nfs_objects.specs.Calls.{named_by, new_numbers, nlm_handles};
+ghost use Rattle.std.specs.Prelude.{◌≡◌, [], IfSome};
+ghost use Rattle.nfs_objects.specs.Calls.{named_by, new_numbers};
 ghost use Rattle.nfs_objects.specs.Modes.{Suits, modes_of};
 ghost use Rattle.nfs_inodes.specs.Wants.{IsWanted};
 ghost use Rattle.nlm_daemon.specs.Plans.{MayGoOn, file_named};
@@ -170,22 +170,6 @@ fn has_file(draft: &Draft<'_>, handle: &Bytes, writes: bool) -> bool
 fn file_named(call: &NlmCall) -> Option<u64>
     ensures { result ≡ file_named call.now }
 {
-    let handle = Handle::read(handle_named(call)?.as_slice())?;
+    let handle = Handle::read(call.handle()?.as_slice())?;
     Some(handle.fileid)
-}
-
-/// The handle of a call, if it has one.
-fn handle_named(call: &NlmCall) -> Option<&Bytes>
-    ensures { option_copied result ≡ slice_get (nlm_handles call.now) 0 }
-{
-    match call {
-        NlmCall::Test(arguments) | NlmCall::TestMsg(arguments) => Some(&arguments.lock.file),
-        NlmCall::Lock(arguments) | NlmCall::NmLock(arguments) | NlmCall::LockMsg(arguments) => {
-            Some(&arguments.lock.file)
-        }
-        NlmCall::Cancel(arguments) | NlmCall::CancelMsg(arguments) => Some(&arguments.lock.file),
-        NlmCall::Unlock(arguments) | NlmCall::UnlockMsg(arguments) => Some(&arguments.lock.file),
-        NlmCall::Share(arguments) | NlmCall::Unshare(arguments) => Some(&arguments.share.file),
-        _ => None,
-    }
 }

@@ -1,3 +1,5 @@
+pub mod Changing
+pub mod Handles
 pub mod Messages
 pub mod Mount
 pub mod Nlm

@@ -6,6 +6,7 @@ ghost use Rattle.nfs_xdr.specs.Reading.{ReadsFront};
 ghost use Rattle.nfs_xdr.specs.declared.XdrError.TheVariants.{Memory};
 ghost use Rattle.nfs_xdr.specs.Programs.{CallHoldsBytes, IsFrontedBy, IsGarbage, SpellsOneCall};
 ghost use Rattle.nfs_xdr.specs.Writing.{WritesResult};
+ghost use Rattle.side_wire.specs.Changing.{is_changing_mount};
 ghost use Rattle.side_wire.specs.Mount.{mount_procedure_of, SpellsMountArguments, dirpath, mount_result_of};
 ghost use Rattle.side_wire.specs.Mount.{mount_arguments, mount_result_bytes, HasMountForm, ReadsMountCall};
 
@@ -45,6 +46,18 @@ pub enum MountCall {
     UnmountAll,
     /// Procedure 5 (RFC 1813, 5.2.5).
     Export,
+}
+
+impl MountCall {
+    /// Whether a call may change the mounts, so that it is not executed again where its record comes once more.
+    pub fn is_changing(&self) -> bool
+        ensures { result ≡ is_changing_mount self.now }
+    {
+        match self {
+            MountCall::Mnt(_) | MountCall::Unmount(_) | MountCall::UnmountAll => true,
+            MountCall::Null | MountCall::Dump | MountCall::Export => false,
+        }
+    }
 }
 
 /// The results of a call of MOUNT version 3.

@@ -1,10 +1,12 @@
 //! NLM version 4 (RFC 1813, appendix II).
 
-ghost use Rattle.std.specs.Prelude.{◌≡◌, ◌++◌, IfOk, IfErr, IsErrOf, OnOk};
+ghost use Rattle.std.specs.Prelude.{◌≡◌, ◌++◌, IfOk, IfErr, IsErrOf, OnOk, option_copied, slice_get};
 ghost use Rattle.nfs_xdr.specs.Laws.{IsItsSpelling};
 ghost use Rattle.nfs_xdr.specs.declared.XdrError.TheVariants.{Memory};
 ghost use Rattle.nfs_xdr.specs.Programs.{CallHoldsBytes, IsFrontedBy, IsGarbage, SpellsOneCall};
 ghost use Rattle.nfs_xdr.specs.Writing.{WritesResult};
+ghost use Rattle.side_wire.specs.Changing.{changes_locks, is_changing_nlm};
+ghost use Rattle.side_wire.specs.Handles.{nlm_handles};
 ghost use Rattle.side_wire.specs.Nlm.{nlm_procedure_of, SpellsNlmArguments, nlm_result_of, nlm_result_bytes};
 ghost use Rattle.side_wire.specs.Nlm.{nlm_arguments, HasNlmForm, ReadsNlmCall};
 
@@ -202,6 +204,59 @@ pub enum NlmCall {
     NmLock(LockArguments),
     /// Procedure 23, FREE_ALL.
     FreeAll(FreeAllArguments),
+}
+
+impl NlmCall {
+    /// Whether a call may change locks, or puts a message, so that it is not executed again where its record comes once
+    /// more.
+    pub fn is_changing(&self) -> bool
+        ensures { result ≡ is_changing_nlm self.now }
+    {
+        match self {
+            NlmCall::TestMsg(_) | NlmCall::GrantedMsg(_) => true,
+            _ => self.changes_locks(),
+        }
+    }
+
+    /// Whether a call may change what files have of locks.
+    pub fn changes_locks(&self) -> bool
+        ensures { result ≡ changes_locks self.now }
+    {
+        match self {
+            NlmCall::Lock(_) => true,
+            NlmCall::Cancel(_) => true,
+            NlmCall::Unlock(_) => true,
+            NlmCall::LockMsg(_) => true,
+            NlmCall::CancelMsg(_) => true,
+            NlmCall::UnlockMsg(_) => true,
+            NlmCall::GrantedRes(_) => true,
+            NlmCall::Share(_) => true,
+            NlmCall::Unshare(_) => true,
+            NlmCall::NmLock(_) => true,
+            NlmCall::FreeAll(_) => true,
+            _ => false,
+        }
+    }
+
+    /// The handle of a call, if it has one.
+    pub fn handle(&self) -> Option<&Bytes>
+        ensures { option_copied result ≡ slice_get (nlm_handles self.now) 0 }
+    {
+        match self {
+            NlmCall::Test(arguments) | NlmCall::TestMsg(arguments) => Some(&arguments.lock.file),
+            NlmCall::Lock(arguments) | NlmCall::NmLock(arguments) | NlmCall::LockMsg(arguments) => {
+                Some(&arguments.lock.file)
+            }
+            NlmCall::Cancel(arguments) | NlmCall::CancelMsg(arguments) => Some(
+                &arguments.lock.file,
+            ),
+            NlmCall::Unlock(arguments) | NlmCall::UnlockMsg(arguments) => Some(
+                &arguments.lock.file,
+            ),
+            NlmCall::Share(arguments) | NlmCall::Unshare(arguments) => Some(&arguments.share.file),
+            _ => None,
+        }
+    }
 }
 
 /// The results of a call of NLM version 4 (RFC 1813, 6.2).

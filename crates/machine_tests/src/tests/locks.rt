@@ -3,7 +3,8 @@
 
 ghost use Rattle.std.specs.Prelude.{◌≡◌, [], IfOk, OnOk, true};
 ghost use Rattle.nfs_machine.specs.declared.calls.Call.TheVariants as calls;
-ghost use Rattle.nfs_objects.specs.Modes.{Suits, changes_locks, locking, modes_of};
+ghost use Rattle.side_wire.specs.Changing.{changes_locks};
+ghost use Rattle.nfs_objects.specs.Modes.{Suits, locking, modes_of};
 
 use super::*;
 use nfs_machine::Reply;

@@ -3,7 +3,7 @@
 use crate::network::counters::{Counters, Gauge};
 use bytes::Bytes;
 use indexmap::IndexMap;
-use nfs_engine::{Incoming, Receipt, is_changing, read_record};
+use nfs_engine::{Incoming, Receipt, read_record};
 use nfs_rpc::Record;
 use std::alloc::{AllocError, Global};
 use std::collections::VecDeque;
@@ -127,7 +127,7 @@ fn change_of(receipt: &Receipt) -> Option<Change<'_>> {
 fn asks_change(record: &Record) -> bool {
     match read_record(record) {
         Ok(asked) => {
-            let is_changing = is_changing(&asked.call);
+            let is_changing = asked.call.is_changing();
             drop(asked);
             is_changing
         }
