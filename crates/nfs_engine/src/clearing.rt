@@ -11,11 +11,11 @@ use std::sync::Arc;
 /// How many map pages, of 512 blocks, go at once at most.
 const PAGES: usize = 8;
 
-/// How many files are looked at then at most.
-const LOOKS: usize = 4096;
+/// How many files are looked at, where dead files are swept, at most.
+pub const SWEEP_LOOKS: usize = 4096;
 
-/// What looking at a file comes to.
-enum Looked {
+/// What looking at a file comes to, where dead files are swept.
+pub enum Looked {
     /// A page of it was swept.
     Swept,
     /// Nothing of it is to be swept.
@@ -36,7 +36,7 @@ impl Engine {
             return;
         };
         let mut pages: usize = 0;
-        for _look in 0..LOOKS {
+        for _look in 0..SWEEP_LOOKS {
             match self.clear_next(alloc, &mut swept) {
                 Looked::Swept => pages = pages.saturating_add(1),
                 Looked::Passed => {}

@@ -50,6 +50,7 @@ pub use asking::{Asked, Unasked, read_record};
 pub use book::Book;
 pub use calls::{Finished, Pending, Txn};
 pub use candidate::{Candidate, Prepared};
+pub use clearing::{Looked, SWEEP_LOOKS};
 pub use dead::Dead;
 pub use engine::Engine;
 pub use holders::Holders;

@@ -9,7 +9,7 @@ ghost use Rattle.nfs_stamps.specs.Marking.{AreMarks};
 use crate::desk::Desk;
 use crate::locking::{LockedShard, lock_spinning};
 use crate::pool::Pool;
-use nfs_engine::{SHARDS, SWEPT, Sweep, shard_index};
+use nfs_engine::{Looked, SHARDS, SWEEP_LOOKS, SWEPT, Sweep, shard_index};
 use nfs_objects::{Addr, MAP_BLOCKS, Object};
 use nfs_stamps::{Marks, Naming, Stamp};
 use std::alloc::Global;
@@ -22,19 +22,6 @@ pub(crate) const MOST_GONE: usize = 8 * SWEPT;
 
 /// How many map pages go then at most, where they have few blocks.
 const PAGES: usize = 64;
-
-/// How many files are looked at then at most.
-const LOOKS: usize = 4096;
-
-/// What looking at a file comes to.
-enum SweepLook {
-    /// A page of it was swept.
-    Swept,
-    /// Nothing of it is to be swept.
-    Passed,
-    /// There is no file to be looked at, or no memory to sweep it.
-    Ended,
-}
 
 impl<L: Ledger + Naming> Pool<L> {
     /// Sweeps some pages of dead files. What stood there is handed out, to be let go where nobody waits for it. Where
@@ -49,14 +36,14 @@ impl<L: Ledger + Naming> Pool<L> {
         } = self;
         let desk = desk.get_mut();
         let mut pages: usize = 0;
-        for _look in 0..LOOKS {
+        for _look in 0..SWEEP_LOOKS {
             if pages >= PAGES || gone.len() > MOST_GONE - SWEPT {
                 return;
             }
             match sweep_next(alloc, desk, places, gone) {
-                SweepLook::Swept => pages = pages.saturating_add(1),
-                SweepLook::Passed => {}
-                SweepLook::Ended => return,
+                Looked::Swept => pages = pages.saturating_add(1),
+                Looked::Passed => {}
+                Looked::Ended => return,
             }
         }
     }
@@ -74,25 +61,25 @@ fn sweep_next<L: Ledger + Naming>(
     desk: &mut Desk<L>,
     places: &mut [LockedShard<L>; SHARDS],
     gone: &mut Vec<Arc<Object>>,
-) -> SweepLook {
+) -> Looked {
     let Some(number) = desk.next_dead() else {
-        return SweepLook::Ended;
+        return Looked::Ended;
     };
     match desk.sweep_of(alloc, number) {
         Ok(Some(sweep)) => {
             let index = shard_index(Addr::Inode(number));
             let placed = places[index].placed.get_mut();
             if !placed.sweep(&sweep, gone) {
-                return SweepLook::Ended;
+                return Looked::Ended;
             }
             desk.sweep(sweep);
-            SweepLook::Swept
+            Looked::Swept
         }
         Ok(None) => {
             desk.go_on();
-            SweepLook::Passed
+            Looked::Passed
         }
-        Err(_) => SweepLook::Ended,
+        Err(_) => Looked::Ended,
     }
 }
 
