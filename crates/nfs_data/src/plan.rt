@@ -14,7 +14,7 @@ ghost use Rattle.nfs_inodes.specs.Wants.{IsWanted};
 ghost use Rattle.nfs_data.specs.Plans.{MayGoOn, MayHalt};
 
 use crate::{read, setattr, write};
-use nfs_inodes::wishes::Want;
+use nfs_inodes::wishes::{NextWant, Want};
 use nfs_machine::{Call, Ctx};
 use nfs_objects::{Draft, Missing, Modes, View};
 use nfs_wire::NfsCall;
@@ -31,9 +31,6 @@ pub enum Plan {
     Over,
 }
 
-/// What is wanted, and where the plan is once it is taken. None where the plan is over, as far as the view tells.
-type NextWant = Option<(Want, Plan)>;
-
 /// The plan of a call that takes what its handle names.
 pub fn behind_first(call: &NfsCall) -> Plan {
     match call {
@@ -44,7 +41,7 @@ pub fn behind_first(call: &NfsCall) -> Plan {
 }
 
 /// What a call that is there in its plan wants next.
-pub fn next(alloc: Global, call: &Call, ctx: &Ctx, view: &View, plan: Plan) -> NextWant
+pub fn next(alloc: Global, call: &Call, ctx: &Ctx, view: &View, plan: Plan) -> NextWant<Plan>
     requires { Suits (modes_of call.now) view.now }
     ensures { IfSome result (λ next. IsWanted (modes_of call.now) (named_by call.now view.now)
         (new_numbers call.now view.now) view.now next.0) }
@@ -62,7 +59,7 @@ pub fn next(alloc: Global, call: &Call, ctx: &Ctx, view: &View, plan: Plan) -> N
 }
 
 /// The same of its draft, which is of no use then; and where the plan is once it is taken.
-fn go_on(draft: &mut Draft<'_>, call: &NfsCall, after: Plan) -> NextWant
+fn go_on(draft: &mut Draft<'_>, call: &NfsCall, after: Plan) -> NextWant<Plan>
     requires { Begins (calls.Nfs call.now) draft.old }
     ensures { MayGoOn call.now draft.old result }
 {

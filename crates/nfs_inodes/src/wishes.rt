@@ -29,6 +29,9 @@ pub enum Want {
     Numbers(u32),
 }
 
+/// What is wanted, and where the plan is once it is taken. None where the plan is over, as far as the view tells.
+pub type NextWant<Plan> = Option<(Want, Plan)>;
+
 /// How far the pages of a directory were gone through.
 #[derive(Clone, Copy)]
 pub struct PagesLeft {

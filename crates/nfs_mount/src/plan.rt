@@ -13,7 +13,7 @@ use crate::choice::choose;
 use crate::paths::{PathNames, path_fault};
 use bytes::Bytes;
 use nfs_inodes::exports;
-use nfs_inodes::wishes::{Want, leaf_shown, part_wish, wish_there};
+use nfs_inodes::wishes::{NextWant, Want, leaf_shown, part_wish, wish_there};
 use nfs_machine::{Call, Ctx};
 use nfs_objects::{Addr, Draft, Modes, View};
 use side_wire::MountCall;
@@ -46,11 +46,8 @@ pub enum Plan {
     Over,
 }
 
-/// What is wanted, and where the plan is once it is taken. None where the plan is over, as far as the view tells.
-type NextWant = Option<(Want, Plan)>;
-
 /// What a call that is there in its plan wants next.
-pub fn next(alloc: Global, call: &Call, ctx: &Ctx, view: &View, plan: Plan) -> NextWant
+pub fn next(alloc: Global, call: &Call, ctx: &Ctx, view: &View, plan: Plan) -> NextWant<Plan>
     requires { Suits (modes_of call.now) view.now }
     ensures { IfSome result (λ next. IsWanted (modes_of call.now) (named_by call.now view.now)
         (new_numbers call.now view.now) view.now next.0) }
@@ -63,7 +60,7 @@ pub fn next(alloc: Global, call: &Call, ctx: &Ctx, view: &View, plan: Plan) -> N
 }
 
 /// The same of its draft.
-fn go_on(draft: &Draft<'_>, call: &MountCall, plan: Plan) -> NextWant
+fn go_on(draft: &Draft<'_>, call: &MountCall, plan: Plan) -> NextWant<Plan>
     requires { draft.now.writes ≡ [] }
     ensures { MayGoOn draft.now result }
 {
@@ -78,7 +75,7 @@ fn go_on(draft: &Draft<'_>, call: &MountCall, plan: Plan) -> NextWant
 }
 
 /// The exports, which all but NULL read first.
-fn first(draft: &Draft<'_>, call: &MountCall) -> NextWant
+fn first(draft: &Draft<'_>, call: &MountCall) -> NextWant<Plan>
     ensures { MayGoOn draft.now result }
 {
     if let MountCall::Null = call {
@@ -89,7 +86,7 @@ fn first(draft: &Draft<'_>, call: &MountCall) -> NextWant
 }
 
 /// What is behind the exports.
-fn behind(draft: &Draft<'_>, call: &MountCall) -> NextWant
+fn behind(draft: &Draft<'_>, call: &MountCall) -> NextWant<Plan>
     requires { draft.now.writes ≡ [] }
     ensures { MayGoOn draft.now result }
 {
@@ -109,7 +106,7 @@ fn path_of(call: &MountCall) -> Option<&Bytes> {
 }
 
 /// The root of the export that a path is under, and what is behind that.
-fn root(draft: &Draft<'_>, path: &[u8]) -> NextWant
+fn root(draft: &Draft<'_>, path: &[u8]) -> NextWant<Plan>
     requires { draft.now.writes ≡ [] }
     ensures { MayGoOn draft.now result }
 {
@@ -134,7 +131,7 @@ fn root(draft: &Draft<'_>, path: &[u8]) -> NextWant
 }
 
 /// The part of the next name of a path of which so many bytes are left, and what is behind that.
-fn part(draft: &Draft<'_>, path: &[u8], number: u64, left: usize) -> NextWant
+fn part(draft: &Draft<'_>, path: &[u8], number: u64, left: usize) -> NextWant<Plan>
     requires { draft.now.writes ≡ [] }
     ensures { MayGoOn draft.now result }
 {
@@ -148,7 +145,7 @@ fn part(draft: &Draft<'_>, path: &[u8], number: u64, left: usize) -> NextWant
 }
 
 /// What the next name of a path leads to.
-fn object(draft: &Draft<'_>, path: &[u8], number: u64, left: usize) -> NextWant
+fn object(draft: &Draft<'_>, path: &[u8], number: u64, left: usize) -> NextWant<Plan>
     requires { draft.now.writes ≡ [] }
     ensures { MayGoOn draft.now result }
 {
@@ -172,7 +169,7 @@ fn names_left(path: &[u8], left: usize) -> PathNames<'_> {
 }
 
 /// The mounts.
-fn mounts(draft: &Draft<'_>) -> NextWant
+fn mounts(draft: &Draft<'_>) -> NextWant<Plan>
     ensures { MayGoOn draft.now result }
 {
     let wish = draft.missing(Addr::Mounts)?;

@@ -23,7 +23,7 @@ use crate::{create, link, mkdir, mknod, readdir, readdirplus, remove, rename, sy
 use bytes::Bytes;
 use nfs_inodes::names::{is_above, is_self};
 use nfs_inodes::wishes::{
-    PagesLeft, Want, Wish, data_wish, leaf_shown, pages_left, pages_wish, part_wish,
+    NextWant, PagesLeft, Want, Wish, data_wish, leaf_shown, pages_left, pages_wish, part_wish,
     shows_directory, wish_there,
 };
 use nfs_inodes::{above, named};
@@ -64,9 +64,6 @@ pub enum Plan {
     Over,
 }
 
-/// What is wanted, and where the plan is once it is taken. None where the plan is over, as far as the view tells.
-type NextWant = Option<(Want, Plan)>;
-
 /// The plan of a call that takes what its first handle names.
 pub fn behind_first(call: &NfsCall) -> Plan {
     match call {
@@ -76,7 +73,7 @@ pub fn behind_first(call: &NfsCall) -> Plan {
 }
 
 /// What a call that is there in its plan wants next.
-pub fn next(alloc: Global, call: &Call, ctx: &Ctx, view: &View, plan: Plan) -> NextWant
+pub fn next(alloc: Global, call: &Call, ctx: &Ctx, view: &View, plan: Plan) -> NextWant<Plan>
     requires { Suits (modes_of call.now) view.now }
     ensures { IfSome result (λ next. IsWanted (modes_of call.now) (named_by call.now view.now)
         (new_numbers call.now view.now) view.now next.0) }
@@ -89,7 +86,7 @@ pub fn next(alloc: Global, call: &Call, ctx: &Ctx, view: &View, plan: Plan) -> N
 }
 
 /// The same of its draft.
-fn go_on(draft: &Draft<'_>, call: &NfsCall, plan: Plan) -> NextWant
+fn go_on(draft: &Draft<'_>, call: &NfsCall, plan: Plan) -> NextWant<Plan>
     requires { Begins (calls.Nfs call.now) draft.now }
     ensures { MayGoOn call.now draft.now result }
 {
@@ -109,7 +106,7 @@ fn go_on(draft: &Draft<'_>, call: &NfsCall, plan: Plan) -> NextWant
 }
 
 /// What the second handle names, and what is behind that.
-fn second(draft: &Draft<'_>, call: &NfsCall) -> NextWant
+fn second(draft: &Draft<'_>, call: &NfsCall) -> NextWant<Plan>
     requires { Begins (calls.Nfs call.now) draft.now }
     ensures { MayGoOn call.now draft.now result }
 {
@@ -136,7 +133,7 @@ fn second_number(call: &NfsCall) -> Option<u64>
 }
 
 /// The part of the old name, and what is behind that.
-fn old_part(draft: &Draft<'_>, call: &NfsCall) -> NextWant
+fn old_part(draft: &Draft<'_>, call: &NfsCall) -> NextWant<Plan>
     requires { Begins (calls.Nfs call.now) draft.now }
     ensures { MayGoOn call.now draft.now result }
 {
@@ -147,7 +144,7 @@ fn old_part(draft: &Draft<'_>, call: &NfsCall) -> NextWant
 }
 
 /// The part of the new name, and what is behind that.
-fn new_part(draft: &Draft<'_>, call: &NfsCall) -> NextWant
+fn new_part(draft: &Draft<'_>, call: &NfsCall) -> NextWant<Plan>
     requires { Begins (calls.Nfs call.now) draft.now }
     ensures { MayGoOn call.now draft.now result }
 {
@@ -158,7 +155,7 @@ fn new_part(draft: &Draft<'_>, call: &NfsCall) -> NextWant
 }
 
 /// What a name leads to, and what is behind that.
-fn object(draft: &Draft<'_>, call: &NfsCall) -> NextWant
+fn object(draft: &Draft<'_>, call: &NfsCall) -> NextWant<Plan>
     requires { Begins (calls.Nfs call.now) draft.now }
     ensures { MayGoOn call.now draft.now result }
 {
@@ -169,7 +166,7 @@ fn object(draft: &Draft<'_>, call: &NfsCall) -> NextWant
 }
 
 /// What the old name leads to, and what is behind that.
-fn old_object(draft: &Draft<'_>, call: &NfsCall, place: &DirOp) -> NextWant
+fn old_object(draft: &Draft<'_>, call: &NfsCall, place: &DirOp) -> NextWant<Plan>
     requires { Begins (calls.Nfs call.now) draft.now }
     ensures { MayGoOn call.now draft.now result }
 {
@@ -184,7 +181,7 @@ fn old_object(draft: &Draft<'_>, call: &NfsCall, place: &DirOp) -> NextWant
 }
 
 /// The parent of a directory, where LOOKUP asks for it.
-fn parent(draft: &Draft<'_>, call: &NfsCall) -> NextWant
+fn parent(draft: &Draft<'_>, call: &NfsCall) -> NextWant<Plan>
     requires { Begins (calls.Nfs call.now) draft.now }
     ensures { MayGoOn call.now draft.now result }
 {
@@ -196,7 +193,7 @@ fn parent(draft: &Draft<'_>, call: &NfsCall) -> NextWant
 }
 
 /// What the new name leads to, where CREATE may answer it, and what is behind that.
-fn new_object(draft: &Draft<'_>, call: &NfsCall) -> NextWant
+fn new_object(draft: &Draft<'_>, call: &NfsCall) -> NextWant<Plan>
     requires { Begins (calls.Nfs call.now) draft.now }
     ensures { MayGoOn call.now draft.now result }
 {
@@ -210,7 +207,7 @@ fn new_object(draft: &Draft<'_>, call: &NfsCall) -> NextWant
 }
 
 /// What RENAME replaces, and what is behind that: the way up from its target; and the rest of other calls.
-fn replaced(draft: &Draft<'_>, call: &NfsCall, moved: u64) -> NextWant
+fn replaced(draft: &Draft<'_>, call: &NfsCall, moved: u64) -> NextWant<Plan>
     requires { Begins (calls.Nfs call.now) draft.now }
     ensures { MayGoOn call.now draft.now result }
 {
@@ -225,7 +222,7 @@ fn replaced(draft: &Draft<'_>, call: &NfsCall, moved: u64) -> NextWant
 }
 
 /// What is above a directory, where RENAME moves a directory that is another, and what is behind that.
-fn way_up(draft: &Draft<'_>, call: &NfsCall, moved: u64, number: u64) -> NextWant
+fn way_up(draft: &Draft<'_>, call: &NfsCall, moved: u64, number: u64) -> NextWant<Plan>
     requires { Begins (calls.Nfs call.now) draft.now }
     ensures { MayGoOn call.now draft.now result }
 {
@@ -243,7 +240,7 @@ fn way_up(draft: &Draft<'_>, call: &NfsCall, moved: u64, number: u64) -> NextWan
 
 /// What else a call has to hold before it changes anything, where its checks pass; and what is behind that, if some of
 /// it was taken already.
-fn rest(draft: &Draft<'_>, call: &NfsCall, begun: bool) -> NextWant
+fn rest(draft: &Draft<'_>, call: &NfsCall, begun: bool) -> NextWant<Plan>
     requires { Begins (calls.Nfs call.now) draft.now }
     ensures { MayGoOn call.now draft.now result }
 {
@@ -265,7 +262,7 @@ fn behind_rest(call: &NfsCall) -> Plan {
 }
 
 /// The data of a file that goes with its last name.
-fn data(draft: &Draft<'_>, call: &NfsCall) -> NextWant
+fn data(draft: &Draft<'_>, call: &NfsCall) -> NextWant<Plan>
     requires { Begins (calls.Nfs call.now) draft.now }
     ensures { MayGoOn call.now draft.now result }
 {
@@ -293,7 +290,7 @@ fn ask(draft: &Draft<'_>, call: &NfsCall) -> Result<(), Missing>
 }
 
 /// The first pages that a call lists, where its checks pass.
-fn listing(draft: &Draft<'_>, call: &NfsCall) -> NextWant
+fn listing(draft: &Draft<'_>, call: &NfsCall) -> NextWant<Plan>
     requires { Begins (calls.Nfs call.now) draft.now }
     ensures { MayGoOn call.now draft.now result }
 {
@@ -309,7 +306,7 @@ fn listing(draft: &Draft<'_>, call: &NfsCall) -> NextWant
 }
 
 /// The next pages that a call lists.
-fn next_pages(draft: &Draft<'_>, call: &NfsCall, left: PagesLeft) -> NextWant
+fn next_pages(draft: &Draft<'_>, call: &NfsCall, left: PagesLeft) -> NextWant<Plan>
     requires { Begins (calls.Nfs call.now) draft.now }
     ensures { MayGoOn call.now draft.now result }
 {

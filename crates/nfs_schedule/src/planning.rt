@@ -8,7 +8,7 @@ ghost use Rattle.nfs_schedule.specs.Grown.{HasGrown};
 
 use nfs_data::plan as data;
 use nfs_engine::Txn;
-use nfs_inodes::wishes::Want;
+use nfs_inodes::wishes::NextWant;
 use nfs_machine::Call;
 use nfs_mount::plan as mount;
 use nfs_names::{is_name_call, plan as names};
@@ -50,7 +50,7 @@ pub(crate) fn behind_first(call: &Call) -> Plan {
 
 /// What a call that is there in its plan wants next, and where it is once it has that. None where its plan is over, as
 /// far as its view tells.
-pub(crate) fn next_want(alloc: Global, txn: &Txn, at: Plan) -> Option<(Want, Plan)>
+pub(crate) fn next_want(alloc: Global, txn: &Txn, at: Plan) -> NextWant<Plan>
     requires { HasGrown txn.now }
     ensures { IfSome result (λ next. IsWanted (modes_of txn.now.call) (named_by txn.now.call txn.now.view)
         (new_numbers txn.now.call txn.now.view) txn.now.view next.0) }

@@ -14,7 +14,7 @@ use crate::freeing::ask_buckets;
 use crate::granting::number_in;
 use crate::sharing::is_writing;
 use bytes::Bytes;
-use nfs_inodes::wishes::Want;
+use nfs_inodes::wishes::{NextWant, Want};
 use nfs_machine::{Call, Ctx, Handle};
 use nfs_objects::{Addr, Draft, Missing, Modes, View};
 use nlm_ranges::bucket_index;
@@ -34,11 +34,8 @@ pub enum Plan {
     Over,
 }
 
-/// What is wanted, and where the plan is once it is taken. None where the plan is over, as far as the view tells.
-type NextWant = Option<(Want, Plan)>;
-
 /// What a call that is there in its plan wants next.
-pub fn next(alloc: Global, call: &Call, ctx: &Ctx, view: &View, plan: Plan) -> NextWant
+pub fn next(alloc: Global, call: &Call, ctx: &Ctx, view: &View, plan: Plan) -> NextWant<Plan>
     requires { Suits (modes_of call.now) view.now }
     ensures { IfSome result (λ next. IsWanted (modes_of call.now) (named_by call.now view.now)
         (new_numbers call.now view.now) view.now next.0) }
@@ -51,7 +48,7 @@ pub fn next(alloc: Global, call: &Call, ctx: &Ctx, view: &View, plan: Plan) -> N
 }
 
 /// The same of its draft.
-fn go_on(draft: &Draft<'_>, call: &NlmCall, plan: Plan) -> NextWant
+fn go_on(draft: &Draft<'_>, call: &NlmCall, plan: Plan) -> NextWant<Plan>
     requires { draft.now.writes ≡ [] }
     ensures { MayGoOn call.now draft.now result }
 {
@@ -64,7 +61,7 @@ fn go_on(draft: &Draft<'_>, call: &NlmCall, plan: Plan) -> NextWant
 }
 
 /// The exports, which all but NULL read first.
-fn first(draft: &Draft<'_>, call: &NlmCall) -> NextWant
+fn first(draft: &Draft<'_>, call: &NlmCall) -> NextWant<Plan>
     ensures { MayGoOn call.now draft.now result }
 {
     if let NlmCall::Null = call {
@@ -75,7 +72,7 @@ fn first(draft: &Draft<'_>, call: &NlmCall) -> NextWant
 }
 
 /// What the handle of a call names, or what it reads of locks where it names no file.
-fn file(draft: &Draft<'_>, call: &NlmCall) -> NextWant
+fn file(draft: &Draft<'_>, call: &NlmCall) -> NextWant<Plan>
     ensures { MayGoOn call.now draft.now result }
 {
     match call {
@@ -86,7 +83,7 @@ fn file(draft: &Draft<'_>, call: &NlmCall) -> NextWant
 }
 
 /// What all files have, which FREE_ALL reads.
-fn buckets(draft: &Draft<'_>) -> NextWant
+fn buckets(draft: &Draft<'_>) -> NextWant<Plan>
     ensures { (call : FreeAllArguments) → MayGoOn (NlmCall.FreeAll call) draft.now result }
 {
     match ask_buckets(draft) {
@@ -96,7 +93,7 @@ fn buckets(draft: &Draft<'_>) -> NextWant
 }
 
 /// What the file of the grant that a host answers has.
-fn granted(draft: &Draft<'_>, answer: &NlmResult) -> NextWant
+fn granted(draft: &Draft<'_>, answer: &NlmResult) -> NextWant<Plan>
     ensures { MayGoOn (NlmCall.GrantedRes answer.now) draft.now result }
 {
     let number = number_in(&answer.cookie)?;
@@ -105,7 +102,7 @@ fn granted(draft: &Draft<'_>, answer: &NlmResult) -> NextWant
 }
 
 /// What the handle of a call names.
-fn named(draft: &Draft<'_>, call: &NlmCall) -> NextWant
+fn named(draft: &Draft<'_>, call: &NlmCall) -> NextWant<Plan>
     ensures { MayGoOn call.now draft.now result }
 {
     let number = file_named(call)?;
@@ -114,7 +111,7 @@ fn named(draft: &Draft<'_>, call: &NlmCall) -> NextWant
 }
 
 /// What the file that the handle of a call names has, where the checks of the call pass.
-fn locks(draft: &Draft<'_>, call: &NlmCall) -> NextWant
+fn locks(draft: &Draft<'_>, call: &NlmCall) -> NextWant<Plan>
     requires { draft.now.writes ≡ [] }
     ensures { MayGoOn call.now draft.now result }
 {
