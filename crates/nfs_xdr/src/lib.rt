@@ -21,6 +21,7 @@ use thiserror::Error;
 mod arguments;
 mod items;
 mod laws;
+mod list;
 mod pieces;
 mod reading;
 mod shared;
@@ -31,6 +32,7 @@ pub use laws::{
     reading_finds_spelling, refusal_means_unspelled, spelled_has_spelling, spelling_is_read,
     spelling_is_unique, writing_appends, writing_spells,
 };
+pub use list::XdrList;
 pub use pieces::Pieces;
 pub use reading::Reader;
 pub use shared::{Part, SharedReader};
