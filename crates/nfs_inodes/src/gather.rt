@@ -10,7 +10,7 @@ ghost use Rattle.nfs_inodes.specs.Stops.{StopsAt};
 
 use crate::content::listing::ListedEntry;
 use indexmap::IndexSet;
-use nfs_objects::{Addr, Draft, Missing, Mode};
+use nfs_objects::{Addr, Draft, Missing, Wish};
 use std::alloc::{AllocError, Global};
 
 /// Reads the objects of these entries, so that each of them is known.
@@ -35,7 +35,7 @@ pub fn read_objects(draft: &Draft<'_>, entries: &[ListedEntry<'_>]) -> Result<()
 #[derive(Drop)]
 struct WantedObjects {
     numbers: IndexSet<u64>,
-    asked: Vec<(Addr, Mode)>,
+    asked: Vec<Wish>,
 }
 
 impl WantedObjects {

@@ -11,7 +11,7 @@ ghost use Rattle.nfs_inodes.specs.Stops.{StopsAt};
 use crate::content::entries::parent;
 use crate::found::inode;
 use crate::kinds::KnownDirectory;
-use nfs_objects::{Addr, Draft, Missing, Mode};
+use nfs_objects::{Addr, Draft, Missing, Wish};
 
 /// Whether a directory is the one at the upper number, or below it. It reads each directory on the way up to the root,
 /// where no more addresses than these were read so far.
@@ -50,7 +50,7 @@ pub fn is_within(
 
 /// What a walk up from a directory reads next: the one that it is named in, where the draft knows the directory and not
 /// that. Something stands there in every store that the view fits.
-pub fn above(draft: &Draft<'_>, number: u64) -> Option<(Addr, Mode)>
+pub fn above(draft: &Draft<'_>, number: u64) -> Option<Wish>
     requires { draft.now.writes ≡ [] }
     ensures next { result ≡ wish_above draft.now number }
     ensures may { IfSome result (MayWish draft.now) }

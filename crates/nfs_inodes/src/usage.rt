@@ -16,7 +16,7 @@ ghost use Rattle.nfs_inodes.specs.Stops.{StopsAt, counted_at, group_at, inode_at
 use crate::content::asking::Asking;
 use crate::found::inode;
 use nfs_objects::usage::group_of;
-use nfs_objects::{Addr, Draft, GROUPS, Inode, Missing, Mode, Usage};
+use nfs_objects::{Addr, Draft, GROUPS, Inode, Missing, Mode, Usage, Wish};
 use std::alloc::AllocError;
 
 /// What an object has of what its export uses.
@@ -179,7 +179,7 @@ pub fn export_usage(draft: &Draft<'_>, export: u32) -> Result<Usage, Missing>
 
 /// The groups of an export of which the draft does not know what they use, each with the mode in which it is asked
 /// for.
-fn unread(draft: &Draft<'_>, export: u32) -> Result<Vec<(Addr, Mode)>, AllocError>
+fn unread(draft: &Draft<'_>, export: u32) -> Result<Vec<Wish>, AllocError>
     ensures { IfOk result (λ unread. AreUnread draft.now export 64 unread.items) }
 {
     let mut unread = Vec::new(draft.alloc());

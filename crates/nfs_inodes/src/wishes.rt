@@ -13,10 +13,7 @@ use crate::content::cut::ask_cut;
 use crate::content::listing::ask_pages;
 use crate::content::taking::leaf_of;
 use crate::found::inode;
-use nfs_objects::{Addr, Content, Draft, EntryPage, Leaf, Missing, Mode, PAGE_COOKIES, PageList};
-
-/// An address, with the mode in which it is wanted.
-pub type Wish = (Addr, Mode);
+use nfs_objects::{Addr, Content, Draft, EntryPage, Leaf, Missing, PAGE_COOKIES, PageList, Wish};
 
 /// What a call wants next.
 #[derive(Drop)]

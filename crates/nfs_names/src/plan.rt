@@ -23,12 +23,12 @@ use crate::{create, link, mkdir, mknod, readdir, readdirplus, remove, rename, sy
 use bytes::Bytes;
 use nfs_inodes::names::{is_above, is_self};
 use nfs_inodes::wishes::{
-    NextWant, PagesLeft, Want, Wish, data_wish, leaf_shown, pages_left, pages_wish, part_wish,
+    NextWant, PagesLeft, Want, data_wish, leaf_shown, pages_left, pages_wish, part_wish,
     shows_directory, wish_there,
 };
 use nfs_inodes::{above, named};
 use nfs_machine::{Call, Ctx, Handle};
-use nfs_objects::{Addr, Draft, Leaf, Missing, Modes, View};
+use nfs_objects::{Addr, Draft, Leaf, Missing, Modes, View, Wish};
 use nfs_wire::{DirOp, NfsCall};
 use std::alloc::Global;
 

@@ -23,11 +23,14 @@ pub struct Change {
     pub reply: Reply,
 }
 
+/// An address, with the mode in which it is wanted.
+pub type Wish = (Addr, Mode);
+
 /// Why a call is not done yet.
 #[derive(Drop)]
 pub enum Missing {
     /// These addresses have to be held first, in these modes.
-    Need(Vec<(Addr, Mode)>),
+    Need(Vec<Wish>),
     /// So many new numbers are wanted first.
     Fresh(u32),
     /// There is no memory for it.
@@ -38,7 +41,7 @@ pub enum Missing {
 #[derive(Drop)]
 pub enum Outcome {
     /// These addresses have to be held first, in these modes.
-    Need(Vec<(Addr, Mode)>),
+    Need(Vec<Wish>),
     /// So many new numbers are wanted first.
     Fresh(u32),
     /// The call is done.

@@ -20,7 +20,7 @@ ghost use Rattle.nfs_objects.specs.Values.{written_at};
 
 use crate::address::{Addr, is_same};
 use crate::bits::Bits;
-use crate::change::{Change, Missing, Write};
+use crate::change::{Change, Missing, Wish, Write};
 use crate::directory::Entries;
 use crate::entry_map::NamePlace;
 use crate::entry_page::EntryPage;
@@ -119,7 +119,7 @@ impl<'a> Draft<'a> {
     }
 
     /// The wish for what stands at an address, where the draft does not know it.
-    pub fn missing(&self, address: Addr) -> Option<(Addr, Mode)>
+    pub fn missing(&self, address: Addr) -> Option<Wish>
         ensures { MatchOption result (IsSome (known_at self.now address))
             (λ wish. (known_at self.now address ≡ None) ×
             (wish ≡ (address, held_mode self.now.modes self.now.view address))) }

@@ -31,7 +31,7 @@ mod view;
 pub use address::Addr;
 pub use bits::Bits;
 pub use block::{BLOCK_SIZE, MAP_BLOCKS};
-pub use change::{Change, Missing, Outcome, Write};
+pub use change::{Change, Missing, Outcome, Wish, Write};
 pub use counts::NameCounts;
 pub use directory::{Directory, Entries, Leaf};
 pub use draft::Draft;

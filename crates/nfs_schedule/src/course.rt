@@ -14,7 +14,7 @@ use crate::planning::{Plan, behind_first, first_plan, next_want};
 use nfs_engine::Txn;
 use nfs_inodes::wishes::Want;
 use nfs_machine::Call;
-use nfs_objects::{Addr, Change, Mode, Outcome};
+use nfs_objects::{Addr, Change, Mode, Outcome, Wish};
 use nfs_wire::NfsCall;
 use std::alloc::{AllocError, Global};
 use std::vec::IntoIter;
@@ -31,7 +31,7 @@ pub enum Course {
     /// It took the exports ahead of its first attempt, and wants this address next.
     FirstHandle(Addr, Mode),
     /// It wants these addresses of those that were asked for, the first one first, and goes on by its plan then.
-    Acquiring(IntoIter<(Addr, Mode)>, Plan),
+    Acquiring(IntoIter<Wish>, Plan),
     /// It goes on by its plan, ahead of its next attempt.
     Planned(Plan),
     /// It wants so many new numbers, and goes on by its plan then.
@@ -183,7 +183,7 @@ pub(crate) fn attempt_on(alloc: Global, txn: &Txn) -> Result<Outcome, AllocError
 }
 
 /// The step to the first of these addresses, and the others behind it. None where there is no address.
-fn first_of(wanted: IntoIter<(Addr, Mode)>, plan: Plan) -> Option<NextStep>
+fn first_of(wanted: IntoIter<Wish>, plan: Plan) -> Option<NextStep>
     ensures { IsFirstOf (into_iter_items wanted) plan result }
 {
     let mut wanted = wanted;

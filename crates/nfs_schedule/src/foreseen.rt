@@ -4,11 +4,11 @@ ghost use Rattle.std.specs.Prelude.{◌≡◌};
 ghost use Rattle.nfs_schedule.specs.Foreseen.{foreseen};
 
 use nfs_machine::{Call, Handle};
-use nfs_objects::{Addr, Mode, Modes};
+use nfs_objects::{Addr, Modes, Wish};
 
 /// What a call of NFS reads before all else but the exports, with its mode: what its first handle names. None of
 /// another call, and where that is no handle.
-pub(crate) fn foreseen(call: &Call) -> Option<(Addr, Mode)>
+pub(crate) fn foreseen(call: &Call) -> Option<Wish>
     ensures { result ≡ foreseen call.now }
 {
     let Call::Nfs(nfs) = call else {

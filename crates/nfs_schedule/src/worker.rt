@@ -14,7 +14,7 @@ ghost use Rattle.nfs_schedule.specs.Workers.{Comes, MayThink, Thinks, WorkerLive
 use crate::answer::{Answer, refuse, refuse_arrival};
 use crate::course::attempt_on;
 use nfs_engine::{Admission, Arrival, Engine, Finished, Got, Next, Pending, Release, SHARDS, Txn};
-use nfs_objects::{Addr, Change, Mode, Outcome};
+use nfs_objects::{Change, Outcome, Wish};
 use std::alloc::Global;
 use std::collections::VecDeque;
 use std::mem;
@@ -36,7 +36,7 @@ pub enum Worker {
     /// It has to think about its call.
     Trying(Txn),
     /// It wants these addresses, the first one first.
-    Wanting(Txn, IntoIter<(Addr, Mode)>),
+    Wanting(Txn, IntoIter<Wish>),
     /// It wants so many new numbers.
     WantingNumbers(Txn, u32),
     /// Its call is done, and is to be committed.
@@ -200,7 +200,7 @@ fn leave(arrival: Arrival) -> Answer
 }
 
 /// Asks for the first of these addresses.
-fn acquire(alloc: Global, engine: &mut Engine, txn: Txn, wanted: IntoIter<(Addr, Mode)>) -> Worker
+fn acquire(alloc: Global, engine: &mut Engine, txn: Txn, wanted: IntoIter<Wish>) -> Worker
     requires { WorkerLives engine.old (Worker.Wanting txn wanted) }
     ensures { IsTurnOf engine.old engine.new 0 (Worker.Wanting txn wanted) result None }
 {

@@ -6,13 +6,13 @@ ghost use Rattle.nfs_objects.specs.declared.address.Addr.{Addr as Address};
 ghost use Rattle.nfs_inodes.specs.Asking.{IsAsking, with_wish};
 ghost use Rattle.nfs_inodes.specs.Stops.{StopsAt};
 
-use nfs_objects::{Addr, Draft, Missing, Mode};
+use nfs_objects::{Addr, Draft, Missing, Wish};
 use std::alloc::{AllocError, Global};
 
 /// What is asked for so far, each address once.
 #[derive(Drop)]
 pub struct Asking {
-    asked: Vec<(Addr, Mode)>,
+    asked: Vec<Wish>,
 }
 
 impl Asking {
