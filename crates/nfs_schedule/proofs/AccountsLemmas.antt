@@ -16,8 +16,9 @@ use Rattle.nfs_schedule.specs.Answers.{answered}
 use Rattle.nfs_schedule.specs.Events.{Arrives, Drives, Happens}
 use Rattle.nfs_schedule.specs.Worlds.{WorldValue}
 use Rattle.nfs_schedule.specs.declared.answer.Answer.{Answer}
-use Rattle.nfs_schedule.specs.declared.driving.Event.{Event}
-use Rattle.nfs_schedule.specs.declared.driving.Event.TheVariants.{Arrive, Replace, Turn, Stop, TakeMessage, NewEra}
+use Rattle.nfs_schedule.specs.declared.model.driving.Event.{Event}
+use Rattle.nfs_schedule.specs.declared.model.driving.Event.TheVariants.{Arrive, Replace, Turn, Stop, TakeMessage}
+use Rattle.nfs_schedule.specs.declared.model.driving.Event.TheVariants.{NewEra}
 
 -- ---- an event
 record Comes (old new : WorldValue) (event : Event) (given : List Answer) : Type 0 where

@@ -31,12 +31,12 @@ use Rattle.nfs_schedule.specs.Workers.{Comes, Thinks}
 use Rattle.nfs_schedule.specs.Worlds.{StopsWorker, TakesTurn, WorldValue}
 use Rattle.nfs_schedule.specs.declared.answer.Answer.{Answer}
 use Rattle.nfs_schedule.specs.declared.answer.Answer.TheVariants as answers
-use Rattle.nfs_schedule.specs.declared.worker.Afterwards.{Afterwards}
-use Rattle.nfs_schedule.specs.declared.worker.Afterwards.TheVariants.{Again, GiveUp}
-use Rattle.nfs_schedule.specs.declared.worker.Worker.{Worker}
-use Rattle.nfs_schedule.specs.declared.worker.Worker.TheVariants.{Idle, Trying, Wanting, WantingNumbers, Ready}
-use Rattle.nfs_schedule.specs.declared.worker.Worker.TheVariants.{Blocked, Failing}
-use Rattle.nfs_schedule.specs.declared.worker.Worker.TheVariants.{Leaving, PutOff, Refusing}
+use Rattle.nfs_schedule.specs.declared.model.worker.Afterwards.{Afterwards}
+use Rattle.nfs_schedule.specs.declared.model.worker.Afterwards.TheVariants.{Again, GiveUp}
+use Rattle.nfs_schedule.specs.declared.model.worker.Worker.{Worker}
+use Rattle.nfs_schedule.specs.declared.model.worker.Worker.TheVariants.{Idle, Trying, Wanting, WantingNumbers, Ready}
+use Rattle.nfs_schedule.specs.declared.model.worker.Worker.TheVariants.{Blocked, Failing}
+use Rattle.nfs_schedule.specs.declared.model.worker.Worker.TheVariants.{Leaving, PutOff, Refusing}
 
 -- ---- lists in another order
 pub permuted : {X : Type 0} (xs ys : List X) → ys ≡ xs → IsPermutation xs ys

@@ -42,7 +42,7 @@ use Rattle.nfs_schedule.specs.Turns.{Executes, KeepsStore}
 use Rattle.nfs_schedule.specs.Worlds.{IsAtRest}
 use Rattle.nfs_schedule.specs.declared.answer.Answer.{Answer}
 use Rattle.nfs_schedule.specs.declared.answer.Answer.TheVariants as answers
-use Rattle.nfs_schedule.specs.declared.worker.Worker.TheVariants.{Idle, Refusing}
+use Rattle.nfs_schedule.specs.declared.model.worker.Worker.TheVariants.{Idle, Refusing}
 
 -- ---- a call that begins
 pub begins_alone : (e f : EngineValue) (a : ArrivalValue) (t : TxnValue) → IsAtRest e → BeginsCall e.book f.book a t →

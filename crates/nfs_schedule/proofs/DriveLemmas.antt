@@ -7,8 +7,9 @@ use Rattle.nfs_schedule.proofs.EraRunLemmas.{era_runs, message_runs, stop_runs, 
 use Rattle.nfs_schedule.specs.Events.{Arrives, Drives, Goes, Happens, HasWorker}
 use Rattle.nfs_schedule.specs.Worlds.{RunsFrom, RunsOn, WorldValue}
 use Rattle.nfs_schedule.specs.declared.answer.Answer.{Answer}
-use Rattle.nfs_schedule.specs.declared.driving.Event.{Event}
-use Rattle.nfs_schedule.specs.declared.driving.Event.TheVariants.{Arrive, Replace, Turn, Stop, TakeMessage, NewEra}
+use Rattle.nfs_schedule.specs.declared.model.driving.Event.{Event}
+use Rattle.nfs_schedule.specs.declared.model.driving.Event.TheVariants.{Arrive, Replace, Turn, Stop, TakeMessage}
+use Rattle.nfs_schedule.specs.declared.model.driving.Event.TheVariants.{NewEra}
 use Rattle.nfs_machine.specs.Run.{Arrival, FromHost, NewExports}
 use Rattle.nfs_engine.specs.Arrivals.{received_value}
 

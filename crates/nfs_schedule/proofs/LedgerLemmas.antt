@@ -31,7 +31,7 @@ use Rattle.nfs_schedule.specs.Turns.{Effect, Executes, KeepsStore}
 use Rattle.nfs_schedule.specs.Worlds.{StopsWorker, TakesOldest, TakesTurn, TurnsEra, WorldValue, records_of}
 use Rattle.nfs_schedule.specs.declared.answer.Answer.{Answer}
 use Rattle.nfs_schedule.specs.declared.answer.Answer.TheVariants as answers
-use Rattle.nfs_schedule.specs.declared.worker.Worker.{Worker}
+use Rattle.nfs_schedule.specs.declared.model.worker.Worker.{Worker}
 
 -- what accounts tell of an engine or a world
 pub record Ledger : Type 0 where

@@ -21,10 +21,11 @@ use Rattle.nfs_engine.specs.Repeats.{origin_of}
 use Rattle.nfs_engine.specs.declared.release.Then.{Then}
 use Rattle.nfs_engine.specs.declared.release.Then.TheVariants.{Aborted, Ended}
 use Rattle.nfs_schedule.specs.Workers.{WorkerLives, worker_id}
-use Rattle.nfs_schedule.specs.declared.worker.Worker.{Worker}
-use Rattle.nfs_schedule.specs.declared.worker.Worker.TheVariants.{Idle, Trying, Wanting, WantingNumbers, Ready, Blocked}
-use Rattle.nfs_schedule.specs.declared.worker.Worker.TheVariants.{Failing}
-use Rattle.nfs_schedule.specs.declared.worker.Worker.TheVariants.{Leaving, PutOff, Refusing}
+use Rattle.nfs_schedule.specs.declared.model.worker.Worker.{Worker}
+use Rattle.nfs_schedule.specs.declared.model.worker.Worker.TheVariants.{Idle, Trying, Wanting, WantingNumbers, Ready}
+use Rattle.nfs_schedule.specs.declared.model.worker.Worker.TheVariants.{Blocked}
+use Rattle.nfs_schedule.specs.declared.model.worker.Worker.TheVariants.{Failing}
+use Rattle.nfs_schedule.specs.declared.model.worker.Worker.TheVariants.{Leaving, PutOff, Refusing}
 
 -- each address that was read is seen
 seen_itself : (es : List Seen) → AllByRecursion (λ (e : Seen). IsSome (seen_at es e.address)) es

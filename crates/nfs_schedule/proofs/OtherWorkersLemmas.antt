@@ -12,8 +12,8 @@ use Rattle.nfs_engine.specs.Running.{Joins, running_at, without_call}
 use Rattle.nfs_engine.specs.declared.running.Running.{Running}
 use Rattle.nfs_schedule.proofs.OtherCallsLemmas.{worker_known, worker_on}
 use Rattle.nfs_schedule.specs.Workers.{IsApart, KeepsRest, WorkerLives, worker_id, worker_key}
-use Rattle.nfs_schedule.specs.declared.worker.Worker.{Worker}
-use Rattle.nfs_schedule.specs.declared.worker.Worker.TheVariants.{Idle}
+use Rattle.nfs_schedule.specs.declared.model.worker.Worker.{Worker}
+use Rattle.nfs_schedule.specs.declared.model.worker.Worker.TheVariants.{Idle}
 
 -- it is this number, or not
 pub is_number : (o : Option ℕ) (n : ℕ) → (o ≡ Some n) ⊎ (o ≢ Some n)

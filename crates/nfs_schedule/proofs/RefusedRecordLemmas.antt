@@ -11,7 +11,7 @@ use Rattle.nfs_schedule.specs.Answers.{IsRefused}
 use Rattle.nfs_schedule.specs.Turns as turns
 use Rattle.nfs_schedule.specs.declared.answer.Answer.{Answer}
 use Rattle.nfs_schedule.specs.declared.answer.Answer.TheVariants as answers
-use Rattle.nfs_schedule.specs.declared.worker.Worker.TheVariants.{Idle}
+use Rattle.nfs_schedule.specs.declared.model.worker.Worker.TheVariants.{Idle}
 
 -- it asks one call
 pub refuses_to : (a : ArrivalValue) (reading : Reading) (is asked : Asked) (answer : Answer) → reading ≡ a.reading →

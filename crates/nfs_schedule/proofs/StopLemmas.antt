@@ -21,9 +21,9 @@ use Rattle.nfs_schedule.specs.Answers.{IsUnanswered}
 use Rattle.nfs_schedule.specs.Stops.{IsGone, IsStop, received_of}
 use Rattle.nfs_schedule.specs.Workers.{worker_id, worker_key}
 use Rattle.nfs_schedule.specs.declared.answer.Answer.{Answer}
-use Rattle.nfs_schedule.specs.declared.worker.Afterwards.{Afterwards}
-use Rattle.nfs_schedule.specs.declared.worker.Worker.{Worker}
-use Rattle.nfs_schedule.specs.declared.worker.Worker.TheVariants.{Idle, Leaving, Ready}
+use Rattle.nfs_schedule.specs.declared.model.worker.Afterwards.{Afterwards}
+use Rattle.nfs_schedule.specs.declared.model.worker.Worker.{Worker}
+use Rattle.nfs_schedule.specs.declared.model.worker.Worker.TheVariants.{Idle, Leaving, Ready}
 
 -- ---- two steps of one call
 module _ (id : ℕ) (e m f : EngineValue) (k : KeepsOthers id e m) (l : KeepsOthers id m f) where

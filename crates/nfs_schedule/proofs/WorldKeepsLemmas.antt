@@ -20,8 +20,8 @@ use Rattle.nfs_schedule.specs.Turns.{Turns}
 use Rattle.nfs_schedule.specs.Workers.{KeepsRest, WorkerLives, worker_id, worker_key}
 use Rattle.nfs_schedule.specs.Worlds.{IsAtRest, IsKept, IsSomeones}
 use Rattle.nfs_schedule.specs.declared.answer.Answer.{Answer}
-use Rattle.nfs_schedule.specs.declared.worker.Worker.{Worker}
-use Rattle.nfs_schedule.specs.declared.worker.Worker.TheVariants.{Idle}
+use Rattle.nfs_schedule.specs.declared.model.worker.Worker.{Worker}
+use Rattle.nfs_schedule.specs.declared.model.worker.Worker.TheVariants.{Idle}
 
 pub set_here : {X : Type 0} (xs : List X) (i : ℕ) (x y : X) → slice_get xs i ≡ Some x
     → slice_get (set xs i y) i ≡ Some y

@@ -15,10 +15,11 @@ use Rattle.nfs_schedule.specs.Asking.{HasRead, IsRead, wanted_by}
 use Rattle.nfs_schedule.specs.Order.{IsOrderly, IsReading, KeepsApart, executed_by}
 use Rattle.nfs_schedule.specs.Workers.{WorkerLives}
 use Rattle.nfs_schedule.specs.Worlds.{IsKept, WorldValue}
-use Rattle.nfs_schedule.specs.declared.worker.Worker.{Worker}
-use Rattle.nfs_schedule.specs.declared.worker.Worker.TheVariants.{Idle, Trying, Wanting, WantingNumbers, Ready, Blocked}
-use Rattle.nfs_schedule.specs.declared.worker.Worker.TheVariants.{Failing}
-use Rattle.nfs_schedule.specs.declared.worker.Worker.TheVariants.{Leaving, PutOff, Refusing}
+use Rattle.nfs_schedule.specs.declared.model.worker.Worker.{Worker}
+use Rattle.nfs_schedule.specs.declared.model.worker.Worker.TheVariants.{Idle, Trying, Wanting, WantingNumbers, Ready}
+use Rattle.nfs_schedule.specs.declared.model.worker.Worker.TheVariants.{Blocked}
+use Rattle.nfs_schedule.specs.declared.model.worker.Worker.TheVariants.{Failing}
+use Rattle.nfs_schedule.specs.declared.model.worker.Worker.TheVariants.{Leaving, PutOff, Refusing}
 
 -- ---- who holds an address alone
 beside_shares : (m : Option Mode) (t : Bool) → m ≡ cond t (Some Shared) None → m ≡ Some Exclusive → ⊥

@@ -21,8 +21,8 @@ use Rattle.nfs_schedule.specs.Stops.{received_of}
 use Rattle.nfs_schedule.specs.Worlds.{WorldValue, records_of}
 use Rattle.nfs_schedule.specs.declared.answer.Answer.{Answer}
 use Rattle.nfs_schedule.specs.declared.answer.Answer.TheVariants as answers
-use Rattle.nfs_schedule.specs.declared.driving.Event.{Event}
-use Rattle.nfs_schedule.specs.declared.driving.Event.TheVariants.{Arrive, Replace}
+use Rattle.nfs_schedule.specs.declared.model.driving.Event.{Event}
+use Rattle.nfs_schedule.specs.declared.model.driving.Event.TheVariants.{Arrive, Replace}
 
 -- ---- what was executed
 -- the receipt that an answer tells, where its call was executed

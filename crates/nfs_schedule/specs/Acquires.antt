@@ -9,10 +9,10 @@ use Rattle.nfs_engine.specs.Calls.{TxnValue, txn_of}
 use Rattle.nfs_schedule.specs.Events.{Drives, Happens}
 use Rattle.nfs_schedule.specs.Worlds.{WorldValue}
 use Rattle.nfs_schedule.specs.declared.answer.Answer.{Answer}
-use Rattle.nfs_schedule.specs.declared.driving.Event.{Event}
-use Rattle.nfs_schedule.specs.declared.driving.Event.TheVariants.{Turn}
-use Rattle.nfs_schedule.specs.declared.worker.Worker.{Worker}
-use Rattle.nfs_schedule.specs.declared.worker.Worker.TheVariants.{Trying, Wanting, WantingNumbers, Ready}
+use Rattle.nfs_schedule.specs.declared.model.driving.Event.{Event}
+use Rattle.nfs_schedule.specs.declared.model.driving.Event.TheVariants.{Turn}
+use Rattle.nfs_schedule.specs.declared.model.worker.Worker.{Worker}
+use Rattle.nfs_schedule.specs.declared.model.worker.Worker.TheVariants.{Trying, Wanting, WantingNumbers, Ready}
 
 -- ---- what is asked for
 -- the first of these, if there is one

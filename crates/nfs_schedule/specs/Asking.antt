@@ -10,9 +10,9 @@ use Rattle.nfs_objects.specs.Values.{Seen}
 use Rattle.nfs_objects.specs.declared.address.Addr.{Addr}
 use Rattle.nfs_objects.specs.declared.address.Addr.TheVariants as addresses
 use Rattle.nfs_objects.specs.declared.modes.Mode.{Mode}
-use Rattle.nfs_schedule.specs.declared.worker.Worker.{Worker}
-use Rattle.nfs_schedule.specs.declared.worker.Worker.TheVariants.{Trying, Wanting, WantingNumbers, Ready, Blocked}
-use Rattle.nfs_schedule.specs.declared.worker.Worker.TheVariants.{Failing}
+use Rattle.nfs_schedule.specs.declared.model.worker.Worker.{Worker}
+use Rattle.nfs_schedule.specs.declared.model.worker.Worker.TheVariants.{Trying, Wanting, WantingNumbers, Ready, Blocked}
+use Rattle.nfs_schedule.specs.declared.model.worker.Worker.TheVariants.{Failing}
 
 -- what the first of these handles names
 abbrev pub first_object : List (List ℕ) → List Addr

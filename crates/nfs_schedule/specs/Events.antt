@@ -5,8 +5,9 @@ use Rattle.nfs_machine.specs.Run.{Arrival, FromHost, NewExports}
 use Rattle.nfs_engine.specs.Arrivals.{ArrivalValue, IsArrival, received_value}
 use Rattle.nfs_schedule.specs.Worlds.{StopsWorker, TakesOldest, TakesTurn, TurnsEra, WorldValue}
 use Rattle.nfs_schedule.specs.declared.answer.Answer.{Answer}
-use Rattle.nfs_schedule.specs.declared.driving.Event.{Event}
-use Rattle.nfs_schedule.specs.declared.driving.Event.TheVariants.{Arrive, Replace, Turn, Stop, TakeMessage, NewEra}
+use Rattle.nfs_schedule.specs.declared.model.driving.Event.{Event}
+use Rattle.nfs_schedule.specs.declared.model.driving.Event.TheVariants.{Arrive, Replace, Turn, Stop, TakeMessage}
+use Rattle.nfs_schedule.specs.declared.model.driving.Event.TheVariants.{NewEra}
 
 -- the workers that an event names are there
 abbrev pub HasWorker : (workers : ℕ) → Event → Type 0

@@ -17,9 +17,9 @@ use Rattle.nfs_objects.specs.declared.change.Outcome.TheVariants.{Need, Fresh}
 use Rattle.nfs_objects.specs.declared.modes.Mode.{Mode}
 use Rattle.nfs_objects.specs.declared.view.Reserved.{Reserved}
 use Rattle.nfs_engine.specs.Calls.{TxnValue, txn_of}
-use Rattle.nfs_schedule.specs.declared.worker.Worker.{Worker}
-use Rattle.nfs_schedule.specs.declared.worker.Worker.TheVariants.{Trying, Wanting, WantingNumbers, Ready, Blocked}
-use Rattle.nfs_schedule.specs.declared.worker.Worker.TheVariants.{Failing}
+use Rattle.nfs_schedule.specs.declared.model.worker.Worker.{Worker}
+use Rattle.nfs_schedule.specs.declared.model.worker.Worker.TheVariants.{Trying, Wanting, WantingNumbers, Ready, Blocked}
+use Rattle.nfs_schedule.specs.declared.model.worker.Worker.TheVariants.{Failing}
 
 -- an attempt of the call asks for these, and for what is wanted first alone
 pub record AsksFor (t : TxnValue) (wanted : List (Addr × Mode)) : Type 0 where

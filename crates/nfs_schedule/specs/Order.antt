@@ -14,9 +14,9 @@ use Rattle.nfs_schedule.specs.Asking.{IsRead, wanted_by}
 use Rattle.nfs_schedule.specs.Grown.{ReadsFew}
 use Rattle.nfs_schedule.specs.Workers.{worker_id}
 use Rattle.nfs_schedule.specs.Worlds.{IsSomeones, WorldValue}
-use Rattle.nfs_schedule.specs.declared.worker.Worker.{Worker}
-use Rattle.nfs_schedule.specs.declared.worker.Worker.TheVariants.{Trying, Wanting, WantingNumbers, Ready, Blocked}
-use Rattle.nfs_schedule.specs.declared.worker.Worker.TheVariants.{Failing}
+use Rattle.nfs_schedule.specs.declared.model.worker.Worker.{Worker}
+use Rattle.nfs_schedule.specs.declared.model.worker.Worker.TheVariants.{Trying, Wanting, WantingNumbers, Ready, Blocked}
+use Rattle.nfs_schedule.specs.declared.model.worker.Worker.TheVariants.{Failing}
 
 -- the call that a worker executes, with what it has read
 abbrev pub executed_by : Worker → Option TxnValue

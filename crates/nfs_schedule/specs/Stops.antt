@@ -10,10 +10,10 @@ use Rattle.nfs_schedule.specs.Answers.{IsUnanswered}
 use Rattle.nfs_schedule.specs.Turns.{KeepsBook}
 use Rattle.nfs_schedule.specs.Workers.{KeepsRest}
 use Rattle.nfs_schedule.specs.declared.answer.Answer.{Answer}
-use Rattle.nfs_schedule.specs.declared.worker.Worker.{Worker}
-use Rattle.nfs_schedule.specs.declared.worker.Worker.TheVariants.{Idle, Trying, Wanting, WantingNumbers, Ready}
-use Rattle.nfs_schedule.specs.declared.worker.Worker.TheVariants.{Blocked, Failing}
-use Rattle.nfs_schedule.specs.declared.worker.Worker.TheVariants.{Leaving, PutOff, Refusing}
+use Rattle.nfs_schedule.specs.declared.model.worker.Worker.{Worker}
+use Rattle.nfs_schedule.specs.declared.model.worker.Worker.TheVariants.{Idle, Trying, Wanting, WantingNumbers, Ready}
+use Rattle.nfs_schedule.specs.declared.model.worker.Worker.TheVariants.{Blocked, Failing}
+use Rattle.nfs_schedule.specs.declared.model.worker.Worker.TheVariants.{Leaving, PutOff, Refusing}
 
 -- ---- what is told
 -- what came in of what a release leads to, if that is a call in progress

@@ -28,12 +28,12 @@ use Rattle.nfs_schedule.specs.Answers.{IsRefused, IsUnanswered}
 use Rattle.nfs_schedule.specs.Workers.{KeepsRest, Thinks, WorkerLives, worker_id}
 use Rattle.nfs_schedule.specs.declared.answer.Answer.{Answer}
 use Rattle.nfs_schedule.specs.declared.answer.Answer.TheVariants as answers
-use Rattle.nfs_schedule.specs.declared.worker.Afterwards.{Afterwards}
-use Rattle.nfs_schedule.specs.declared.worker.Afterwards.TheVariants.{Again, GiveUp}
-use Rattle.nfs_schedule.specs.declared.worker.Worker.{Worker}
-use Rattle.nfs_schedule.specs.declared.worker.Worker.TheVariants.{Idle, Trying, Wanting, WantingNumbers, Ready}
-use Rattle.nfs_schedule.specs.declared.worker.Worker.TheVariants.{Blocked, Failing}
-use Rattle.nfs_schedule.specs.declared.worker.Worker.TheVariants.{Leaving, PutOff, Refusing}
+use Rattle.nfs_schedule.specs.declared.model.worker.Afterwards.{Afterwards}
+use Rattle.nfs_schedule.specs.declared.model.worker.Afterwards.TheVariants.{Again, GiveUp}
+use Rattle.nfs_schedule.specs.declared.model.worker.Worker.{Worker}
+use Rattle.nfs_schedule.specs.declared.model.worker.Worker.TheVariants.{Idle, Trying, Wanting, WantingNumbers, Ready}
+use Rattle.nfs_schedule.specs.declared.model.worker.Worker.TheVariants.{Blocked, Failing}
+use Rattle.nfs_schedule.specs.declared.model.worker.Worker.TheVariants.{Leaving, PutOff, Refusing}
 
 -- ---- what is changed
 -- store, records, messages and the replies that are kept are as they were

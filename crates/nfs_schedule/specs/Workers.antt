@@ -17,10 +17,10 @@ use Rattle.nfs_engine.specs.Running.{running_at}
 use Rattle.nfs_engine.specs.declared.release.Then.{Then}
 use Rattle.nfs_engine.specs.declared.release.Then.TheVariants as then
 use Rattle.nfs_schedule.specs.Grown.{AsksFor, HasGrown}
-use Rattle.nfs_schedule.specs.declared.worker.Worker.{Worker}
-use Rattle.nfs_schedule.specs.declared.worker.Worker.TheVariants.{Idle, Trying, Wanting, WantingNumbers, Ready}
-use Rattle.nfs_schedule.specs.declared.worker.Worker.TheVariants.{Blocked, Failing}
-use Rattle.nfs_schedule.specs.declared.worker.Worker.TheVariants.{Leaving, PutOff, Refusing}
+use Rattle.nfs_schedule.specs.declared.model.worker.Worker.{Worker}
+use Rattle.nfs_schedule.specs.declared.model.worker.Worker.TheVariants.{Idle, Trying, Wanting, WantingNumbers, Ready}
+use Rattle.nfs_schedule.specs.declared.model.worker.Worker.TheVariants.{Blocked, Failing}
+use Rattle.nfs_schedule.specs.declared.model.worker.Worker.TheVariants.{Leaving, PutOff, Refusing}
 
 -- an address that a call may take: it has it not, and the mode is as strong as its attempt needed when it asked
 pub record MayTake (call : Call) (asking view : ViewValue) (a : Addr × Mode) : Type 0 where

@@ -16,8 +16,8 @@ use Rattle.nfs_schedule.specs.Stops.{IsStop}
 use Rattle.nfs_schedule.specs.Turns.{Turns}
 use Rattle.nfs_schedule.specs.Workers.{WorkerLives, worker_id, worker_key}
 use Rattle.nfs_schedule.specs.declared.answer.Answer.{Answer}
-use Rattle.nfs_schedule.specs.declared.worker.Worker.{Worker}
-use Rattle.nfs_schedule.specs.declared.worker.Worker.TheVariants.{Idle}
+use Rattle.nfs_schedule.specs.declared.model.worker.Worker.{Worker}
+use Rattle.nfs_schedule.specs.declared.model.worker.Worker.TheVariants.{Idle}
 
 pub record WorldValue : Type 0 where
   pub engine : EngineValue

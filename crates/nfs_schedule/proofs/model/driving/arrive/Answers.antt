@@ -1,0 +1,10 @@
+use Rattle.std.proofs.Common.{rules}
+use Rattle.nfs_schedule.proofs.model.driving.arrive.Goals as goal
+
+pub returns-clause-ok : goal.returns-clause-ok
+returns-clause-ok c = record {
+  arrival = c.in_ok-arrival.arrival;
+  received = search rules;
+  reading = c.reading.ensures.arrival;
+  rest = c.in_ok-arrive.ensures.ok;
+}

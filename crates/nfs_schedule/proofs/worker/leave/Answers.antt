@@ -1,4 +1,0 @@
-use Rattle.nfs_schedule.proofs.worker.leave.Goals as goal
-
-pub returns : goal.returns
-returns c = c.into_parts-received.ensures.received
