@@ -1,18 +1,14 @@
 -- Seats, and what their callers are told.
 use Rattle.std.specs.Prelude.{◌≡◌, ℕ, ◌+◌, ◌*◌, ◌^◌, ◌<◌, ◌≤◌, List, [], ◌∷◌, ◌++◌, length}
-use Rattle.std.specs.Prelude.{IfSome, Result, Ok, Err}
+use Rattle.std.specs.Prelude.{Result, Ok, Err}
 use Rattle.std.specs.List.{AllByRecursion}
-use Rattle.nfs_machine.specs.Refusal.{refusal_of}
-use Rattle.nfs_machine.specs.RpcReplies.{refusal_message}
 use Rattle.nfs_machine.specs.Run.{Arrival}
 use Rattle.nfs_engine.specs.Arrivals.{ArrivalValue, incoming_value}
-use Rattle.nfs_engine.specs.Asked.{IsAskedBy}
 use Rattle.nfs_engine.specs.Calls.{FinishedValue, IsCalled}
 use Rattle.nfs_engine.specs.Commits.{IsReceipt}
 use Rattle.nfs_engine.specs.declared.arrival.Reading.TheVariants as readings
-use Rattle.nfs_engine.specs.declared.asking.Asked.{Asked}
 use Rattle.nfs_engine.specs.declared.journal.Receipt.{Receipt}
-use Rattle.nfs_schedule.specs.declared.answer.RefusalReply.{RefusalReply}
+use Rattle.nfs_schedule.specs.Answers.{IsDeclined}
 use Rattle.nfs_pool.specs.declared.sent.PoolError.{PoolError}
 use Rattle.nfs_pool.specs.declared.sent.PoolError.TheVariants.{Memory, EraFull}
 use Rattle.nfs_pool.specs.declared.sent.Sent.{Sent}
@@ -54,14 +50,6 @@ pub record Gains (a : ArrivalValue) (old new : SeatValue) : Type 0 where
   pub above : AllByRecursion (λ (r : Receipt). r.number < receipt.number) old.receipts
   pub past : old.last < receipt.number
   pub last : new.last ≡ receipt.number
-
--- the answer is the refusal of what came in asks, or nothing where there was no memory for it
-pub record IsDeclined (r : Arrival) (declined : RefusalReply) : Type 0 where
-  pub asked : Asked
-  pub asks : IsAskedBy r asked
-  pub received : incoming_value declined.received ≡ r
-  pub answer : IfSome declined.answer
-      (λ bytes. bytes.items ≡ refusal_message asked.xid (refusal_of asked.call))
 
 -- Where the call was executed the seat has its receipt; else the seat is as it was. Each answer is of what came in.
 abbrev pub Tells : ArrivalValue → (old new : SeatValue) → Result Sent PoolError → Type 0

@@ -7,12 +7,12 @@ ghost use Rattle.nfs_objects.specs.Values.{change_value, done_value, seen_at};
 ghost use Rattle.nfs_objects.specs.declared.object.Object.{Object};
 ghost use Rattle.nfs_objects.specs.declared.view.Reserved.{Reserved};
 ghost use Rattle.nfs_engine.specs.Arrivals.{incoming_value};
-ghost use Rattle.nfs_engine.specs.Asked.{IsAskedBy};
+ghost use Rattle.nfs_schedule.specs.Answers.{IsDeclined};
 ghost use Rattle.nfs_schedule.specs.Courses.{IsAt, IsMade, IsNextStep};
 ghost use Rattle.nfs_schedule.specs.Executions.{HasTaken};
 ghost use Rattle.nfs_schedule.specs.declared.course.Course.{Course};
 ghost use Rattle.nfs_pool.specs.Passes.{ComesTo, EndsWith, LeadsOut, Reads, Retreats};
-ghost use Rattle.nfs_pool.specs.Seats.{IsDeclined, Tells};
+ghost use Rattle.nfs_pool.specs.Seats.{Tells};
 ghost use Rattle.nfs_pool.specs.Steps.{AsksSome, IsGivenUp, IsUnread};
 
 use crate::gate::{Gate, Step};
@@ -21,12 +21,11 @@ use crate::seat::Seat;
 use crate::sent::{PoolError, Reason, Sent, Unadmitted, Uncommitted};
 use crate::steps::Steps;
 use nfs_engine::{
-    Admission, Arrival, Asked, Got, Incoming, Next, Pending, Reading, Receipt, Refused, Release,
-    SHARDS, Txn,
+    Admission, Arrival, Got, Incoming, Next, Pending, Reading, Receipt, Refused, Release, SHARDS,
+    Txn,
 };
 use nfs_objects::{Addr, Change, Mode};
-use nfs_schedule::answer::refusal;
-use nfs_schedule::{Considered, Course, NextStep, RefusalReply, consider, next_step};
+use nfs_schedule::{Considered, Course, NextStep, RefusalReply, consider, decline, next_step};
 use nfs_stamps::Naming;
 use std::alloc::Global;
 use std::sync::Wait;
@@ -146,16 +145,6 @@ fn refuse(alloc: Global, arrival: Arrival) -> Sent
         Reading::Asks(asked) => Sent::Refused(decline(alloc, received, asked)),
         Reading::Faulted(_) => unreachable!(),
     }
-}
-
-/// The refusal of a call.
-fn decline(alloc: Global, received: Incoming, asked: Asked) -> RefusalReply
-    requires { IsAskedBy (incoming_value received) asked }
-    ensures { IsDeclined (incoming_value received) result }
-{
-    let answer = refusal(alloc, &asked);
-    drop(asked);
-    RefusalReply { received, answer }
 }
 
 /// Brings a call that began to its end.

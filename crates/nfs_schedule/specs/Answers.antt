@@ -6,8 +6,10 @@ use Rattle.nfs_machine.specs.RpcReplies.{refusal_message}
 use Rattle.nfs_machine.specs.Run as machine
 use Rattle.nfs_engine.specs.Answers.{answer_bytes}
 use Rattle.nfs_engine.specs.Arrivals.{incoming_value}
+use Rattle.nfs_engine.specs.Asked.{IsAskedBy}
 use Rattle.nfs_engine.specs.declared.asking.Asked.{Asked}
 use Rattle.nfs_schedule.specs.declared.answer.Answer.{Answer}
+use Rattle.nfs_schedule.specs.declared.answer.RefusalReply.{RefusalReply}
 use Rattle.nfs_schedule.specs.declared.answer.Answer.TheVariants.{Executed, Repeated, Refused, Early, Unanswered}
 
 -- what came in
@@ -31,6 +33,14 @@ abbrev pub IsRefused : machine.Arrival → Asked → Answer → Type 0
 IsRefused received asked (Refused declined) = (incoming_value declined.received ≡ received) ×
     IfSome declined.answer (λ bytes. bytes.items ≡ refusal_message asked.xid (refusal_of asked.call))
 IsRefused received asked answer = ⊥
+
+-- the answer is the refusal of what came in asks, or nothing where there was no memory for it
+pub record IsDeclined (r : machine.Arrival) (declined : RefusalReply) : Type 0 where
+  pub asked : Asked
+  pub asks : IsAskedBy r asked
+  pub received : incoming_value declined.received ≡ r
+  pub answer : IfSome declined.answer
+      (λ bytes. bytes.items ≡ refusal_message asked.xid (refusal_of asked.call))
 
 -- it came in, and has no reply
 abbrev pub IsUnanswered : machine.Arrival → Answer → Type 0

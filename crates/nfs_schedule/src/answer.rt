@@ -9,7 +9,7 @@ ghost use Rattle.nfs_machine.specs.Refusal.{refusal_of};
 ghost use Rattle.nfs_machine.specs.RpcReplies.{refusal_message};
 ghost use Rattle.nfs_engine.specs.declared.arrival.Reading.TheVariants as readings;
 ghost use Rattle.nfs_engine.specs.declared.asking.Asked.{Asked};
-ghost use Rattle.nfs_schedule.specs.Answers.{IsRefused, answered, reply_bytes};
+ghost use Rattle.nfs_schedule.specs.Answers.{IsDeclined, IsRefused, answered, reply_bytes};
 ghost use Rattle.nfs_schedule.specs.Turns.{AsksCall};
 
 use nfs_engine::{Arrival, Asked, Faulted, Incoming, Kept, Reading, Receipt, answers};
@@ -76,14 +76,23 @@ fn bytes_of(answer: &Option<Vec<u8>>) -> &[u8]
     }
 }
 
+/// The refusal of a call that is not executed.
+pub fn decline(alloc: Global, received: Incoming, asked: Asked) -> RefusalReply
+    requires { IsAskedBy (incoming_value received) asked }
+    ensures refused { IsRefused (incoming_value received) asked (Answer.Refused result) }
+    ensures declined { IsDeclined (incoming_value received) result }
+{
+    let answer = refusal(alloc, &asked);
+    drop(asked);
+    RefusalReply { received, answer }
+}
+
 /// The answer of a call that is not executed.
 pub(crate) fn refuse(alloc: Global, received: Incoming, asked: Asked) -> Answer
     requires { IsAskedBy (incoming_value received) asked }
     ensures { IsRefused (incoming_value received) asked result }
 {
-    let answer = refusal(alloc, &asked);
-    drop(asked);
-    Answer::Refused(RefusalReply { received, answer })
+    Answer::Refused(decline(alloc, received, asked))
 }
 
 /// The answer to an arrival that was not admitted.
@@ -99,7 +108,7 @@ pub(crate) fn refuse_arrival(alloc: Global, arrival: Arrival) -> Answer
 }
 
 /// The bytes of a call's refusal; None where there is no memory for them.
-pub fn refusal(alloc: Global, asked: &Asked) -> Option<Vec<u8>>
+fn refusal(alloc: Global, asked: &Asked) -> Option<Vec<u8>>
     requires { RefusalHasForm (refusal_of asked.now.call) }
     ensures { IfSome result
         (λ bytes. bytes.items ≡ refusal_message asked.now.xid (refusal_of asked.now.call)) }

@@ -6,7 +6,7 @@
 //! makes the steps of a list of events.
 #![tactic(auto)]
 
-pub mod answer;
+mod answer;
 mod attempts;
 mod course;
 mod executing;
@@ -15,7 +15,7 @@ mod laws;
 mod model;
 pub mod planning;
 
-pub use answer::{Answer, RefusalReply};
+pub use answer::{Answer, RefusalReply, decline};
 pub use attempts::attempt;
 pub use course::{Considered, Course, NextStep, consider, next_step};
 pub use executing::execute;

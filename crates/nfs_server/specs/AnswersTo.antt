@@ -8,7 +8,8 @@ use Rattle.nfs_engine.specs.declared.admission.Faulted.{Faulted}
 use Rattle.nfs_engine.specs.declared.journal.Receipt.{Receipt}
 use Rattle.nfs_schedule.specs.declared.answer.Answer.{Answer}
 use Rattle.nfs_schedule.specs.declared.answer.Answer.TheVariants as answers
-use Rattle.nfs_pool.specs.Seats.{IsDeclined, IsReceiptOf, SeatValue}
+use Rattle.nfs_schedule.specs.Answers.{IsDeclined}
+use Rattle.nfs_pool.specs.Seats.{IsReceiptOf, SeatValue}
 use Rattle.nfs_pool.specs.declared.sent.PoolError.{PoolError}
 use Rattle.nfs_pool.specs.declared.sent.PoolError.TheVariants.{EraFull, Memory}
 use Rattle.nfs_pool.specs.declared.sent.Sent.{Sent}

@@ -4,9 +4,7 @@ ghost use Rattle.std.specs.Prelude.{◌≡◌, ◌++◌, ◌+◌, ◌<◌, ◌�
 ghost use Rattle.std.specs.Prelude.{IfErr, IfNone, IfOk, IsSome, OnErr, OnOk};
 ghost use Rattle.nfs_machine.specs.Run as machine;
 ghost use Rattle.nfs_engine.specs.Arrivals.{incoming_value, received_value};
-ghost use Rattle.nfs_engine.specs.Asked.{IsAskedBy};
 ghost use Rattle.nfs_schedule.specs.Answers.{reply_bytes};
-ghost use Rattle.nfs_pool.specs.Seats.{IsDeclined};
 ghost use Rattle.nfs_streams.specs.Connections.{waiting};
 ghost use Rattle.nfs_server.specs.AnswersTo.{AnswersRecord, GainsAtMostOne, HandsBack, HasReceipt, IsAnswerTo};
 ghost use Rattle.nfs_server.specs.AnswersTo.{IsTold, number_after};
@@ -19,12 +17,11 @@ use crate::network::counters::Counters;
 use crate::network::peer::{Peer, PeerLink};
 use crate::network::permits::{Permit, Permits};
 use crate::network::wakeup::Wakeup;
-use nfs_engine::{Arrival, Asked, Faulted, Host, Incoming, Reading, Receipt, Received};
+use nfs_engine::{Arrival, Faulted, Host, Incoming, Reading, Receipt, Received};
 use nfs_machine::{Exports, Moments};
 use nfs_pool::{Naming, Open, PoolError, Seat, Sent};
 use nfs_rpc::Record;
-use nfs_schedule::answer::refusal;
-use nfs_schedule::{Answer, RefusalReply};
+use nfs_schedule::{Answer, RefusalReply, decline};
 use nfs_streams::Connection;
 use std::alloc::{AllocError, Global};
 use std::io;
@@ -386,7 +383,7 @@ fn answered<L: Ledger + Naming>(
 {
     match submitted {
         Ok(sent) => answer_to(sent, seat),
-        Err(back) => decline(alloc, back),
+        Err(back) => refuse(alloc, back),
     }
 }
 
@@ -454,24 +451,14 @@ fn read_again(alloc: Global, received: Received) -> Result<Arrival, AllocError>
 }
 
 /// The answer to what came in and is not executed.
-fn decline(alloc: Global, arrival: Arrival) -> Answered
+fn refuse(alloc: Global, arrival: Arrival) -> Answered
     ensures { (n : ℕ) → IfOk result (IsAnswerTo n arrival.received) }
 {
     let (received, reading) = arrival.into_parts();
     match reading {
-        Reading::Asks(asked) => told(declined(alloc, received, asked)),
+        Reading::Asks(asked) => told(decline(alloc, received, asked)),
         Reading::Faulted(answer) => Ok(Answer::Early(Faulted { received, answer })),
     }
-}
-
-/// The refusal of a call.
-fn declined(alloc: Global, received: Incoming, asked: Asked) -> RefusalReply
-    requires { IsAskedBy (incoming_value received) asked }
-    ensures { IsDeclined (incoming_value received) result }
-{
-    let answer = refusal(alloc, &asked);
-    drop(asked);
-    RefusalReply { received, answer }
 }
 
 /// A refusal, where there was memory to say it.

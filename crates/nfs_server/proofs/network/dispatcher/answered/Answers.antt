@@ -9,5 +9,5 @@ returns-in-Ok g c = λ n r told back.
 
 pub returns-in-Err : goal.returns-in-Err
 returns-in-Err g c = λ n r told back.
-    subst (λ (x : Arrival). IfOk c.decline.result (IsAnswerTo n x))
-    (subst (λ submitted. IfErr submitted (λ b. b.received ≡ r)) c.in-Err.is back) (c.decline.ensures n)
+    subst (λ (x : Arrival). IfOk c.refuse.result (IsAnswerTo n x))
+    (subst (λ submitted. IfErr submitted (λ b. b.received ≡ r)) c.in-Err.is back) (c.refuse.ensures n)
