@@ -1,13 +1,12 @@
 -- The call that replaces the exports: what it does is the machine's step, and what it may ask for.
 use Rattle.std.proofs.Common.{◌≡◌, ◌==◌, ◌⊎◌, ◌+◌, ◌-◌, ◌<◌, ◌≤◌, ◌^◌, ℕ, zero, suc, true, false, cond, min}
-use Rattle.std.proofs.Common.{List, [], ◌∷◌, Option, Some, None, IsSome, option_map, length, take, get_or}
+use Rattle.std.proofs.Common.{List, [], ◌∷◌, Option, Some, None, option_map, length, take, get_or}
 use Rattle.std.proofs.Common.{Result, Ok, Err, inl, inr, refl, sym, ◌∙◌, ap, subst, arith}
 use Rattle.std.proofs.lemmas.Bool.{lt-leb}
 use Rattle.std.proofs.lemmas.Option.{slice_get-get_or}
 use Rattle.std.specs.FinMap.{get}
 use Rattle.std.specs.List.{AllByRecursion}
 use Rattle.std.specs.Prelude.{MatchResult, OnOk, slice_get}
-use Rattle.nfs_machine.proofs.StepKeepsLemmas.{room as room-fits}
 use Rattle.nfs_machine.proofs.ReplacedStateLemmas.{is-numbered}
 use Rattle.nfs_machine.specs.ExportFaults.{AreFaultless}
 use Rattle.nfs_machine.specs.Exports.{ExportValue, LivingExport}
@@ -22,7 +21,7 @@ use Rattle.nfs_objects.proofs.PromiseLemmas.{promised, turns-both, turns-none}
 use Rattle.nfs_objects.proofs.SeenLemmas.{all-map, known-stands, shown-stands, written-append}
 use Rattle.nfs_objects.proofs.UsageSumLemmas.{AllFit, all-fit}
 use Rattle.nfs_objects.specs.Asks.{AreFirst, Lacks, WantsNumbers}
-use Rattle.nfs_objects.specs.Attempt.{EndsCall, HaltsFirst, StopsCall, unless_seen}
+use Rattle.nfs_objects.specs.Attempt.{EndsCall, StopsCall}
 use Rattle.nfs_objects.specs.Begins.{Begins}
 use Rattle.nfs_objects.specs.Bound.{HasNumbers}
 use Rattle.nfs_objects.specs.Calls.{IsAmong, exports_shown, named_by, new_numbers, root_usages, roots_for}
@@ -43,7 +42,7 @@ use Rattle.nfs_objects.specs.declared.change.Missing.{Missing}
 use Rattle.nfs_objects.specs.declared.object.Object.{Object}
 use Rattle.nfs_objects.specs.declared.object.Object.TheVariants as objects
 use Rattle.nfs_objects.specs.declared.view.Reserved.{Reserved}
-use Rattle.nfs_inodes.proofs.ReaderHaltLemmas.{known-shown, stops-before}
+use Rattle.nfs_inodes.proofs.ReaderHaltLemmas.{stops-before}
 use Rattle.nfs_inodes.specs.Roots.{Follows, ReservedFits, roots_made}
 use Rattle.nfs_inodes.specs.Stops.{StopsAt}
 use Rattle.nfs_mount.proofs.NewExportsLemmas.{AreGiven, end, end-sound, end-step, exhausted-step, table-follows}
@@ -90,19 +89,6 @@ module _ (d : DraftValue) (none : d.writes ≡ []) (table : ExportTableValue)
   shown-is = ap (λ ws. option_map export_table_of (written_at (shown_at d.view.entries addresses.Exports) ws
       addresses.Exports)) (sym none) ∙ known
 
-  pub table-known : IsSome (known_at d addresses.Exports)
-  table-known = by (known_at d addresses.Exports) known
-    where
-      by : (o : Option (Option Object)) → option_map export_table_of o ≡ Some table → IsSome o
-      by None is = cc
-      by (Some o) is = refl
-
-  -- the exports are not asked for
-  pub table-first : {A : Type 0} (r : Result A Missing)
-      → HaltsFirst d.modes d.view (unless_seen d.view addresses.Exports) r
-  table-first r = subst (λ w. HaltsFirst d.modes d.view w r)
-      (sym (known-shown d addresses.Exports none table-known)) tt
-
   -- in each store
   pub table-stands : (s : Store) (k : StoreMeaning) → Fits d.view s → Represents (with_writes s d.writes) k
       → (k.state.exports ≡ table.exports) × (k.state.last_export ≡ table.last)
@@ -118,13 +104,6 @@ module _ (d : DraftValue) (none : d.writes ≡ []) (table : ExportTableValue)
             stands.tables.exports ∙ ap (λ (t : ExportTableValue). t.exports) there,
             stands.tables.last_export ∙ ap (λ (t : ExportTableValue). t.last) there,
           )
-
-  -- the new numbers fit
-  pub room-left : (exports : List ExportValue) → is_exhausted table.exports table.last exports ≡ false
-      → table.last < 2 ^ 32 → (more : ℕ) → more ≡ new_count table.exports exports → table.last + more < 2 ^ 32
-  room-left exports room small zero is = omega (arith, small)
-  room-left exports room small (suc more) is =
-      let fits = room-fits table.exports table.last exports room (omega (arith, is)) in omega (arith, fits, is)
 
   -- ---- what the call wants and names
   module _ (exports : List ExportValue) where

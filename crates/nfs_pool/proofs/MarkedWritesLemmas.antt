@@ -1,10 +1,9 @@
 -- Marks of the exports and of the mounts, and marks after a commit.
-use Rattle.std.proofs.Common.{◌≡◌, ◌≢◌, ℕ, zero, suc, ◌==◌, ◌&&◌, true, false, cond, List, [], ◌∷◌, ◌++◌, map, Option}
+use Rattle.std.proofs.Common.{◌≡◌, ◌≢◌, ℕ, ◌==◌, ◌&&◌, true, false, cond, [], ◌∷◌, ◌++◌, map, Option}
 use Rattle.std.proofs.Common.{Some, None}
-use Rattle.std.proofs.Common.{slice_get, refl, sym, ◌∙◌, ap, subst}
+use Rattle.std.proofs.Common.{refl, sym, ◌∙◌, ap, subst}
 use Rattle.std.specs.Prelude.{IfSome}
 use Rattle.std.specs.Cmp.{unsigned_Decides}
-use Rattle.std.specs.List.{AllByRecursion}
 use Rattle.nfs_objects.proofs.SeenLemmas.{is_addr-same}
 use Rattle.nfs_objects.specs.Store.{Store, with_writes}
 use Rattle.nfs_objects.specs.Values.{is_addr, written_at}
@@ -18,28 +17,6 @@ use Rattle.nfs_engine.specs.Shards.{shard_of}
 use Rattle.nfs_stamps.proofs.MarksWrittenLemmas.{IsAfter, after_more, after_other}
 use Rattle.nfs_stamps.specs.Marking.{AreMarks, IsMarked, MarksValue, Puts, Writes, stamp_at}
 use Rattle.nfs_pool.specs.Marked.{AreStampsOf, IsMarkedAmong, MakesAmong, OpensMarked, is_among, opening_mark}
-
--- the marks that were set, one after the other
-pub opens-marked : (none first marks : MarksValue) (exports mounts : Option Writes) → none ≡ []
-    → IsMarked none first Exports exports → IsMarked first marks Mounts mounts → OpensMarked marks exports mounts
-opens-marked none first marks exports mounts empty one two a s is =
-    go a is where
-      nothing : (b : Addr) → stamp_at none b ≡ None
-      nothing b = ap (λ m. stamp_at m b) empty
-
-      absent : (b : Addr) → stamp_at none b ≡ Some s → opening_mark exports mounts b ≡ Some s
-      absent b is = absurd (cc (sym (nothing b), is))
-
-      go : (b : Addr) → stamp_at marks b ≡ Some s → opening_mark exports mounts b ≡ Some s
-      go Exports is = one Exports s (two Exports s is)
-      go (Inode n) is = absent (Inode n) (one (Inode n) s (two (Inode n) s is))
-      go (Map n p) is = absent (Map n p) (one (Map n p) s (two (Map n p) s is))
-      go (Block n i) is = absent (Block n i) (one (Block n i) s (two (Block n i) s is))
-      go (Page n p) is = absent (Page n p) (one (Page n p) s (two (Page n p) s is))
-      go (Part n b p) is = absent (Part n b p) (one (Part n b p) s (two (Part n b p) s is))
-      go Mounts is = two Mounts s is
-      go (Usage e g) is = absent (Usage e g) (one (Usage e g) s (two (Usage e g) s is))
-      go (Locks b) is = absent (Locks b) (one (Locks b) s (two (Locks b) s is))
 
 -- they are those of what stands there
 pub opening-marks : (marks : MarksValue) (exports mounts : Option Writes) (at : Addr → Option Object)
@@ -68,12 +45,6 @@ pub puts-same : (m : Option Writes) (a : Addr) (x y : Option Object) → IfSome 
     IfSome m (λ s. Puts s a y)
 puts-same None a x y puts same = tt
 puts-same (Some s) a x y puts same = puts ∙ ap (λ o. Some o) (sym same)
-
--- what is so of all entries is so of each
-pub each-at : {X : Type 0} (P : X → Type 0) (xs : List X) (k : ℕ) → AllByRecursion P xs → IfSome (slice_get xs k) P
-each-at P [] k all = tt
-each-at P (x ∷ xs) zero all = all.0
-each-at P (x ∷ xs) (suc k) all = each-at P xs k all.1
 
 -- ---- after a commit
 -- writes in one shard are spent, and others stay as they were

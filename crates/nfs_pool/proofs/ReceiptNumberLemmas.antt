@@ -185,24 +185,8 @@ received_same a b t host bytes is = (
       (ap (λ (r : Received). r.moment.nanoseconds) same)),
 )
 
--- so arrivals are one where both are records that are, or both the same exports at one moment
-one_record : (a b : Received) → FromHost a ≡ FromHost b → a ≡ b
-one_record a b same = cc
-
-pub record_alike : (a b : Received) (t : Bool) → Decides t (a ≡ b) → Decides t (FromHost a ≡ FromHost b)
-record_alike a b t is = (λ yes. ap FromHost (is.0 yes), λ same. is.1 (one_record a b same))
-
 no_exports : (a : Received) (exports : List ExportValue) (moment : Moment) → FromHost a ≡ NewExports exports moment → ⊥
 no_exports a exports moment same = cc
-
-pub record_apart : (a : Received) (exports : List ExportValue) (moment : Moment) →
-    Decides false (FromHost a ≡ NewExports exports moment)
-record_apart a exports moment = (λ no. absurd (false≢true no), λ same. absurd (no_exports a exports moment same))
-
-pub exports_apart : (exports : List ExportValue) (moment : Moment) (a : Received) →
-    Decides false (NewExports exports moment ≡ FromHost a)
-exports_apart exports moment a =
-    (λ no. absurd (false≢true no), λ same. absurd (no_exports a exports moment (sym same)))
 
 one_list : (es fs : List ExportValue) (m n : Moment) → NewExports es m ≡ NewExports fs n → es ≡ fs
 one_list es fs m n same = cc

@@ -1,7 +1,7 @@
 -- Marks that are taken away.
-use Rattle.std.proofs.Common.{◌≡◌, ℕ, ◌<◌, ◌≤◌, ◌+◌, ◌*◌, ◌/◌, ◌==◌, ◌&&◌, true, false, cond, Option, Some, None, arith}
+use Rattle.std.proofs.Common.{◌≡◌, ℕ, ◌≤◌, ◌+◌, ◌*◌, ◌/◌, ◌==◌, ◌&&◌, true, false, cond, Option, Some, None, arith}
 use Rattle.std.proofs.Common.{refl, sym, ◌∙◌, ap, subst}
-use Rattle.std.proofs.lemmas.Bool.{and_parts, false≢true}
+use Rattle.std.proofs.lemmas.Bool.{and_parts}
 use Rattle.std.specs.Cmp.{unsigned_Decides}
 use Rattle.nfs_objects.proofs.SeenLemmas.{is_addr-refl, is_addr-same}
 use Rattle.nfs_objects.specs.Store.{put_at}
@@ -26,40 +26,6 @@ kept-on old new a marked b s is =
       | true ↦ λ none. absurd (cc none)
       | false ↦ λ same. same
     ] (marked b s is)
-
--- the inode's and the page's went, and none of a block yet
-pub unmark-first : (old one two : MarksValue) (file page first : ℕ) → IsMarked old one (Inode file) None
-    → IsMarked one two (Map file page) None → Unmarks old two file page first first
-unmark-first old one two file page first inode map = record {
-  kept = λ a s is. kept-on old one (Inode file) inode a s (kept-on one two (Map file page) map a s is);
-  inode = λ s is. gone-at old one (Inode file) inode s (kept-on one two (Map file page) map (Inode file) s is);
-  map = gone-at one two (Map file page) map;
-  blocks = λ i from below. absurd (omega (arith, from, below));
-}
-
--- one more of a block went
-pub unmark-more : (old now new : MarksValue) (file page first end : ℕ) → Unmarks old now file page first end
-    → IsMarked now new (Block file end) None → Unmarks old new file page first (end + 1)
-unmark-more old now new file page first end u marked = record {
-  kept = λ a s is. u.kept a s (on a s is);
-  inode = λ s is. u.inode s (on (Inode file) s is);
-  map = λ s is. u.map s (on (Map file page) s is);
-  blocks = λ i from below. elim (i == end) as (λ t. (i == end) ≡ t → NoMark new (Block file i)) [
-    | true ↦ λ same. subst (λ k. NoMark new (Block file k)) (sym ((unsigned_Decides i end).0 same))
-        (gone-at now new (Block file end) marked)
-    | false ↦ λ other s is. u.blocks i from (before i below other) s (on (Block file i) s is)
-  ] refl;
-} where
-  on : (a : Addr) (s : Writes) → stamp_at new a ≡ Some s → stamp_at now a ≡ Some s
-  on = kept-on now new (Block file end) marked
-
-  before : (i : ℕ) → i < end + 1 → (i == end) ≡ false → i < end
-  before i below other = omega (
-    arith,
-    below,
-    λ (same : i ≡ end). false≢true (sym other
-        ∙ (unsigned_Decides i end).1 same),
-  )
 
 -- a mark that is left is of what is not swept
 unswept : (file page : ℕ) (old new : MarksValue) → Unmarks old new file page (page * 512) (page * 512 + 512)

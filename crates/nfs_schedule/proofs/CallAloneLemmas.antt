@@ -1,40 +1,27 @@
 -- A call that is alone in the engine: it goes on, it ends, and leaves the engine at rest.
-use Rattle.std.proofs.Common.{◌≡◌, ◌≢◌, ℕ, zero, suc, ◌+◌, List, [], ◌∷◌, length, Option, Some, None, IsSome, Ok, Err}
+use Rattle.std.proofs.Common.{◌≡◌, ◌≢◌, ℕ, zero, suc, ◌+◌, List, [], ◌∷◌, length, Option, Some, None, IsSome}
 use Rattle.std.proofs.Common.{refl, sym, ◌∙◌, ap, subst}
 use Rattle.std.proofs.Common.{get_or, set, inl, inr, IfSome}
-use Rattle.std.specs.declared.alloc.AllocError.{AllocError}
 use Rattle.nfs_machine.specs.RpcReplies.{success_message}
 use Rattle.nfs_machine.specs.Run.{Arrival}
-use Rattle.nfs_objects.specs.Bound.{view_after}
-use Rattle.nfs_objects.specs.Rooms.{with_seen, with_number}
-use Rattle.nfs_objects.specs.Values.{ViewValue}
-use Rattle.nfs_objects.specs.declared.address.Addr.{Addr}
-use Rattle.nfs_objects.specs.declared.modes.Mode.{Mode}
-use Rattle.nfs_objects.specs.declared.modes.Mode.TheVariants.{Shared, Exclusive}
 use Rattle.nfs_replies.specs.declared.origins.Origin.{Origin}
 use Rattle.nfs_engine.proofs.OneShardOfSixteenLemmas.{alike_or}
 use Rattle.nfs_engine.specs.Arrivals.{ArrivalValue, incoming_value}
 use Rattle.nfs_engine.specs.Book.{BeginsCall, BookValue, Commits, GivesUp, IsUnknown, LeadsBook, Repeats, Steps}
-use Rattle.nfs_engine.specs.Book.{StillRuns, new_txn, store_in}
+use Rattle.nfs_engine.specs.Book.{StillRuns, new_txn}
 use Rattle.nfs_engine.specs.Calls.{FinishedValue, PendingValue, TxnValue, pending_of, txn_of}
 use Rattle.nfs_engine.specs.Commits.{IsReceipt}
-use Rattle.nfs_engine.specs.Engine.{EngineValue, IsAcquired, IsReleased, IsReserved, IsRunning, KeepsOthers, LetsAllGo}
-use Rattle.nfs_engine.specs.Engine.{Lives, held_among, release_of, slot_among}
-use Rattle.nfs_engine.specs.Holders.{Excludes}
+use Rattle.nfs_engine.specs.Engine.{EngineValue, IsRunning, LetsAllGo}
+use Rattle.nfs_engine.specs.Engine.{Lives, held_among, release_of}
 use Rattle.nfs_engine.specs.Releases.{ReleaseValue}
 use Rattle.nfs_engine.specs.Repeats.{Keeps, RepeatValue, kept_for, origin_of}
 use Rattle.nfs_engine.specs.Running.{running_at, without_call}
 use Rattle.nfs_engine.specs.declared.admission.Refused as given
-use Rattle.nfs_engine.specs.declared.arrival.Reading.TheVariants as readings
 use Rattle.nfs_engine.specs.declared.asking.Asked.{Asked}
 use Rattle.nfs_engine.specs.declared.journal.Receipt.{Receipt}
 use Rattle.nfs_engine.specs.declared.release.Then.TheVariants as then
 use Rattle.nfs_engine.specs.declared.running.Running.{Running}
-use Rattle.nfs_engine.specs.declared.shard.ReserveError.{ReserveError}
-use Rattle.nfs_engine.specs.declared.shard.ReserveError.TheVariants as refusals
-use Rattle.nfs_engine.specs.declared.taking.Got.TheVariants as got
 use Rattle.nfs_schedule.proofs.OtherWorkersLemmas.{places_without}
-use Rattle.nfs_schedule.proofs.WorkerStepLemmas.{keeps_book}
 use Rattle.nfs_schedule.specs.Answers.{IsRefused}
 use Rattle.nfs_schedule.specs.Courses.{HasReadFew}
 use Rattle.nfs_schedule.specs.Executions.{Answers, EndsIn, Frees, GoesOn, HoldsAlone, IsAlone}
@@ -45,17 +32,6 @@ use Rattle.nfs_schedule.specs.declared.answer.Answer.TheVariants as answers
 use Rattle.nfs_schedule.specs.declared.model.worker.Worker.TheVariants.{Idle, Refusing}
 
 -- ---- a call that begins
-pub begins_alone : (e f : EngineValue) (a : ArrivalValue) (t : TxnValue) → IsAtRest e → BeginsCall e.book f.book a t →
-    f.shards ≡ e.shards → IsAlone f t.id t.key
-begins_alone e f a t rest b shards = record {
-  running = λ k other. b.joins.others k other ∙ rest.running k;
-  held = λ x j other. ap (λ s. held_among s x j) shards ∙ rest.held x j;
-}
-
-pub begins_unread : (e f : EngineValue) (a : ArrivalValue) (t : TxnValue) → BeginsCall e.book f.book a t →
-    t.view ≡ view_after []
-begins_unread e f a t b = ap (λ (x : TxnValue). x.view) b.txn
-
 pub begins_keeps : (e f : EngineValue) (a : ArrivalValue) (t : TxnValue) → BeginsCall e.book f.book a t → KeepsStore e f
 begins_keeps e f a t b =
     b.rest ∙ ap (λ n. record e.book { living = f.book.living; next_id = n })
@@ -71,51 +47,6 @@ goes_join e f g t u v a b = record {
   alone = b.alone;
   book = b.book ∙ a.book;
   call = b.call ∙ ap (λ (x : TxnValue). record x { view = v.view }) a.call;
-}
-
-pub goes_step : (e f : EngineValue) (t u : TxnValue) (w : ViewValue) → HoldsAlone e t.id → Lives f u →
-    KeepsOthers t.id e f → f.book ≡ e.book → u ≡ record t { view = w } → GoesOn e f t u
-goes_step e f t u w alone lives k book is = record {
-  lives = lives;
-  alone = λ a j other.
-      let apart : j ≢ t.id = λ same. other (same ∙ sym (ap (λ (x : TxnValue). x.id) is)) in
-      k.holds a j apart ∙ alone a j apart;
-  book = book;
-  call = is ∙ ap (λ v. record t { view = v }) (sym (ap (λ (x : TxnValue). x.view) is));
-}
-
--- nobody else holds the address
-pub never_taken : (e : EngineValue) (a : Addr) (mode : Mode) (id h : ℕ) → HoldsAlone e id →
-    Excludes mode (slot_among e.shards a).holders h → h ≢ id → ⊥
-never_taken e a Exclusive id h alone excludes other =
-    let none : IsSome {T = Mode} None = subst (λ (m : Option Mode). IsSome m) (alone a h other) excludes in cc
-never_taken e a Shared id h alone excludes other =
-    let none : None ≡ Some Exclusive = sym (alone a h other) ∙ excludes in cc
-
-module _ (e f : EngineValue) (t u : TxnValue) (lives : Lives f u) (k : KeepsOthers t.id e f) (book : f.book ≡ e.book)
-    (alone : HoldsAlone e t.id) where
-  pub goes_acquired : (a : Addr) (mode : Mode) → IsAcquired {E = AllocError} e t u a mode (Ok got.Yes) → GoesOn e f t u
-  goes_acquired a mode is =
-      goes_step e f t u (with_seen t.view (record { address = a; mode = mode; object = (store_in e.book).at a })) alone
-      lives k book is
-
-  pub goes_unchanged : u ≡ t → GoesOn e f t u
-  goes_unchanged is = goes_step e f t u t.view alone lives k book is
-
-  pub goes_reserved : (shard : ℕ) → IsReserved e t u shard (Ok tt) → GoesOn e f t u
-  goes_reserved shard is = goes_step e f t u (with_number t.view is.reserved) alone lives k book is.call
-
-  pub goes_unreserved : (shard : ℕ) (error : ReserveError) → IsReserved e t u shard (Err error) → GoesOn e f t u
-  goes_unreserved shard refusals.Memory is = goes_unchanged is.1
-  goes_unreserved shard refusals.Spent is = goes_unchanged is.1
-
--- what goes on is alone still
-pub goes_alone : (e f : EngineValue) (t u : TxnValue) → IsAlone e t.id t.key → GoesOn e f t u → IsAlone f u.id u.key
-goes_alone e f t u alone g = record {
-  running = λ k other.
-      ap (λ (b : BookValue). running_at b.living k) g.book
-      ∙ alone.running k (λ same. other (same ∙ sym (ap (λ (x : TxnValue). x.key) g.call)));
-  held = g.alone;
 }
 
 -- ---- a release
@@ -162,12 +93,6 @@ rests_committed e f g d r receipt lives alone x free = record {
       (pending_of (txn_of d)) refl k;
   held = free.held;
 }
-
--- the others hold nothing, as the call holds what it had
-pub alone_committed : (e f : EngineValue) (d : FinishedValue) (r : ReleaseValue) → IsAlone e d.id d.key →
-    KeepsOthers d.id e f → IsReleased d r → HoldsAlone f r.id
-alone_committed e f d r alone k released = subst (λ i. HoldsAlone f i) (sym released.id)
-    (λ a j other. k.holds a j other ∙ alone.held a j other)
 
 pub executes_on : (e f g : EngineValue) (d : FinishedValue) (receipt : Receipt) → Executes e f d receipt →
     g.book ≡ f.book → Executes e g d receipt
@@ -317,15 +242,6 @@ module _ (e b g : EngineValue) (a : ArrivalValue) (t : TxnValue) (begins : Begin
   )
   answers_begun (answers.Early faulted) x = absurd x
   answers_begun (answers.Unanswered received) x = absurd x
-
-pub answers_refused : (e f : EngineValue) (a : ArrivalValue) (asked : Asked) (answer : Answer) →
-    a.reading ≡ readings.Asks asked → f ≡ e → IsRefused a.received asked answer → Answers e f a answer
-answers_refused e f a asked (answers.Executed receipt) asks same is = absurd is
-answers_refused e f a asked (answers.Repeated kept) asks same is = absurd is
-answers_refused e f a asked (answers.Refused declined) asks same is =
-    (asked, asks, keeps_book e f (ap (λ (x : EngineValue). x.book) same), is)
-answers_refused e f a asked (answers.Early faulted) asks same is = absurd is
-answers_refused e f a asked (answers.Unanswered received) asks same is = absurd is
 
 -- ---- a record that came before
 pub repeat_rests : (e f : EngineValue) (a : ArrivalValue) (kept : RepeatValue) → Repeats e.book f.book a kept →

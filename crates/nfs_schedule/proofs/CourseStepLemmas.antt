@@ -362,8 +362,5 @@ number_once t u r once n =
     subst (λ (x : TxnValue). EachOnce (held x.view.entries)) (sym n.call)
     (once_more t.view.entries (vacant r) once n.unseen)
 
-pub unread_once : (t : TxnValue) → t.view ≡ view_after [] → EachOnce (held t.view.entries)
-unread_once t unread = subst (λ (v : ViewValue). EachOnce (held v.entries)) (sym unread) tt
-
 pub read_few : (t : TxnValue) → EachOnce (held t.view.entries) → HasGrown t → HasReadFew t
 read_few t once g = record { once = once; few = courses-few (Planned Over) t g }

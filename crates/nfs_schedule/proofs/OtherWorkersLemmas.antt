@@ -21,9 +21,6 @@ is_number None n = inr (λ is. cc)
 is_number (Some m) n = alike_or m n (λ is. inl (ap Some is))
     (λ other. inr (λ is. other (let same : m ≡ n = cc in same)))
 
-none_is : (o : Option ℕ) (n : ℕ) → o ≡ None → o ≢ Some n
-none_is o n none is = let none : None ≡ Some n = sym none ∙ is in cc
-
 -- ---- nothing changed
 pub rest_still : (e f : EngineValue) (w v : Worker) → f ≡ e → worker_id v ≡ worker_id w →
     worker_key v ≡ worker_key w → KeepsRest e f w v

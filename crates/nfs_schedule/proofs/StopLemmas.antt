@@ -5,17 +5,16 @@ use Rattle.nfs_objects.specs.declared.address.Addr.{Addr}
 use Rattle.nfs_objects.specs.declared.address.Addr.TheVariants.{Inode}
 use Rattle.nfs_objects.specs.declared.modes.Mode.{Mode}
 use Rattle.nfs_replies.specs.declared.origins.Origin.{Origin}
-use Rattle.nfs_engine.specs.Book.{BookValue, GivesUp}
+use Rattle.nfs_engine.specs.Book.{BookValue}
 use Rattle.nfs_engine.specs.Calls.{FinishedValue, PendingValue, TxnValue, pending_of, txn_of}
-use Rattle.nfs_engine.specs.Engine.{EngineValue, IsLeaving, IsRunning, KeepsOthers, LeadsTo, LetsAllGo, Lives, Waits}
+use Rattle.nfs_engine.specs.Engine.{EngineValue, IsLeaving, IsRunning, KeepsOthers, LeadsTo, LetsAllGo, Lives}
 use Rattle.nfs_engine.specs.Engine.{held_among, release_of}
 use Rattle.nfs_engine.specs.Releases.{ReleaseValue}
 use Rattle.nfs_engine.specs.Repeats.{origin_of}
 use Rattle.nfs_engine.specs.Running.{without_call}
-use Rattle.nfs_engine.specs.declared.admission.Refused as given
 use Rattle.nfs_engine.specs.declared.release.Then.{Then}
 use Rattle.nfs_engine.specs.declared.release.Then.TheVariants as then
-use Rattle.nfs_schedule.proofs.OtherWorkersLemmas.{places_same, places_without, rest_still, rest_without}
+use Rattle.nfs_schedule.proofs.OtherWorkersLemmas.{places_same, places_without, rest_without}
 use Rattle.nfs_schedule.proofs.WorkerStepLemmas.{keeps_living}
 use Rattle.nfs_schedule.specs.Answers.{IsUnanswered}
 use Rattle.nfs_schedule.specs.Stops.{IsGone, IsStop, received_of}
@@ -43,14 +42,6 @@ module _ (id : ℕ) (e m f : EngineValue) (k : KeepsOthers id e m) (l : KeepsOth
   }
 
 -- ---- a call that is given up
-pub given_gone : (e f : EngineValue) (p : PendingValue) (refused : given.Refused) → Waits e p →
-    GivesUp e.book f.book p refused → KeepsOthers p.id e f → f.shards ≡ e.shards → IsGone e f p.key p.id
-given_gone e f p refused waits gives k shards = record {
-  others = k;
-  nothing = λ a. ap (λ s. held_among s a p.id) shards ∙ waits.holds.exactly a;
-  book = gives.rest;
-}
-
 pub left_gone : (e m f : EngineValue) (r : ReleaseValue) (p : PendingValue) → LetsAllGo e m r (Some p) →
     p.id ≡ r.id → IsGone m f p.key p.id → IsGone e f p.key p.id
 left_gone e m f r p lets same gone = record {
@@ -90,9 +81,6 @@ module _ (e f : EngineValue) (w : Worker) (key id : ℕ) (received : Arrival) (a
         ∙ ap (λ l. record e.book { living = l }) (sym living);
     stopped = (received, came, unanswered);
   }
-
-pub stop_idle : (e : EngineValue) → IsStop e e Idle None
-stop_idle e = record { rest = rest_still e e Idle Idle refl refl refl; store = keeps_living e e refl; stopped = refl }
 
 -- its call was executed, and holds nothing any more
 pub stop_ended : (e f : EngineValue) (r : ReleaseValue) (after : Afterwards) → LetsAllGo e f r None →

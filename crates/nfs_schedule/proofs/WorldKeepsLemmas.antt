@@ -254,9 +254,6 @@ kept_less e f ws w answer kept stop =
     kept_first f ws (subst (λ (l : List Worker). IsKept f l) (set_last ws w Idle)
     (kept_stop e f (ws ++ w ∷ []) (length ws) w answer kept (got_last ws w) stop))
 
-pub last_lives : (e : EngineValue) (ws : List Worker) (w : Worker) → IsKept e (ws ++ w ∷ []) → WorkerLives e w
-last_lives e ws w kept = kept.lives (length ws) w (got_last ws w)
-
 pub rest_none : (e : EngineValue) → IsKept e [] → IsAtRest e
 rest_none e k = record {
   running = λ key. nobody (running_at e.book.living key) (λ some. no_one worker_key key (k.running key some));

@@ -1,11 +1,11 @@
 -- What came in is told by its seat, and answered so.
 use Rattle.std.proofs.Common.{◌≡◌, ℕ, ◌-◌, ◌≤◌, List, [], ◌∷◌, ◌++◌, length, length-append, slice_get, Option, Some}
-use Rattle.std.proofs.Common.{Result, Ok, Err, IfErr, IfOk, IsSome, get_or, inl, inr, refl, sym, ◌∙◌, ap, subst, arith}
+use Rattle.std.proofs.Common.{Result, Ok, Err, IfOk, get_or, inl, inr, refl, sym, ◌∙◌, ap, subst, arith}
 use Rattle.std.proofs.Math.Seq.{get_or-append_seam}
 use Rattle.std.proofs.lemmas.Option.{get_or_from_slice_get}
 use Rattle.nfs_machine.specs.Run.{Arrival, FromHost}
 use Rattle.nfs_machine.specs.declared.moment.Moment.{Moment}
-use Rattle.nfs_engine.specs.Arrivals.{ArrivalValue, IsArrival, IsReading, incoming_value, shared_value}
+use Rattle.nfs_engine.specs.Arrivals.{ArrivalValue, IsArrival, IsReading, shared_value}
 use Rattle.nfs_engine.specs.declared.arrival.Reading.{Reading}
 use Rattle.nfs_engine.specs.declared.journal.Receipt.{Receipt}
 use Rattle.nfs_schedule.specs.declared.answer.Answer.{Answer}
@@ -17,7 +17,7 @@ use Rattle.nfs_pool.specs.declared.sent.PoolError.{PoolError}
 use Rattle.nfs_pool.specs.declared.sent.PoolError.TheVariants.{EraFull, Memory}
 use Rattle.nfs_pool.specs.declared.sent.Sent.{Sent}
 use Rattle.nfs_pool.specs.declared.sent.Sent.TheVariants.{Early, Executed, Refused, Repeated, Unanswered}
-use Rattle.nfs_server.specs.AnswersTo.{AnswersRecord, GainsAtMostOne, HandsBack, HasReceipt, IsAnswerTo, IsTold}
+use Rattle.nfs_server.specs.AnswersTo.{AnswersRecord, GainsAtMostOne, HasReceipt, IsAnswerTo, IsTold}
 use Rattle.nfs_server.specs.declared.network.dispatcher.Closed.{Closed}
 
 -- a seat's last receipt is of what came in
@@ -40,11 +40,6 @@ pool_told n a is old new low (Refused declined) t = t.0
 pool_told n a is old new low (Early faulted) t =
     (t.1, subst (λ (x : Reading). IsReading a.received x) t.0 is.reading)
 pool_told n a is old new low (Unanswered received) t = t.0
-
-pub pool_back : (a : ArrivalValue) (old new : SeatValue) (error : PoolError) → Tells a old new (Err error) →
-    HandsBack a.received error
-pool_back a old new (Memory back) t = ap (λ (x : ArrivalValue). x.received) t.0
-pool_back a old new (EraFull back) t = ap (λ (x : ArrivalValue). x.received) t.0
 
 -- the seat has at most one receipt more
 pub pool_once : (a : ArrivalValue) (old new : SeatValue) (x : Result Sent PoolError) → Tells a old new x →
@@ -109,14 +104,3 @@ pub refused_told : (n : ℕ) (r : Arrival) (s : SeatValue) (declined : RefusalRe
     (x : Result Sent PoolError) → IfOk x (λ sent. sent ≡ Refused declined) → IfOk x (IsTold n r s)
 refused_told n r s declined is (Ok sent) same = subst (λ (x : Sent). IsTold n r s x) (sym same) is
 refused_told n r s declined is (Err error) same = tt
-
-pub refused_back : (r : Arrival) (declined : RefusalReply) → IsDeclined r declined → (x : Result Sent PoolError) →
-    IfErr x (HandsBack (incoming_value declined.received)) → IfErr x (HandsBack r)
-refused_back r declined is x back = subst (λ (other : Arrival). IfErr x (HandsBack other)) is.received back
-
-pub refusal_answers : (n : ℕ) (r : Arrival) (declined : RefusalReply) → IsDeclined r declined →
-    (x : Result Answer Closed) → IfOk x (λ answer. (answer ≡ answers.Refused declined) × IsSome declined.answer) →
-    IfOk x (IsAnswerTo n r)
-refusal_answers n r declined is (Ok answer) t =
-    subst (λ (x : Answer). IsAnswerTo n r x) (sym t.0) (is, t.1)
-refusal_answers n r declined is (Err closed) t = tt

@@ -1,7 +1,7 @@
 -- The program's command is one of which clap states the matches and the faults exactly: its options are plain flags and
 -- options, and
 -- none has a rule on another. What the getters of the matches give is then a function of the words.
-use Rattle.std.proofs.Common.{◌≡◌, ◌≤◌, ℕ, Bool, true, false, List, [], ◌∷◌, map, refl, subst, ap, sym, ◌∙◌, inl, inr}
+use Rattle.std.proofs.Common.{◌≡◌, ℕ, Bool, true, false, List, [], ◌∷◌, map, refl, subst, ap, sym, ◌∙◌, inl, inr}
 use Rattle.std.specs.Prelude.{◌⊎◌, IfSome, MatchResult, Option, Some, None, IsSome, Result, Ok, Err, is_some}
 use Rattle.std.specs.Prelude.{option_map, unwrap_or, codes}
 use Rattle.std.specs.Borrow.{Bor}
@@ -22,12 +22,11 @@ use Rattle.nfs_machine.specs.Exports.{ExportValue}
 use Rattle.nfs_machine.specs.declared.exports.ExportError.{ExportError}
 use Rattle.nfs_machine.specs.declared.exports.ExportError.TheVariants as export
 use Rattle.nfs_machine.specs.declared.exports.ExportText.{ExportText}
-use Rattle.nfs_engine.specs.Opening.{IsLimit}
 use Rattle.nfs_server.specs.Limits.{IsWithin}
 use Rattle.nfs_server.specs.declared.limits.Limit.{Limit}
 use Rattle.nfs_server.specs.declared.limits.ServerLimits.{ServerLimits}
-use Rattle.nfs_server.specs.CommandLine.{AreRefused, AreWithin, AsksAlone, AsksControl, AsksStdio, Configures}
-use Rattle.nfs_server.specs.CommandLine.{HasLimits, HasWorkers, IsConflict, IsHostRefusal, IsLimitRefusal, IsParsedFrom}
+use Rattle.nfs_server.specs.CommandLine.{AreRefused, AsksAlone, AsksStdio, Configures}
+use Rattle.nfs_server.specs.CommandLine.{HasLimits, IsHostRefusal, IsLimitRefusal, IsParsedFrom}
 use Rattle.nfs_server.specs.CommandLine.{IsRefusal, IsTaken, IsTransportRefusal, IsValueRefusal, NamesAddress}
 use Rattle.nfs_server.specs.CommandLine.{NamesLimit, ReadsOptions, ReadsFlag, ReadsNumber, ReadsTransport, Refuses}
 use Rattle.nfs_server.specs.CommandLine.{exports_of, host_of, nfsd}
@@ -167,20 +166,6 @@ refuses_limit limit rows value StandardStream names other refused = absurd refus
 refuses_limit limit rows value Receipts names other refused = absurd refused
 refuses_limit limit rows value (CannotListen text) names other refused = absurd refused
 
--- two transports are refused
-pub refuses_conflict : (rows : List Row) (exit : Exit) → AsksStdio rows true → NamesAddress rows ⊎ AsksControl rows true
-    → IsConflict exit
-    → IsTransportRefusal rows exit
-refuses_conflict rows (CommandLine e) asks names refused = (asks, names, refused)
-refuses_conflict rows Memory asks names refused = tt
-refuses_conflict rows NoTransport asks names refused = absurd refused
-refuses_conflict rows (Exports e) asks names refused = absurd refused
-refuses_conflict rows (Callback number) asks names refused = absurd refused
-refuses_conflict rows NoRandomBytes asks names refused = absurd refused
-refuses_conflict rows StandardStream asks names refused = absurd refused
-refuses_conflict rows Receipts asks names refused = absurd refused
-refuses_conflict rows (CannotListen text) asks names refused = absurd refused
-
 -- a value that is refused refuses its words
 pub refused_host : (words : List Text) (m : ArgMatches) (exit : Exit) → IsParsedFrom words m
     → IsHostRefusal (rows_of (found_of m)) exit → Refuses words exit
@@ -268,22 +253,6 @@ options_read words m options parsed is_taken reads = record {
   taken = is_taken;
   reads = subst (λ (rows : List Row). ReadsOptions rows options) parsed.rows reads;
 }
-
--- its workers are as many as a pool has seats for
-workers_within : (rows : List Row) (limits : ServerLimits) (transport : Transport) → HasLimits rows limits
-    → ReadsTransport rows limits transport → HasWorkers transport
-workers_within rows limits (Stdio streams) has reads = tt
-workers_within rows limits (Network network) has reads =
-    subst (λ (n : ℕ). (1 ≤ n) × (n ≤ 64)) (sym reads.2.workers) (has.workers.within.some, has.workers.within.few)
-
--- the numbers of options that are read are within their bounds
-pub options_within : (rows : List Row) (options : Options) → ReadsOptions rows options → AreWithin options
-options_within rows options reads =
-    let (limits, has, era, capacity, transport) = reads.limits in record {
-      era = subst IsLimit (sym era) (has.era.within.some, has.era.within.few);
-      capacity = subst IsLimit (sym capacity) (has.capacity.within.some, has.capacity.within.few);
-      network = workers_within rows limits options.transport has transport;
-    }
 
 -- a transport that is read is one
 has_transport : (rows : List Row) (limits : ServerLimits) (transport : Transport) → ReadsTransport rows limits transport

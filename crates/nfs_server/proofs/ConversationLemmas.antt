@@ -1,11 +1,11 @@
 -- What goes over a connection goes on.
 use Rattle.std.proofs.Common.{◌≡◌, ◌⊎◌, inl, inr, ℕ, List, [], ◌∷◌, ◌++◌, length, take, append_assoc, append-nil}
-use Rattle.std.proofs.Common.{Option, Some, None, Result, Ok, Err, OnOk, IsErrOf, refl, sym, ◌∙◌, ap, subst}
+use Rattle.std.proofs.Common.{Option, Result, Ok, Err, OnOk, IsErrOf, refl, sym, ◌∙◌, ap, subst}
 use Rattle.std.proofs.Common.{◌+◌, ◌≤◌, suc, arith}
 use Rattle.std.proofs.Math.Seq.{take-append_seam}
 use Rattle.std.proofs.KnownBytes.{Appends-nil, Appends-trans, Consumes-nil, Consumes-trans}
 use Rattle.std.specs.List.{concat}
-use Rattle.std.specs.Io.KnownBytes.{Appends, Consumes, Keeps}
+use Rattle.std.specs.Io.KnownBytes.{Appends, Consumes}
 use Rattle.nfs_rpc.specs.Records.{Holds, IsTooLarge, RecordsValue}
 use Rattle.nfs_rpc.specs.declared.marking.RecordError.{RecordError}
 use Rattle.nfs_rpc.specs.declared.marking.RecordError.TheVariants.{Memory, TooLarge}
@@ -291,13 +291,6 @@ given_all n k most later now new few low equal all =
     omega (arith, few, low, still, so)
 
 -- ---- pieces
--- what was read after a wait in which nothing came
-pub read_later : (a b c : Option (List ℕ)) (bytes : List ℕ) → Keeps a b → Consumes b c bytes → Consumes a c bytes
-read_later None b c bytes keeps read = tt
-read_later (Some xs) None c bytes keeps read = absurd keeps
-read_later (Some xs) (Some ys) None bytes keeps read = absurd read
-read_later (Some xs) (Some ys) (Some zs) bytes keeps read = sym keeps ∙ read
-
 -- what was lent as a slice stands there still
 pub still_there : (now new old rest : List ℕ) (long : ℕ) → length new ≡ length old → length old ≡ long →
     now ≡ take long (new ++ rest) → now ≡ new

@@ -7,10 +7,8 @@ use Rattle.nfs_xdr.specs.Programs.{IsFrontedBy}
 use Rattle.nfs_xdr.specs.Reading.{read}
 use Rattle.nfs_xdr.specs.Types.{Value}
 use Rattle.nfs_xdr.proofs.NumberBytesLemmas.{ok_is}
-use Rattle.nfs_xdr.proofs.SpellingLaws.{reading_finds_spelling, spelled_has_spelling, spelling_is_read}
+use Rattle.nfs_xdr.proofs.SpellingLaws.{reading_finds_spelling, spelling_is_read}
 use Rattle.side_wire.specs.Messages.{IsNoResult, SpellsResult, opaque_auth}
-use Rattle.side_wire.specs.Nlm.{HasResultForm}
-use Rattle.side_wire.specs.NlmTypes.{nlm4_res, result_value}
 use Rattle.side_wire.specs.declared.nlm.NlmResult.{NlmResult}
 use Rattle.nfs_server.specs.CalledBack.{IsNoAnswer, SpellsAnswer, done_value, reply_header}
 
@@ -26,12 +24,6 @@ answer-found xid bytes rest verifier granted are reads result =
       head.1 ∙ ap (λ r. head.0 ++ r) result.2 ∙ sym (append_assoc head.0 result.0 result.1),
       (verifier, (head.0, result.0, refl, head.2, result.3)),
     )
-
--- its byte string is within its bound
-pub result-form : (granted : NlmResult) (bytes : List ℕ) → IsFrontedBy SpellsResult granted bytes
-    → HasResultForm granted
-result-form granted bytes result =
-    (spelled_has_spelling nlm4_res (result_value granted) result.0 result.3).0.0
 
 -- the header of an answer is read, and its result is behind it
 pub record HasHeader (xid : ℕ) (bytes : List ℕ) (granted : NlmResult) : Type 0 where

@@ -1,6 +1,6 @@
 -- What is written over a line, part by part.
-use Rattle.std.proofs.Common.{◌≡◌, ℕ, List, [], ◌++◌, take, drop, take-append-drop, append_assoc, append-nil}
-use Rattle.std.proofs.Common.{Option, Result, Ok, Err, OnErr, OnOk, refl, sym, ◌∙◌, ap, subst}
+use Rattle.std.proofs.Common.{◌≡◌, ℕ, List, [], ◌++◌, take, drop, take-append-drop, append_assoc}
+use Rattle.std.proofs.Common.{Option, Result, Ok, Err, OnErr, OnOk, refl, sym, ◌∙◌, ap}
 use Rattle.std.proofs.KnownBytes.{Appends-kept, Appends-nil, Appends-trans}
 use Rattle.std.specs.Io.KnownBytes.{Appends, Keeps}
 use Rattle.nfs_streams.specs.Sent.{WritesPart}
@@ -10,9 +10,6 @@ pub record Writing (before now : Option (List ℕ)) (bytes rest : List ℕ) : Ty
   pub sent : List ℕ
   pub cut : bytes ≡ sent ++ rest
   pub written : Appends before now sent
-
-pub writing_none : (before : Option (List ℕ)) (bytes : List ℕ) → Writing before before bytes bytes
-writing_none before bytes = record { sent = []; cut = refl; written = Appends-nil before }
 
 pub writing_more : (before now later : Option (List ℕ)) (bytes rest left : List ℕ) (n : ℕ) →
     Writing before now bytes rest → Appends now later (take n rest) → left ≡ drop n rest →
@@ -35,13 +32,6 @@ writing_part before now later bytes rest w keeps = record {
   whole = w.cut;
   written = Appends-kept before now later w.sent w.written keeps;
 }
-
--- all is written, where nothing is left
-pub writing_all : (before now : Option (List ℕ)) (bytes rest : List ℕ) → Writing before now bytes rest → rest ≡ [] →
-    Appends before now bytes
-writing_all before now bytes rest w none =
-    let whole : bytes ≡ w.sent = w.cut ∙ ap (λ l. w.sent ++ l) none ∙ append-nil w.sent in
-    subst (λ (l : List ℕ). Appends before now l) (sym whole) w.written
 
 -- ---- two parts
 -- a beginning of nothing more

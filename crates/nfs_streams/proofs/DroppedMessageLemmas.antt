@@ -1,12 +1,9 @@
 -- Messages are dropped: nothing else changes, and what was answered stays so.
-use Rattle.std.proofs.Common.{◌≡◌, ◌∙◌, ◌+◌, ℕ, List, [], ◌∷◌, None, Some, ap, subst, sym}
-use Rattle.side_wire.specs.declared.message.Message.{Message}
+use Rattle.std.proofs.Common.{◌≡◌, ◌∙◌, ℕ, List, ◌∷◌, ap, subst, sym}
 use Rattle.nfs_machine.specs.declared.moment.Moment.{Moment}
-use Rattle.nfs_engine.specs.Book.{BookValue, TakesMessage}
+use Rattle.nfs_engine.specs.Book.{BookValue}
 use Rattle.nfs_engine.specs.Engine.{EngineValue}
 use Rattle.nfs_engine.specs.Shards.{ShardValue}
-use Rattle.nfs_engine.specs.declared.outbox.Posted.{Posted}
-use Rattle.nfs_schedule.specs.Worlds.{IsAtRest}
 use Rattle.nfs_streams.specs.Served.{AreAnswered, DropsMessages, StandsAt}
 use Rattle.nfs_streams.proofs.EraLimitLemmas.{keeps_join, keeps_records}
 
@@ -23,24 +20,6 @@ alike e f book shards =
 module _ (first old new : EngineValue) (before : Loses first old) (same : new.shards ≡ old.shards) where
   shards : new.shards ≡ first.shards
   shards = same ∙ ap (λ (e : EngineValue). e.shards) before
-
-  pub loses_more : (posted : Posted) → TakesMessage old.book new.book (Some posted) → Loses first new
-  loses_more posted takes =
-      let count : new.book.taken ≡ old.book.taken + 1 = ap (λ (b : BookValue). b.taken) takes.2 in
-      alike new (record first { book = record first.book { outbox = new.book.outbox; taken = new.book.taken } })
-      (takes.2 ∙ ap (λ (n : ℕ). record old.book { outbox = new.book.outbox; taken = n }) (sym count)
-      ∙ ap (λ (e : EngineValue). record e.book { outbox = new.book.outbox; taken = new.book.taken }) before) shards
-
-  pub loses_all : TakesMessage old.book new.book None → DropsMessages first new
-  loses_all takes =
-      alike new (record first { book = record first.book { outbox = []; taken = new.book.taken } })
-      (takes.1 ∙ ap (λ (e : EngineValue). e.book) before
-      ∙ ap (λ (b : BookValue). record first.book { outbox = old.book.outbox; taken = b.taken }) (sym takes.1)
-      ∙ ap (λ (l : List Message). record first.book { outbox = l; taken = new.book.taken }) takes.0) shards
-
-pub rest_stays : (old new : EngineValue) → DropsMessages old new → IsAtRest old → IsAtRest new
-rest_stays old new drops rest =
-    subst IsAtRest (sym drops) (record { running = rest.running; held = rest.held })
 
 pub answered_stays : {Clock : Type 0} (gives : Clock → Moment → Clock → Type 0) (host : List ℕ)
     (contents : List (List ℕ)) (clock later : Clock) (first old new : EngineValue) (answers : List ℕ) →

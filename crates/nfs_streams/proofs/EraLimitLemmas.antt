@@ -4,9 +4,7 @@ use Rattle.std.proofs.lemmas.Bool.{or_parts}
 use Rattle.std.proofs.lemmas.Bool.Decides.{nat_tests}
 use Rattle.std.specs.Prelude.{nat_le}
 use Rattle.nfs_machine.specs.Run.{Record}
-use Rattle.nfs_engine.specs.Book.{BookValue, TakesEra}
 use Rattle.nfs_engine.specs.Engine.{EngineValue}
-use Rattle.nfs_engine.specs.declared.records.Era.{Era}
 use Rattle.nfs_streams.specs.Served.{HasEraRoom, IsWithinEra, KeepsSetting}
 
 pub keeps_none : (e : EngineValue) → KeepsSetting e e
@@ -40,15 +38,6 @@ pub keeps_same : (e f : EngineValue) → f ≡ e → KeepsSetting e f
 keeps_same e f same =
     keeps_records e f (ap (λ (x : EngineValue). x.book.setting) same)
     (ap (λ (x : EngineValue). x.book.era_records) same) (ap (λ (x : EngineValue). x.book.records) same)
-
--- an era ends
-pub keeps_era : (e f : EngineValue) (era : Era) → TakesEra e.book f.book era → KeepsSetting e f
-keeps_era e f era takes = record {
-  setting = ap (λ (b : BookValue). b.setting) takes.rest;
-  era_records = ap (λ (b : BookValue). b.era_records) takes.rest;
-  era = within_fewer e f (ap (λ (b : BookValue). b.era_records) takes.rest)
-      (omega (arith, ap (λ (b : BookValue). length b.records) takes.rest));
-}
 
 -- where there is room for a record, there are fewer than there may be
 has_room : (e : EngineValue) → HasEraRoom e → IsWithinEra e → length e.book.records + 1 ≤ e.book.era_records

@@ -1,7 +1,6 @@
 -- What a record is answered: its fault, its refusal, or the reply of its step.
 use Rattle.std.proofs.Common.{◌≡◌, ℕ, ◌+◌, List, [], ◌∷◌, ◌++◌, length, Bool, true, false, cond, Option, Some, None}
 use Rattle.std.proofs.Common.{IsSome, IfSome, Result, Ok, Err, IfOk, OnErr, ◌≢◌, inl, inr, refl, sym, ◌∙◌, ap, subst}
-use Rattle.std.proofs.Common.{arith}
 use Rattle.std.specs.declared.alloc.AllocError.{AllocError}
 use Rattle.std.specs.declared.alloc.Global.{Global}
 use Rattle.std.specs.declared.vec.Vec.{Vec}
@@ -35,7 +34,7 @@ use Rattle.nfs_engine.specs.declared.journal.Receipt.{Receipt}
 use Rattle.nfs_engine.specs.declared.records.Era.{Era}
 use Rattle.nfs_schedule.specs.Executions.{Answers, Executed}
 use Rattle.nfs_schedule.specs.Answers.{reply_bytes}
-use Rattle.nfs_streams.proofs.EraLimitLemmas.{keeps_era, keeps_join, keeps_one, keeps_records, keeps_same}
+use Rattle.nfs_streams.proofs.EraLimitLemmas.{keeps_join, keeps_one, keeps_records, keeps_same}
 use Rattle.nfs_streams.specs.Connections.{bytes_of}
 use Rattle.nfs_streams.specs.Served.{ExecutesNothing, HasEraRoom, IsAnswered, IsRecord, KeepsSetting, StandsAt}
 use Rattle.nfs_streams.specs.Serving.{AnswersArrival, Standing, lists_with}
@@ -61,15 +60,6 @@ keeps_nothing e f keeps = record {
   count = ap (λ (b : BookValue). b.before + length b.records) keeps;
 }
 
-pub same_nothing : (e f : EngineValue) → f ≡ e → ExecutesNothing e f
-same_nothing e f same = record {
-  keeps = keeps_same e f same;
-  objects = ap (λ (x : EngineValue). x.book.objects) same;
-  outbox = ap (λ (x : EngineValue). x.book.outbox) same;
-  replies = ap (λ (x : EngineValue). x.book.replies) same;
-  count = ap (λ (x : EngineValue). x.book.before + length x.book.records) same;
-}
-
 pub nothing_join : (e f g : EngineValue) → ExecutesNothing e f → ExecutesNothing f g → ExecutesNothing e g
 nothing_join e f g a b = record {
   keeps = keeps_join e f g a.keeps b.keeps;
@@ -81,20 +71,6 @@ nothing_join e f g a b = record {
 
 -- an era ends
 module _ (e f : EngineValue) (era : Era) (takes : TakesEra e.book f.book era) (shards : f.shards ≡ e.shards) where
-  pub era_nothing : ExecutesNothing e f
-  era_nothing = record {
-    keeps = keeps_era e f era takes;
-    objects = ap (λ (b : BookValue). b.objects) takes.rest;
-    outbox = ap (λ (b : BookValue). b.outbox) takes.rest;
-    replies = ap (λ (b : BookValue). b.replies) takes.rest;
-    count = omega (
-      arith,
-      ap (λ (b : BookValue). b.before) takes.rest,
-      ap (λ (b : BookValue). length b.records)
-          takes.rest,
-    );
-  }
-
   pub era_rests : IsAtRest e → IsAtRest f
   era_rests rest = record {
     running = λ k. ap (λ (b : BookValue). running_at b.living k) takes.rest ∙ rest.running k;

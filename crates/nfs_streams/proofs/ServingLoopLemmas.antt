@@ -60,70 +60,17 @@ part_then before now after held answer a p = record {
   written = Appends-trans before now after held p.sent a p.written;
 }
 
--- all was written, and nothing is gathered
-pub puts_sent : (before now after : Option (List ℕ)) (held kept answer : List ℕ) → Appends before now held →
-    Appends now after answer → kept ≡ [] → Puts before after held kept answer
-puts_sent before now after held kept answer a b none = record {
-  sent = held ++ answer;
-  whole = sym (append-nil (held ++ answer)) ∙ ap (λ l. (held ++ answer) ++ l) (sym none);
-  written = Appends-trans before now after held answer a b;
-}
-
--- it was gathered, and then all was written
-pub puts_all : (before after : Option (List ℕ)) (held now kept answer : List ℕ) → now ≡ held ++ answer →
-    Appends before after now → kept ≡ [] → Puts before after held kept answer
-puts_all before after held now kept answer is a none = record {
-  sent = now;
-  whole = sym is ∙ sym (append-nil now) ∙ ap (λ l. now ++ l) (sym none);
-  written = a;
-}
-
--- it was gathered
-pub puts_gathered : (before : Option (List ℕ)) (held kept answer : List ℕ) → kept ≡ held ++ answer →
-    Puts before before held kept answer
-puts_gathered before held kept answer is = record { sent = []; whole = sym is; written = Appends-nil before }
-
--- a beginning of what was gathered
-pub part_held : (before after : Option (List ℕ)) (was held answer : List ℕ) → was ≡ held →
-    WritesPart before after was → WritesPart before after (held ++ answer)
-part_held before after was held answer is p =
-    part_first before after held answer (subst (λ (w : List ℕ). WritesPart before after w) is p)
-
 -- what is not gathered is written behind what was
 module _ (before now after : Option (List ℕ)) (was held kept answer : List ℕ) (is : was ≡ held)
     (wrote : Appends before now was) (r : Result (Unit {0}) StreamFault) where
   sent : Appends before now held
   sent = subst (λ (w : List ℕ). Appends before now w) is wrote
 
-  pub then_puts : OnOk r (Appends now after answer) → kept ≡ [] → OnOk r (Puts before after held kept answer)
-  then_puts written none = elim r as (λ x. OnOk x (Appends now after answer) →
-      OnOk x (Puts before after held kept answer)) [
-        | Ok u ↦ λ w. puts_sent before now after held kept answer sent w none
-        | Err e ↦ λ w. tt
-      ] written
-
   pub then_part : OnErr r (WritesPart now after answer) → OnErr r (WritesPart before after (held ++ answer))
   then_part part = elim r as (λ x. OnErr x (WritesPart now after answer) →
       OnErr x (WritesPart before after (held ++ answer))) [
         | Ok u ↦ λ p. tt
         | Err e ↦ λ p. part_then before now after held answer sent p
-      ] part
-
--- all that is gathered is sent
-module _ (before after : Option (List ℕ)) (held now kept answer : List ℕ) (is : now ≡ held ++ answer)
-    (r : Result (Unit {0}) StreamFault) where
-  pub all_puts : OnOk r (Appends before after now) → OnOk r (kept ≡ []) → OnOk r (Puts before after held kept answer)
-  all_puts written none = elim r as (λ x. OnOk x (Appends before after now) → OnOk x (kept ≡ []) →
-      OnOk x (Puts before after held kept answer)) [
-        | Ok u ↦ λ w n. puts_all before after held now kept answer is w n
-        | Err e ↦ λ w n. tt
-      ] written none
-
-  pub all_part : OnErr r (WritesPart before after now) → OnErr r (WritesPart before after (held ++ answer))
-  all_part part = elim r as (λ x. OnErr x (WritesPart before after now) →
-      OnErr x (WritesPart before after (held ++ answer))) [
-        | Ok u ↦ λ p. tt
-        | Err e ↦ λ p. subst (λ (w : List ℕ). WritesPart before after w) is p
       ] part
 
 -- ---- one record
@@ -336,13 +283,6 @@ module _ {Clock : Type 0} (gives : Clock → Moment → Clock → Type 0) (host 
       OnOk r (AreServed gives host initial.queued first clock old engine before after)
   sent_goes (Ok u) more = all_goes more
   sent_goes (Err e) more = tt
-
-  pub sent_holds : (r : Result (Unit {0}) StreamFault) →
-      OnOk r ((stream : List ℕ) (given : List (List ℕ)) → Holds initial stream given →
-      Holds records stream (given ++ initial.queued))
-  sent_holds (Ok u) = λ stream given holds. subst (λ (l : List (List ℕ)). Holds records stream (given ++ l))
-      (sym all_served) (a.holds stream given holds)
-  sent_holds (Err e) = tt
 
   all_stops : WritesPart now after held
       → EndsByFault gives host Write initial.queued first clock old engine before after

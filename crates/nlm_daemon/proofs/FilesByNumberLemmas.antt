@@ -1,10 +1,9 @@
 -- The files that are freed, bucket by bucket, and by rising numbers in the end.
 use Rattle.std.proofs.Common.{◌≡◌, ◌==◌, ◌%◌, ◌≤◌, ◌<◌, ◌+◌, ℕ, zero, suc, Bool, true, false, cond, List, [], ◌∷◌, ◌++◌}
-use Rattle.std.proofs.Common.{Option, Some, None, get_or, inl, inr, length, take, refl, sym, ◌∙◌, ap, append-nil}
+use Rattle.std.proofs.Common.{Option, Some, None, get_or, inl, inr, take, refl, sym, ◌∙◌, ap, append-nil}
 use Rattle.std.proofs.Common.{append_assoc}
-use Rattle.std.proofs.Common.{subst, arith, map, option_map}
-use Rattle.std.proofs.lemmas.List.{nil_from_length, take_all, take_more}
-use Rattle.std.specs.Arc.{arc_value}
+use Rattle.std.proofs.Common.{subst, arith, option_map}
+use Rattle.std.proofs.lemmas.List.{take_all, take_more}
 use Rattle.std.proofs.lemmas.List.Elements.{Contains-append_cases, Contains-append_left, Contains-append_right}
 use Rattle.std.proofs.lemmas.List.Sorted.{Contains-permutation, IsPermutation-sym}
 use Rattle.std.proofs.lemmas.Map.Keys.{IsDistinct-IsPermutation}
@@ -20,8 +19,7 @@ use Rattle.nfs_machine.proofs.FirmLemmas.{none-listed}
 use Rattle.nfs_machine.proofs.ModesLemmas.{all-joined}
 use Rattle.nlm_ranges.specs.Buckets.{BucketValue, IsBucket, LockedValue, bucket_count, file_in, same_number}
 use Rattle.nlm_ranges.specs.Files.{FileValue, no_file}
-use Rattle.nlm_ranges.specs.Granting.{IsFreed, granted_in}
-use Rattle.nlm_ranges.specs.declared.file.Settled.{Settled}
+use Rattle.nlm_ranges.specs.Granting.{IsFreed}
 use Rattle.nfs_objects.specs.Stands.{StandLocks, bucket_at, bucket_there, exported_file, file_there, lives_in}
 use Rattle.nfs_objects.specs.Store.{Store}
 use Rattle.nfs_objects.specs.Values.{DraftValue, known_at}
@@ -298,10 +296,3 @@ module _ (s : Store) (m : State) (stand : StandLocks s m) (name : List ℕ) wher
       (subst (λ (b : BucketValue). (f : LockedValue) → Contains b.files f → lives_in m.exports f.export ≡ true →
       IsFileAt m f.number f.export) there files) old adds.adds.more
       (subst (λ es. AreFreedOf es name adds.bucket.files adds.adds.more) (sym lists) adds.adds.freed) before)
-
--- where nothing is granted
-pub none-granted : (settled : Settled) (n : ℕ) → n ≡ length settled.granted.items → true ≡ (n == 0) →
-    granted_in settled ≡ []
-none-granted settled n len none =
-    let zero : n ≡ 0 = (unsigned_Decides n 0).0 (sym none) in
-    ap (map arc_value) (nil_from_length settled.granted.items (omega (arith, zero, len)))
