@@ -13,7 +13,7 @@ use crate::options::Options;
 use nfs_engine::{Config, Engine, StartError};
 use nfs_machine::{Limits, Moments};
 use nfs_rpc::stream::{Sink, Source};
-use nfs_streams::{Messages, Served, StreamFault, Witness, serve_with};
+use nfs_streams::{Messages, Served, Serving, StreamFault, Witness, serve_with};
 use std::alloc::Global;
 
 /// Serves the input as the options say, with this start number where they name none: from the opening state, which is
@@ -77,17 +77,14 @@ pub fn serve_options<C: Moments, R: Source, W: Sink, T: Witness>(
         era_records,
     };
     let mut engine = open(alloc, config)?;
-    let messages = Messages::Dropped;
-    let served = serve_with(
+    let serving = Serving {
         alloc,
-        &mut engine,
-        &host,
-        clock,
-        reader,
-        writer,
-        messages,
+        host: &host,
+        messages: Messages::Dropped,
         witness,
-    );
+    };
+    let served = serve_with(&serving, &mut engine, clock, reader, writer);
+    drop(serving);
     // Calls of `drop`, since drops at the end are proved for each exit.
     drop(engine);
     drop(host);

@@ -16,5 +16,7 @@ mod witness;
 pub use answer::answer_record;
 pub use connection::{Connection, connections_carry_on};
 pub use datagrams::{datagram_of, replies_make_datagrams};
-pub use serving::{Messages, Served, StreamFault, serve_stream, serve_with, served_is_a_run};
+pub use serving::{
+    Messages, Served, Serving, StreamFault, serve_stream, serve_with, served_is_a_run,
+};
 pub use witness::{Unseen, Witness};

@@ -69,6 +69,17 @@ pub enum Messages {
     Dropped,
 }
 
+/// How a stream is served.
+#[derive(Drop)]
+pub struct Serving<'a, T> {
+    pub alloc: Global,
+    /// The peer's host.
+    pub host: &'a Host,
+    pub messages: Messages,
+    /// Who sees how each record is answered.
+    pub witness: &'a T,
+}
+
 /// Answers each record of the input, one after the other, to the end of the input. All answers are sent on before the
 /// next read. Bytes after the last whole record are left. Where an era is full, the next one begins between two
 /// records.
@@ -109,16 +120,13 @@ pub fn serve_stream<C: Moments, R: Source, W: Sink>(
     ensures end { OnOk result (IsAtEnd (R.unread reader.new)) }
     ensures sent { OnOk result (W.all_sent writer.old ≡ true → W.all_sent writer.new ≡ true) }
 {
-    serve_with(
+    let serving = Serving {
         alloc,
-        engine,
         host,
-        clock,
-        reader,
-        writer,
-        Messages::Waiting,
-        &Unseen,
-    )
+        messages: Messages::Waiting,
+        witness: &Unseen,
+    };
+    serve_with(&serving, engine, clock, reader, writer)
 }
 
 /// The same as `serve_stream`; messages that calls put wait to be taken, or are dropped as they come, and somebody sees
@@ -128,14 +136,11 @@ pub fn serve_stream<C: Moments, R: Source, W: Sink>(
 ///
 /// Those of `serve_stream`.
 pub fn serve_with<C: Moments, R: Source, W: Sink, T: Witness>(
-    alloc: Global,
+    serving: &Serving<'_, T>,
     engine: &mut Engine,
-    host: &Host,
     clock: &mut C,
     reader: &mut R,
     writer: &mut W,
-    messages: Messages,
-    witness: &T,
 ) -> Result<Served, StreamFault>
     requires rest { IsAtRest engine.old }
     ensures rest { IsAtRest engine.new }
@@ -143,13 +148,14 @@ pub fn serve_with<C: Moments, R: Source, W: Sink, T: Witness>(
     ensures keeps { KeepsSetting engine.old engine.new }
     // Answers are those of a run of the machine, but for repeats, which have the reply that is kept.
     ensures ok { IfOk result (λ _. (input : List ℕ) → R.unread reader.old ≡ Some input
-        → ServesAll C.gives host.now input clock.old clock.new engine.old engine.new
+        → ServesAll C.gives serving.now.host input clock.old clock.new engine.old engine.new
         (W.written writer.old) (W.written writer.new)) }
     ensures fault { IfErr result (λ e. (input : List ℕ) → R.unread reader.old ≡ Some input
-        → ServesFront C.gives host.now input (R.unread reader.new) e clock.old clock.new engine.old engine.new
-        (W.written writer.old) (W.written writer.new)) }
+        → ServesFront C.gives serving.now.host input (R.unread reader.new) e clock.old clock.new
+        engine.old engine.new (W.written writer.old) (W.written writer.new)) }
     // Messages that are to be dropped don't wait.
-    ensures dropped { messages ≡ Messages.Dropped → engine.old.book.outbox ≡ [] → engine.new.book.outbox ≡ [] }
+    ensures dropped { serving.now.messages ≡ Messages.Dropped → engine.old.book.outbox ≡ [] →
+        engine.new.book.outbox ≡ [] }
     // A fault of a stream is one that the stream counted, or there was no end of it.
     ensures read { IsErrOf result StreamFault.Read →
         (R.Counts.failures reader.new ≡ one_more (R.Counts.failures reader.old))
@@ -160,19 +166,16 @@ pub fn serve_with<C: Moments, R: Source, W: Sink, T: Witness>(
     ensures end { OnOk result (IsAtEnd (R.unread reader.new)) }
     ensures sent { OnOk result (W.all_sent writer.old ≡ true → W.all_sent writer.new ≡ true) }
 {
-    let mut connection = Connection::new(alloc);
-    let Ok(mut buffer) = Vec::from_elem(alloc, 0, BUFFER_SIZE) else {
+    let mut connection = Connection::new(serving.alloc);
+    let Ok(mut buffer) = Vec::from_elem(serving.alloc, 0, BUFFER_SIZE) else {
         return Err(StreamFault::Memory);
     };
     serve_pieces(
-        alloc,
+        serving,
         engine,
-        host,
         clock,
         reader,
         writer,
-        messages,
-        witness,
         &mut connection,
         buffer.as_mut_slice(),
     )
@@ -185,14 +188,11 @@ pub fn served_is_a_run()
 
 /// Takes the input in piece by piece, as many bytes at once as the buffer has, and answers the records.
 fn serve_pieces<C: Moments, R: Source, W: Sink, T: Witness>(
-    alloc: Global,
+    serving: &Serving<'_, T>,
     engine: &mut Engine,
-    host: &Host,
     clock: &mut C,
     reader: &mut R,
     writer: &mut W,
-    messages: Messages,
-    witness: &T,
     connection: &mut Connection,
     buffer: &mut [u8],
 ) -> Result<Served, StreamFault>
@@ -202,12 +202,13 @@ fn serve_pieces<C: Moments, R: Source, W: Sink, T: Witness>(
     ensures rest { IsAtRest engine.new }
     ensures keeps { KeepsSetting engine.old engine.new }
     ensures ok { IfOk result (λ _. (input : List ℕ) → R.unread reader.old ≡ Some input
-        → ServesAll C.gives host.now input clock.old clock.new engine.old engine.new
+        → ServesAll C.gives serving.now.host input clock.old clock.new engine.old engine.new
         (W.written writer.old) (W.written writer.new)) }
     ensures fault { IfErr result (λ e. (input : List ℕ) → R.unread reader.old ≡ Some input
-        → ServesFront C.gives host.now input (R.unread reader.new) e clock.old clock.new engine.old engine.new
-        (W.written writer.old) (W.written writer.new)) }
-    ensures dropped { messages ≡ Messages.Dropped → engine.old.book.outbox ≡ [] → engine.new.book.outbox ≡ [] }
+        → ServesFront C.gives serving.now.host input (R.unread reader.new) e clock.old clock.new
+        engine.old engine.new (W.written writer.old) (W.written writer.new)) }
+    ensures dropped { serving.now.messages ≡ Messages.Dropped → engine.old.book.outbox ≡ [] →
+        engine.new.book.outbox ≡ [] }
     ensures read { IsErrOf result StreamFault.Read →
         (R.Counts.failures reader.new ≡ one_more (R.Counts.failures reader.old))
         ⊎ ((input : List ℕ) → R.unread reader.old ≡ Some input → 2 ^ 64 - 1 ≤ length input) }
@@ -221,9 +222,7 @@ fn serve_pieces<C: Moments, R: Source, W: Sink, T: Witness>(
         if let PieceTaken::End = taken {
             return Ok(Served);
         }
-        serve_records(
-            alloc, engine, host, clock, writer, messages, witness, connection,
-        )?;
+        serve_records(serving, engine, clock, writer, connection)?;
         if let PieceTaken::Refused = taken {
             return Err(StreamFault::TooLarge);
         }
@@ -268,23 +267,21 @@ fn read_piece<R: Source>(
 
 /// Answers the whole records that have come, one after the other, to the last, and sends all answers on.
 fn serve_records<C: Moments, W: Sink, T: Witness>(
-    alloc: Global,
+    serving: &Serving<'_, T>,
     engine: &mut Engine,
-    host: &Host,
     clock: &mut C,
     writer: &mut W,
-    messages: Messages,
-    witness: &T,
     connection: &mut Connection,
 ) -> Result<(), StreamFault>
     requires rest { IsAtRest engine.old }
     requires none { waiting connection.old ≡ [] }
     requires room { connection.old.full ≡ false }
     ensures rest { IsAtRest engine.new }
-    ensures dropped { messages ≡ Messages.Dropped → engine.old.book.outbox ≡ [] → engine.new.book.outbox ≡ [] }
+    ensures dropped { serving.now.messages ≡ Messages.Dropped → engine.old.book.outbox ≡ [] →
+        engine.new.book.outbox ≡ [] }
     ensures goes { OnOk result
-        (AreServed C.gives host.now connection.old.records.queued clock.old clock.new engine.old engine.new
-        (W.written writer.old) (W.written writer.new)) }
+        (AreServed C.gives serving.now.host connection.old.records.queued clock.old clock.new
+        engine.old engine.new (W.written writer.old) (W.written writer.new)) }
     ensures all { OnOk result (connection.new.records.queued ≡ []) }
     ensures none { OnOk result (waiting connection.new ≡ []) }
     ensures room { OnOk result (connection.new.full ≡ false) }
@@ -294,29 +291,24 @@ fn serve_records<C: Moments, W: Sink, T: Witness>(
         Holds connection.new.records stream (given ++ connection.old.records.queued)) }
     ensures ok { OnOk result (W.Counts.failures writer.new ≡ W.Counts.failures writer.old) }
     ensures stops { IfErr result
-        (λ e. EndsByFault C.gives host.now e connection.old.records.queued clock.old clock.new
+        (λ e. EndsByFault C.gives serving.now.host e connection.old.records.queued clock.old clock.new
         engine.old engine.new (W.written writer.old) (W.written writer.new)) }
     ensures fault { IfErr result (λ e.
         ((e ≡ StreamFault.Write) × (W.Counts.failures writer.new ≡ one_more (W.Counts.failures writer.old)))
         ⊎ (e ≡ StreamFault.Memory)) }
 {
     'records: while let Some(record) = connection.next() {
-        serve_record(
-            alloc, engine, host, clock, writer, messages, witness, connection, record,
-        )?;
+        serve_record(serving, engine, clock, writer, connection, record)?;
     }
     send(writer, connection)
 }
 
 /// Answers one record, at the clock's next moment. Its answer waits, or is sent on.
 fn serve_record<C: Moments, W: Sink, T: Witness>(
-    alloc: Global,
+    serving: &Serving<'_, T>,
     engine: &mut Engine,
-    host: &Host,
     clock: &mut C,
     writer: &mut W,
-    messages: Messages,
-    witness: &T,
     connection: &mut Connection,
     message: Record,
 ) -> Result<(), StreamFault>
@@ -326,19 +318,20 @@ fn serve_record<C: Moments, W: Sink, T: Witness>(
     ensures room { OnOk result (connection.new.full ≡ false) }
     ensures records { connection.new.records ≡ connection.old.records }
     ensures sent { OnOk result (W.all_sent writer.old ≡ true → W.all_sent writer.new ≡ true) }
-    ensures dropped { messages ≡ Messages.Dropped → engine.old.book.outbox ≡ [] → engine.new.book.outbox ≡ [] }
+    ensures dropped { serving.now.messages ≡ Messages.Dropped → engine.old.book.outbox ≡ [] →
+        engine.new.book.outbox ≡ [] }
     ensures adds { OnOk result
-        (Adds C.gives host.now message clock.old clock.new engine.old engine.new
+        (Adds C.gives serving.now.host message clock.old clock.new engine.old engine.new
         (W.written writer.old) (W.written writer.new) (waiting connection.old) (waiting connection.new)) }
     ensures ok { OnOk result (W.Counts.failures writer.new ≡ W.Counts.failures writer.old) }
     ensures fails { IfErr result
-        (λ e. FailsBy C.gives host.now e message clock.old clock.new engine.old engine.new
+        (λ e. FailsBy C.gives serving.now.host e message clock.old clock.new engine.old engine.new
         (W.written writer.old) (W.written writer.new) (waiting connection.old)) }
     ensures fault { IfErr result (λ e.
         ((e ≡ StreamFault.Write) × (W.Counts.failures writer.new ≡ one_more (W.Counts.failures writer.old)))
         ⊎ (e ≡ StreamFault.Memory)) }
 {
-    match answer_next(alloc, engine, host, clock, messages, witness, message) {
+    match answer_next(serving, engine, clock, message) {
         Ok(answer) => put(writer, connection, answer),
         Err(_) => {
             send(writer, connection)?;
@@ -353,26 +346,24 @@ fn serve_record<C: Moments, W: Sink, T: Witness>(
 ///
 /// Those of `answer_record`.
 fn answer_next<C: Moments, T: Witness>(
-    alloc: Global,
+    serving: &Serving<'_, T>,
     engine: &mut Engine,
-    host: &Host,
     clock: &mut C,
-    messages: Messages,
-    witness: &T,
     message: Record,
 ) -> Result<Option<Answer>, AllocError>
     requires rest { IsAtRest engine.old }
     ensures rest { IsAtRest engine.new }
-    ensures dropped { messages ≡ Messages.Dropped → engine.old.book.outbox ≡ [] → engine.new.book.outbox ≡ [] }
+    ensures dropped { serving.now.messages ≡ Messages.Dropped → engine.old.book.outbox ≡ [] →
+        engine.new.book.outbox ≡ [] }
     ensures ok { IfOk result
-        (λ answer. AreAnswered C.gives host.now (message ∷ []) clock.old clock.new engine.old engine.new
+        (λ answer. AreAnswered C.gives serving.now.host (message ∷ []) clock.old clock.new engine.old engine.new
         (bytes_of answer)) }
     ensures err { OnErr result
         (HasNoAnswer C.gives (message ∷ []) clock.old clock.new engine.old engine.new) }
 {
-    let answer = answer_record(alloc, engine, host, clock, message)?;
-    witness.saw(&answer, engine);
-    if let Messages::Dropped = messages {
+    let answer = answer_record(serving.alloc, engine, serving.host, clock, message)?;
+    serving.witness.saw(&answer, engine);
+    if let Messages::Dropped = serving.messages {
         drop_messages(engine);
     }
     Ok(answer)
