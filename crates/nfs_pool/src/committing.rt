@@ -22,6 +22,19 @@ use std::alloc::Global;
 use std::sync::Wait;
 use std::sync::ledger::{Ledger, Share};
 
+/// What the commit of a call goes by, beside the call.
+#[derive(Drop)]
+pub(crate) struct CommitTerms<'a, L> {
+    /// The number of the seat's last receipt.
+    pub(crate) last: u64,
+    /// How the values that were read are marked.
+    pub(crate) notes: &'a Notes<L>,
+    /// What tells the values that are written, where one is large.
+    pub(crate) stamp: Option<&'a Stamp<L>>,
+    /// Which shards are written in.
+    pub(crate) written: &'a [bool; SHARDS],
+}
+
 impl<L: Ledger + Naming> Pool<L> {
     /// Takes the locks of the written shards from this one on, and then commits. What a call has written in a shard is
     /// made, and what it holds there is let go, before the shard's lock is.
@@ -30,22 +43,19 @@ impl<L: Ledger + Naming> Pool<L> {
         rt: &R,
         alloc: Global,
         mine: &mut Share<L>,
-        last: u64,
+        terms: &CommitTerms<'_, L>,
         finished: Finished,
-        notes: &Notes<L>,
-        stamp: Option<&Stamp<L>>,
-        written: &[bool; SHARDS],
         index: usize,
     ) -> Result<Committed, Uncommitted>
         requires parts { 0 < mine.old.parts }
         requires index { index ≤ SHARDS }
-        requires written { ArePlaces finished.done.change.writes written.now }
-        requires notes { AreNotes notes.now finished.done.view.entries }
-        requires stamp { IfSome (option_copied stamp) (λ s. s ≡ finished.done.change.writes) }
+        requires written { ArePlaces finished.done.change.writes terms.now.written.now }
+        requires notes { AreNotes terms.now.notes.now finished.done.view.entries }
+        requires stamp { IfSome (option_copied terms.now.stamp) (λ s. s ≡ finished.done.change.writes) }
         ensures parts { mine.new.parts ≡ mine.old.parts }
         ensures counted { OnOk result (mine.new.amount ≡ mine.old.amount + 2 ^ 64) }
         ensures uncounted { OnErr result (mine.new.amount ≡ mine.old.amount) }
-        ensures receipt { IfOk result (λ c. IsMadeAbove last finished c.receipt) }
+        ensures receipt { IfOk result (λ c. IsMadeAbove terms.now.last finished c.receipt) }
         ensures over { IfOk result (λ c. c.release.after ≡ then.Ended) }
         ensures free { IfOk result (λ c. LetGoFrom index finished.done.change.writes c.release.done) }
         ensures places { IfOk result
@@ -54,11 +64,11 @@ impl<L: Ledger + Naming> Pool<L> {
             written_at None (map write_value c.writes.items) a ≡ written_at None finished.done.change.writes a) }
         ensures back { IfErr result (λ u. u.finished ≡ finished) }
     {
-        let index = next_written(written, index);
+        let index = next_written(terms.written, index);
         if index == SHARDS {
             let mut guard = lock_spinning(rt, &self.desk);
             let desk = &mut *guard;
-            return desk.commit(alloc, mine, last, finished, notes, stamp);
+            return desk.commit(alloc, mine, terms.last, finished, terms.notes, terms.stamp);
         }
         let mut guard = lock_spinning(rt, &self.places[index].placed);
         let placed = &mut *guard;
@@ -74,19 +84,9 @@ impl<L: Ledger + Naming> Pool<L> {
                 reason: Reason::Memory,
             });
         }
-        match self.commit_from(
-            rt,
-            alloc,
-            mine,
-            last,
-            finished,
-            notes,
-            stamp,
-            written,
-            index + 1,
-        ) {
+        match self.commit_from(rt, alloc, mine, terms, finished, index + 1) {
             Ok(committed) => {
-                let committed = placed.settle(committed, stamp);
+                let committed = placed.settle(committed, terms.stamp);
                 self.places[index].released.notify_all();
                 Ok(committed)
             }

@@ -5,7 +5,7 @@ ghost use Rattle.nfs_pool.specs.Eras.{AreNew};
 ghost use Rattle.nfs_pool.specs.Seats.{Tells};
 
 use crate::carrying::run_call;
-use crate::committing::written_shards;
+use crate::committing::{CommitTerms, written_shards};
 use crate::counting::Count;
 use crate::desk::Desk;
 use crate::gate::Gate;
@@ -199,17 +199,13 @@ impl<L: Ledger + Naming> Steps<L> for Pool<L> {
     ) -> Result<(Receipt, Release), Uncommitted> {
         let written = written_shards(finished.writes());
         let stamp = stamp_for(&self.log, finished.writes());
-        match self.commit_from(
-            rt,
-            alloc,
-            mine,
+        let terms = CommitTerms {
             last,
-            finished,
             notes,
-            stamp.as_ref(),
-            &written,
-            0,
-        ) {
+            stamp: stamp.as_ref(),
+            written: &written,
+        };
+        match self.commit_from(rt, alloc, mine, &terms, finished, 0) {
             Ok(committed) => {
                 let Committed {
                     receipt,

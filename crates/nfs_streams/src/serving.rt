@@ -148,10 +148,10 @@ pub fn serve_with<C: Moments, R: Source, W: Sink, T: Witness>(
     ensures keeps { KeepsSetting engine.old engine.new }
     // Answers are those of a run of the machine, but for repeats, which have the reply that is kept.
     ensures ok { IfOk result (λ _. (input : List ℕ) → R.unread reader.old ≡ Some input
-        → ServesAll C.gives serving.now.host input clock.old clock.new engine.old engine.new
+        → ServesAll C.gives serving.now.host.now input clock.old clock.new engine.old engine.new
         (W.written writer.old) (W.written writer.new)) }
     ensures fault { IfErr result (λ e. (input : List ℕ) → R.unread reader.old ≡ Some input
-        → ServesFront C.gives serving.now.host input (R.unread reader.new) e clock.old clock.new
+        → ServesFront C.gives serving.now.host.now input (R.unread reader.new) e clock.old clock.new
         engine.old engine.new (W.written writer.old) (W.written writer.new)) }
     // Messages that are to be dropped don't wait.
     ensures dropped { serving.now.messages ≡ Messages.Dropped → engine.old.book.outbox ≡ [] →
@@ -202,10 +202,10 @@ fn serve_pieces<C: Moments, R: Source, W: Sink, T: Witness>(
     ensures rest { IsAtRest engine.new }
     ensures keeps { KeepsSetting engine.old engine.new }
     ensures ok { IfOk result (λ _. (input : List ℕ) → R.unread reader.old ≡ Some input
-        → ServesAll C.gives serving.now.host input clock.old clock.new engine.old engine.new
+        → ServesAll C.gives serving.now.host.now input clock.old clock.new engine.old engine.new
         (W.written writer.old) (W.written writer.new)) }
     ensures fault { IfErr result (λ e. (input : List ℕ) → R.unread reader.old ≡ Some input
-        → ServesFront C.gives serving.now.host input (R.unread reader.new) e clock.old clock.new
+        → ServesFront C.gives serving.now.host.now input (R.unread reader.new) e clock.old clock.new
         engine.old engine.new (W.written writer.old) (W.written writer.new)) }
     ensures dropped { serving.now.messages ≡ Messages.Dropped → engine.old.book.outbox ≡ [] →
         engine.new.book.outbox ≡ [] }
@@ -280,7 +280,7 @@ fn serve_records<C: Moments, W: Sink, T: Witness>(
     ensures dropped { serving.now.messages ≡ Messages.Dropped → engine.old.book.outbox ≡ [] →
         engine.new.book.outbox ≡ [] }
     ensures goes { OnOk result
-        (AreServed C.gives serving.now.host connection.old.records.queued clock.old clock.new
+        (AreServed C.gives serving.now.host.now connection.old.records.queued clock.old clock.new
         engine.old engine.new (W.written writer.old) (W.written writer.new)) }
     ensures all { OnOk result (connection.new.records.queued ≡ []) }
     ensures none { OnOk result (waiting connection.new ≡ []) }
@@ -291,7 +291,7 @@ fn serve_records<C: Moments, W: Sink, T: Witness>(
         Holds connection.new.records stream (given ++ connection.old.records.queued)) }
     ensures ok { OnOk result (W.Counts.failures writer.new ≡ W.Counts.failures writer.old) }
     ensures stops { IfErr result
-        (λ e. EndsByFault C.gives serving.now.host e connection.old.records.queued clock.old clock.new
+        (λ e. EndsByFault C.gives serving.now.host.now e connection.old.records.queued clock.old clock.new
         engine.old engine.new (W.written writer.old) (W.written writer.new)) }
     ensures fault { IfErr result (λ e.
         ((e ≡ StreamFault.Write) × (W.Counts.failures writer.new ≡ one_more (W.Counts.failures writer.old)))
@@ -321,11 +321,11 @@ fn serve_record<C: Moments, W: Sink, T: Witness>(
     ensures dropped { serving.now.messages ≡ Messages.Dropped → engine.old.book.outbox ≡ [] →
         engine.new.book.outbox ≡ [] }
     ensures adds { OnOk result
-        (Adds C.gives serving.now.host message clock.old clock.new engine.old engine.new
+        (Adds C.gives serving.now.host.now message clock.old clock.new engine.old engine.new
         (W.written writer.old) (W.written writer.new) (waiting connection.old) (waiting connection.new)) }
     ensures ok { OnOk result (W.Counts.failures writer.new ≡ W.Counts.failures writer.old) }
     ensures fails { IfErr result
-        (λ e. FailsBy C.gives serving.now.host e message clock.old clock.new engine.old engine.new
+        (λ e. FailsBy C.gives serving.now.host.now e message clock.old clock.new engine.old engine.new
         (W.written writer.old) (W.written writer.new) (waiting connection.old)) }
     ensures fault { IfErr result (λ e.
         ((e ≡ StreamFault.Write) × (W.Counts.failures writer.new ≡ one_more (W.Counts.failures writer.old)))
@@ -356,7 +356,7 @@ fn answer_next<C: Moments, T: Witness>(
     ensures dropped { serving.now.messages ≡ Messages.Dropped → engine.old.book.outbox ≡ [] →
         engine.new.book.outbox ≡ [] }
     ensures ok { IfOk result
-        (λ answer. AreAnswered C.gives serving.now.host (message ∷ []) clock.old clock.new engine.old engine.new
+        (λ answer. AreAnswered C.gives serving.now.host.now (message ∷ []) clock.old clock.new engine.old engine.new
         (bytes_of answer)) }
     ensures err { OnErr result
         (HasNoAnswer C.gives (message ∷ []) clock.old clock.new engine.old engine.new) }

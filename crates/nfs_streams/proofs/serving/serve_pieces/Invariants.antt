@@ -7,7 +7,7 @@ use Rattle.nfs_streams.proofs.serving.serve_pieces.Given as goal
 
 abbrev pub invariant-pieces : goal.invariant-pieces
 invariant-pieces g l =
-    Taking g.C.Moments.gives l.serving.host l.initial.clock l.clock l.initial.engine l.engine
+    Taking g.C.Moments.gives l.serving.host.now l.initial.clock l.clock l.initial.engine l.engine
     (g.W.Sink.written l.initial.writer) (g.W.Sink.written l.writer)
     (g.R.Source.unread l.initial.reader) (g.R.Source.unread l.reader) l.connection.records l._reads
     (g.R.Counts.failures l.initial.reader) (g.R.Counts.failures l.reader) (g.W.Counts.failures l.initial.writer)

@@ -7,7 +7,7 @@ use Rattle.nfs_streams.proofs.serving.serve_records.Given as goal
 
 abbrev pub invariant-records : goal.invariant-records
 invariant-records g l =
-    Answering g.C.Moments.gives l.serving.host l.initial.clock l.clock l.initial.engine l.engine
+    Answering g.C.Moments.gives l.serving.host.now l.initial.clock l.clock l.initial.engine l.engine
     (g.W.Sink.written l.initial.writer) (g.W.Sink.written l.writer)
     l.initial.connection.records l.connection.records (waiting l.connection) (g.W.Counts.failures l.initial.writer)
     (g.W.Counts.failures l.writer)
