@@ -76,6 +76,8 @@ struct PoolParts {
 struct ServiceParts<O> {
     sockets: Sockets,
     network: Network,
+    /// What is counted.
+    counters: Arc<Counters>,
     /// The second at which every moment is, if any.
     clock: Option<u32>,
     /// The moment at which the server began.
@@ -94,13 +96,14 @@ struct ServiceParts<O> {
 pub fn serve_network<R: NetworkRuntime + Operator>(rt: R, options: Options) -> Result<(), Exit>
     requires { AreWithin options }
 {
+    let counters = Counters::new(rt.alloc())?;
     let sockets = Sockets::bind(&rt, rt.alloc(), &options)?;
     sockets.tell(&rt);
-    serve_operated(rt, options, sockets, rt)
+    serve_operated(rt, options, sockets, counters, rt)
 }
 
-/// Serves on these sockets as the options say: until so many connections have come and ended, or for ever. No operator
-/// says anything.
+/// Serves on these sockets as the options say: until so many connections have come and ended, or for ever. What happens
+/// is counted here. No operator says anything.
 ///
 /// # Errors
 ///
@@ -109,14 +112,15 @@ pub fn serve_sockets<R: NetworkRuntime>(
     rt: R,
     options: Options,
     sockets: Sockets,
+    counters: Arc<Counters>,
 ) -> Result<(), Exit>
     requires { AreWithin options }
 {
-    serve_operated(rt, options, sockets, Nobody)
+    serve_operated(rt, options, sockets, counters, Nobody)
 }
 
 /// Serves on these sockets as the options say, and does what the operator says where they ask for that: until so many
-/// connections have come and ended, or for ever.
+/// connections have come and ended, or for ever. What happens is counted here.
 ///
 /// # Errors
 ///
@@ -125,6 +129,7 @@ pub fn serve_operated<R: NetworkRuntime, O: Operator + Drop + Send + 'static>(
     rt: R,
     options: Options,
     sockets: Sockets,
+    counters: Arc<Counters>,
     operator: O,
 ) -> Result<(), Exit>
     requires { AreWithin options }
@@ -161,6 +166,7 @@ pub fn serve_operated<R: NetworkRuntime, O: Operator + Drop + Send + 'static>(
     let service = ServiceParts {
         sockets,
         network,
+        counters,
         clock,
         begin,
         callbacks,
@@ -224,15 +230,20 @@ fn serve_pool<
     let Ok((pool, seats)) = Pool::<L>::new(alloc, blank, opened, engine, count) else {
         return Err(Exit::Memory);
     };
-    let counters = Counters::new(alloc)?;
     let (permits, era_thread, seats, room) = open_permits(
-        &rt, alloc, pool, seats, count, &counters, kept,
+        &rt,
+        alloc,
+        pool,
+        seats,
+        count,
+        &service.counters,
+        kept,
     )?;
     let stats = service.network.stats;
-    start_service(rt, alloc, permits, &counters, service)?;
+    start_service(rt, alloc, permits, service)?;
     let ended = era_thread.work(&rt, alloc, seats, room);
     if stats > 0 {
-        tell(&rt, alloc, &counters);
+        tell(&rt, alloc, &era_thread.counters);
     }
     ended
 }
@@ -246,27 +257,20 @@ fn start_service<
     rt: R,
     alloc: Global,
     permits: Permits<L>,
-    counters: &Arc<Counters>,
     parts: ServiceParts<O>,
 ) -> Result<(), Exit> {
     let ServiceParts {
         sockets,
         network,
+        counters,
         clock,
         begin,
         callbacks,
         operator,
     } = parts;
     let (jobs, queue) = bounded(alloc, JOBS)?;
-    let service = Service::new(
-        alloc,
-        permits,
-        jobs,
-        Arc::try_clone(counters)?,
-        clock,
-        begin,
-    )?;
-    start_reporter(rt, alloc, counters, network.stats)?;
+    let service = Service::new(alloc, permits, jobs, counters, clock, begin)?;
+    start_reporter(rt, alloc, &service.counters, network.stats)?;
     start_workers(rt, alloc, &service, queue, network.workers)?;
     start_senders(rt, alloc, &service, callbacks)?;
     if network.control {
