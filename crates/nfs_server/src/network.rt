@@ -236,8 +236,8 @@ fn serve_pool<
         pool,
         seats,
         count,
-        &service.counters,
         kept,
+        &service,
     )?;
     let stats = service.network.stats;
     start_service(rt, alloc, permits, service)?;
@@ -280,19 +280,19 @@ fn start_service<
 }
 
 /// A permit for each seat, and what ends eras, with room for all seats and to end an era in.
-fn open_permits<L: Ledger + Naming, R: Wait>(
+fn open_permits<L: Ledger + Naming, R: Wait, O>(
     rt: &R,
     alloc: Global,
     pool: Pool<L>,
     seats: Vec<Seat<L>>,
     count: usize,
-    counters: &Arc<Counters>,
     kept: Option<usize>,
+    service: &ServiceParts<O>,
 ) -> Result<(Permits<L>, EraThread<L>, Vec<Seat<L>>, EraRoom), AllocError> {
     let (back, free) = bounded(alloc, count)?;
     let (full, filled) = bounded(alloc, count)?;
     let room = EraRoom::new(alloc, count)?;
-    counters.set(Gauge::Objects, pool.objects(rt));
+    service.counters.set(Gauge::Objects, pool.objects(rt));
     let pool = Arc::new(alloc, pool)?;
     let seats = hand_out(rt, &back, pool, seats, 0, false);
     let gathering = Arc::new(alloc, Gathering::new())?;
@@ -302,7 +302,8 @@ fn open_permits<L: Ledger + Naming, R: Wait>(
         full: filled,
         count,
         gathering: Arc::try_clone(&gathering)?,
-        counters: Arc::try_clone(counters)?,
+        patience: service.network.patience.permit,
+        counters: Arc::try_clone(&service.counters)?,
         kept,
     };
     let permits = Permits::new(free, back, full, gathering);

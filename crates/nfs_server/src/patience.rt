@@ -1,4 +1,4 @@
-//! How long a peer is waited for.
+//! How long a peer is waited for, and a permit.
 
 ghost use Rattle.std.specs.Prelude.{◌≡◌, ◌||◌, if◌then◌else◌};
 ghost use Rattle.std.specs.Duration.{as_nanos};
@@ -8,7 +8,7 @@ ghost use Rattle.nfs_server.specs.Waits.{begins_anew, is_idle, left_of, limit_of
 use crate::marks::Stage;
 use std::time::{Duration, Instant};
 
-/// How long peers are waited for, in seconds.
+/// How long peers are waited for, and permits, in seconds.
 #[derive(Clone, Copy, Drop)]
 pub struct Patience {
     /// For the first record over a connection, from its begin on, and for the rest of one that has begun.
@@ -17,6 +17,9 @@ pub struct Patience {
     pub idle: u64,
     /// For a peer to take answers that are sent together.
     pub answers: u64,
+    /// For each of the permits that are gathered when an era ends: one that does not come was lost. A process that was
+    /// stopped, for however long, goes on within one of these seconds.
+    pub permit: u64,
 }
 
 impl Patience {
@@ -25,6 +28,7 @@ impl Patience {
         record: 30,
         idle: 600,
         answers: 30,
+        permit: 3_600,
     };
 }
 

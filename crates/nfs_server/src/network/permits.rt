@@ -24,10 +24,6 @@ const LOOK: u64 = 1000;
 /// that, in which nobody is served.
 const HURRY: u64 = 20;
 
-/// How often the era thread waits a second for the next permit: one that does not come in an hour was lost. A process
-/// that was stopped, for however long, goes on within one of these waits.
-const MOST_WAITS: usize = 3_600;
-
 /// A seat with its pool: the leave to execute calls.
 #[derive(Drop)]
 pub(crate) struct Permit<L: Ledger + Naming> {
@@ -188,6 +184,8 @@ pub(crate) struct EraThread<L: Ledger + Naming> {
     /// How many permits there are.
     pub(crate) count: usize,
     pub(crate) gathering: Arc<Gathering>,
+    /// For how many seconds the next permit is waited for.
+    pub(crate) patience: u64,
     pub(crate) counters: Arc<Counters>,
     /// How many replies are kept of each host; None where nobody is told of them.
     pub(crate) kept: Option<usize>,
@@ -340,7 +338,7 @@ impl<L: Ledger + Naming> EraThread<L> {
 
     /// The next permit that comes, handed in or free. None where none comes.
     fn next<R: Wait + Clock>(&self, rt: &R) -> Option<Permit<L>> {
-        for _ in 0..MOST_WAITS {
+        for _ in 0..self.patience {
             if let Ok(permit) = self.free.try_recv(rt) {
                 return Some(permit);
             }
