@@ -21,10 +21,12 @@ mod waits;
 
 use crate::tests::clients::Visit;
 use nfs_server::{
-    NetworkRuntime, Options, Patience, Runtime, Sockets, Transport, configure, serve_sockets,
+    CountedEvent, Counters, NetworkRuntime, Options, Patience, Runtime, Sockets, Transport,
+    configure, serve_sockets,
 };
 use std::alloc::{AllocError, Global};
 use std::net::{Net, TcpListener, TcpStream};
+use std::sync::Arc;
 use std::test::Fail;
 use std::thread;
 
@@ -77,23 +79,35 @@ fn with_patience(options: Options, patience: Patience) -> Options
     options
 }
 
-/// As `is_served_within`, where peers are waited for as ever.
+/// How often something has to have happened when the server ends.
+type Count = (CountedEvent, u64);
+
+/// As `is_counted`, where peers are waited for as ever.
 fn is_served<R: Runtime + AllocGlobal + Eprint + Net<Listener = TcpListener, Stream = TcpStream>>(
     rt: R,
     more: &[&str],
     visit: Visit,
 ) -> Result<bool, Fail> {
-    is_served_within(rt, more, Patience::USUAL, visit)
+    is_counted(rt, more, Patience::USUAL, visit, &[])
 }
 
 /// Serves a client on sockets of the system's choice, until so many connections have come and ended as the words say.
-/// Peers are waited for so long. Whether all went as it should.
-fn is_served_within<
-    R: Runtime + AllocGlobal + Eprint + Net<Listener = TcpListener, Stream = TcpStream>,
->(rt: R, more: &[&str], patience: Patience, visit: Visit) -> Result<bool, Fail> {
+/// Peers are waited for so long. Whether all went as it should, and all this was counted.
+fn is_counted<R: Runtime + AllocGlobal + Eprint + Net<Listener = TcpListener, Stream = TcpStream>>(
+    rt: R,
+    more: &[&str],
+    patience: Patience,
+    visit: Visit,
+    counts: &[Count],
+) -> Result<bool, Fail> {
+    let counters = Counters::new(rt.alloc())?;
+    let shared = Arc::try_clone(&counters)?;
     let options = with_patience(options(rt.alloc(), more)?, patience);
     match Sockets::bind(&rt, rt.alloc(), &options) {
-        Ok(sockets) => Ok(serve_beside(rt, options, sockets, visit)),
+        Ok(sockets) => {
+            let is_well = serve_beside(rt, options, sockets, shared, visit);
+            Ok(is_well && are_counted(&counters, counts))
+        }
         Err(exit) => {
             drop(exit);
             drop(options);
@@ -102,13 +116,29 @@ fn is_served_within<
     }
 }
 
+/// Whether each of these happened so often.
+fn are_counted(counters: &Counters, counts: &[Count]) -> bool {
+    for (event, count) in counts {
+        if counters.of(*event) != *count {
+            return false;
+        }
+    }
+    true
+}
+
 /// Serves on these sockets beside a client.
-fn serve_beside<R: NetworkRuntime>(rt: R, options: Options, sockets: Sockets, visit: Visit) -> bool
+fn serve_beside<R: NetworkRuntime>(
+    rt: R,
+    options: Options,
+    sockets: Sockets,
+    counters: Arc<Counters>,
+    visit: Visit,
+) -> bool
     requires { AreWithin options }
 {
     let (tcp, udp) = (sockets.tcp_address(), sockets.udp_address());
     let client = thread::spawn(&rt, move || visit.is_well(&rt, tcp, udp));
-    let ended = serve_sockets(rt, options, sockets);
+    let ended = serve_sockets(rt, options, sockets, counters);
     let is_well = ended.is_ok();
     drop(ended);
     match client {

@@ -231,13 +231,7 @@ fn serve_pool<
         return Err(Exit::Memory);
     };
     let (permits, era_thread, seats, room) = open_permits(
-        &rt,
-        alloc,
-        pool,
-        seats,
-        count,
-        kept,
-        &service,
+        &rt, alloc, pool, seats, count, kept, &service,
     )?;
     let stats = service.network.stats;
     start_service(rt, alloc, permits, service)?;
@@ -253,12 +247,7 @@ fn start_service<
     L: Ledger + Naming + Send + Sync + 'static,
     R: NetworkRuntime,
     O: Operator + Drop + Send + 'static,
->(
-    rt: R,
-    alloc: Global,
-    permits: Permits<L>,
-    parts: ServiceParts<O>,
-) -> Result<(), Exit> {
+>(rt: R, alloc: Global, permits: Permits<L>, parts: ServiceParts<O>) -> Result<(), Exit> {
     let ServiceParts {
         sockets,
         network,

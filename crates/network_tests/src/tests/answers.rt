@@ -1,7 +1,8 @@
 //! What is answered over connections and by datagrams.
 
 use crate::tests::clients::{Exchange, Visit};
-use crate::tests::is_served;
+use crate::tests::{Count, is_counted, is_served};
+use nfs_server::{CountedEvent, Patience};
 use std::process::Abort;
 use std::test::Fail;
 
@@ -109,9 +110,20 @@ fn a_call_whose_connection_was_lost(rt: HostRuntime) -> Result<(), Fail> {
     Ok(())
 }
 
+/// The second of two connections comes while the first one is open.
+const TURNED_AWAY: [Count; 2] = [(CountedEvent::Opened, 1), (CountedEvent::TurnedAway, 1)];
+
 #[test]
 fn a_connection_is_closed_alone(rt: HostRuntime) -> Result<(), Fail> {
-    assert!(rt; is_served(rt, &ONE_AT_ONCE, Visit::Refused(NULL))?);
+    assert!(rt;
+        is_counted(
+            rt,
+            &ONE_AT_ONCE,
+            Patience::USUAL,
+            Visit::Refused(NULL),
+            &TURNED_AWAY
+        )?
+    );
     assert!(rt; is_served(rt, &TWICE, Visit::Closed(NULL, &TOO_LONG))?);
     assert!(rt; is_served(rt, &TWICE, Visit::Ended(NULL, &CUT))?);
     Ok(())

@@ -5,8 +5,8 @@ use crate::tests::bursts::{add_read, content, is_written};
 use crate::tests::callbacks::create;
 use crate::tests::clients::{Visit, connect};
 use crate::tests::names::{LOOKUP, NOENT, is_told, on_name};
-use crate::tests::{is_served, is_served_within};
-use nfs_server::{Patience, SystemNet};
+use crate::tests::{Count, is_counted, is_served};
+use nfs_server::{CountedEvent, Patience, SystemNet};
 use std::alloc::Global;
 use std::io::Write;
 use std::net::{SocketAddr, TcpStream};
@@ -52,7 +52,11 @@ const HASTE: Patience = Patience {
     record: 30,
     idle: 600,
     answers: 1,
+    permit: 3_600,
 };
+
+/// One of two peers is given up.
+const GIVEN_UP: [Count; 2] = [(CountedEvent::Late, 1), (CountedEvent::Ended, 1)];
 
 const TWO: [&str; 6] = ["--tcp", "127.0.0.1:0", "--accept", "2", "--era", "4"];
 
@@ -112,6 +116,6 @@ pub(super) fn are_answered<R: AllocGlobal + Clock + SystemNet>(
 #[test]
 fn a_peer_that_takes_no_answer(rt: HostRuntime) -> Result<(), Fail> {
     assert!(rt; is_served(rt, &TWO, Visit::Deaf(QUICK))?);
-    assert!(rt; is_served_within(rt, &TWO, HASTE, Visit::Deaf(UNTIL_GIVEN_UP))?);
+    assert!(rt; is_counted(rt, &TWO, HASTE, Visit::Deaf(UNTIL_GIVEN_UP), &GIVEN_UP)?);
     Ok(())
 }

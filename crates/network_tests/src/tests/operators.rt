@@ -9,7 +9,7 @@ use crate::tests::options;
 use nfs_machine::Exports;
 use nfs_rpc::stream::Counted;
 use nfs_server::{
-    Applied, NetworkRuntime, Operator, Options, Runtime, Sockets, SystemNet, control,
+    Applied, Counters, NetworkRuntime, Operator, Options, Runtime, Sockets, SystemNet, control,
     serve_operated,
 };
 use std::alloc::Global;
@@ -114,9 +114,12 @@ fn serve_operator<R: NetworkRuntime>(
 ) -> bool
     requires { AreWithin options }
 {
+    let Ok(counters) = Counters::new(rt.alloc()) else {
+        return false;
+    };
     match listener.accept() {
         Ok((stream, _)) => {
-            let ended = serve_operated(rt, options, sockets, Caller { stream });
+            let ended = serve_operated(rt, options, sockets, counters, Caller { stream });
             let is_well = ended.is_ok();
             drop(ended);
             is_well

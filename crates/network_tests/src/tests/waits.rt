@@ -3,8 +3,8 @@
 
 use crate::tests::answers::NULL;
 use crate::tests::clients::{Exchange, Visit, connect, exchange, send};
-use crate::tests::is_served_within;
-use nfs_server::{Patience, SystemNet};
+use crate::tests::{Count, is_counted};
+use nfs_server::{CountedEvent, Patience, SystemNet};
 use std::io;
 use std::io::{ErrorKind, Read, Write};
 use std::net::{SocketAddr, TcpStream};
@@ -17,6 +17,7 @@ const HASTE: Patience = Patience {
     record: 1,
     idle: 600,
     answers: 30,
+    permit: 3_600,
 };
 
 /// A record is not waited for: no socket takes such a time, so no connection can be served.
@@ -24,7 +25,18 @@ const NO_TIME: Patience = Patience {
     record: 0,
     idle: 600,
     answers: 30,
+    permit: 3_600,
 };
+
+/// An era ends behind each of three connections that can't be served, and the last one when they have come.
+const RELIEVED: [Count; 2] = [(CountedEvent::Starved, 3), (CountedEvent::Era, 4)];
+
+/// Of three peers two are given up.
+const GIVEN_UP: [Count; 3] = [
+    (CountedEvent::Opened, 3),
+    (CountedEvent::Late, 2),
+    (CountedEvent::Ended, 1),
+];
 
 /// The header of a record of 4,096 bytes.
 const BEGUN: [u32; 1] = [0x80001000];
@@ -100,12 +112,12 @@ pub(crate) fn are_closed<R: AllocGlobal + SystemNet>(rt: &R, tcp: SocketAddr) ->
 
 #[test]
 fn peers_that_can_not_be_served(rt: HostRuntime) -> Result<(), Fail> {
-    assert!(rt; is_served_within(rt, &THREE_APART, NO_TIME, Visit::Unserved)?);
+    assert!(rt; is_counted(rt, &THREE_APART, NO_TIME, Visit::Unserved, &RELIEVED)?);
     Ok(())
 }
 
 #[test]
 fn peers_that_send_no_whole_record(rt: HostRuntime) -> Result<(), Fail> {
-    assert!(rt; is_served_within(rt, &THREE, HASTE, Visit::Slow(NULL))?);
+    assert!(rt; is_counted(rt, &THREE, HASTE, Visit::Slow(NULL), &GIVEN_UP)?);
     Ok(())
 }
