@@ -24,7 +24,7 @@ use std::sync::ledger::{Ledger, Share};
 
 /// What the commit of a call goes by, beside the call.
 #[derive(Drop)]
-pub(crate) struct CommitTerms<'a, L> {
+pub(crate) struct CommitTerms<'a, L: Naming> {
     /// The number of the seat's last receipt.
     pub(crate) last: u64,
     /// How the values that were read are marked.
