@@ -103,9 +103,6 @@ pub enum CountedEvent {
     Era,
 }
 
-/// How many events are counted; the era is the last one.
-const EVENTS: usize = CountedEvent::Era as usize + 1;
-
 impl CountedEvent {
     /// By which name its count is told.
     fn name(self) -> &'static str {
@@ -143,9 +140,6 @@ pub enum Gauge {
     KeptBytes,
 }
 
-/// How many gauges there are; the bytes are the last one.
-const GAUGES: usize = Gauge::KeptBytes as usize + 1;
-
 impl Gauge {
     /// By which name it is told.
     fn name(self) -> &'static str {
@@ -179,7 +173,7 @@ impl Told {
     }
 }
 
-/// What is told of the network, in this order.
+/// What is told of the network, in this order: all that is counted.
 const OF_NETWORK: [Told; 21] = [
     Told::Connections,
     Told::Event(CountedEvent::Repeated),
@@ -252,8 +246,8 @@ impl Counters {
             nfs: zeros(alloc, NFS.len())?,
             mount: zeros(alloc, MOUNT.len())?,
             nlm: zeros(alloc, NLM.len())?,
-            events: zeros(alloc, EVENTS)?,
-            gauges: zeros(alloc, GAUGES)?,
+            events: zeros(alloc, OF_NETWORK.len())?,
+            gauges: zeros(alloc, OF_NETWORK.len())?,
             told,
         };
         Ok(Arc::new(alloc, counters)?)
