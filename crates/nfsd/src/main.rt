@@ -3,13 +3,11 @@
 //! It has no contract: what its words mean, how they are refused and what is served is the library's.
 #![tactic(auto)]
 
-use nfs_server::{Exit, Operator, arguments, configure, serve};
+use nfs_server::{Exit, Operator, Runtime, arguments, configure, serve};
 use std::net::{Net, TcpListener, TcpStream};
 use std::process::ExitCode;
 use std::random::RandomSource;
-use std::rt::{Clock, Env};
-use std::sync::Wait;
-use std::thread::Threads;
+use std::rt::Env;
 
 fn main(rt: HostRuntime) -> ExitCode {
     match run(rt) {
@@ -23,22 +21,15 @@ fn main(rt: HostRuntime) -> ExitCode {
 }
 
 fn run<
-    R: AllocGlobal
-        + Clock
+    R: Runtime
+        + AllocGlobal
         + Env
         + Input
         + Print
         + Eprint
         + Operator
         + RandomSource
-        + Net<Listener = TcpListener, Stream = TcpStream>
-        + Threads
-        + Wait
-        + Copy
-        + Drop
-        + Send
-        + Sync
-        + 'static,
+        + Net<Listener = TcpListener, Stream = TcpStream>,
 >(rt: R) -> Result<(), Exit> {
     let words = arguments(&rt)?;
     let options = configure(rt.alloc(), &words)?;
