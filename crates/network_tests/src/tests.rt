@@ -21,7 +21,7 @@ mod waits;
 
 use crate::tests::clients::Visit;
 use nfs_server::{
-    CountedEvent, Counters, NetworkRuntime, Options, Patience, Runtime, Sockets, Transport,
+    CountedEvent, Counters, Exit, NetworkRuntime, Options, Patience, Runtime, Sockets, Transport,
     configure, serve_sockets,
 };
 use std::alloc::{AllocError, Global};
@@ -105,14 +105,24 @@ fn is_counted<R: Runtime + AllocGlobal + Eprint + Net<Listener = TcpListener, St
     let options = with_patience(options(rt.alloc(), more)?, patience);
     match Sockets::bind(&rt, rt.alloc(), &options) {
         Ok(sockets) => {
-            let is_well = serve_beside(rt, options, sockets, shared, visit);
-            Ok(is_well && are_counted(&counters, counts))
+            let (is_well, ended) = serve_beside(rt, options, sockets, shared, visit);
+            let has_ended = has_ended(&ended, patience);
+            drop(ended);
+            Ok(is_well && has_ended && are_counted(&counters, counts))
         }
         Err(exit) => {
             drop(exit);
             drop(options);
             Ok(false)
         }
+    }
+}
+
+/// Whether a server ended as it has to: well, or where it waits for no permit as where one was lost.
+fn has_ended(ended: &Result<(), Exit>, patience: Patience) -> bool {
+    match ended {
+        Ok(()) => patience.permit > 0,
+        Err(exit) => patience.permit == 0 && matches!(exit, Exit::Receipts),
     }
 }
 
@@ -126,23 +136,22 @@ fn are_counted(counters: &Counters, counts: &[Count]) -> bool {
     true
 }
 
-/// Serves on these sockets beside a client.
+/// Serves on these sockets beside a client. Whether all went for him as it should, and how the server ended.
 fn serve_beside<R: NetworkRuntime>(
     rt: R,
     options: Options,
     sockets: Sockets,
     counters: Arc<Counters>,
     visit: Visit,
-) -> bool
+) -> (bool, Result<(), Exit>)
     requires { AreWithin options }
 {
     let (tcp, udp) = (sockets.tcp_address(), sockets.udp_address());
     let client = thread::spawn(&rt, move || visit.is_well(&rt, tcp, udp));
     let ended = serve_sockets(rt, options, sockets, counters);
-    let is_well = ended.is_ok();
-    drop(ended);
-    match client {
-        Ok(client) => client.join(&rt) && is_well,
+    let is_well = match client {
+        Ok(client) => client.join(&rt),
         Err(_) => false,
-    }
+    };
+    (is_well, ended)
 }

@@ -1,5 +1,5 @@
 //! Peers that are not waited for any longer: one that sends nothing, and one that does not come to a record's end. And
-//! peers that can't be served at all.
+//! peers that can't be served at all, and permits that do not come.
 
 use crate::tests::answers::NULL;
 use crate::tests::clients::{Exchange, Visit, connect, exchange, send};
@@ -28,8 +28,18 @@ const NO_TIME: Patience = Patience {
     permit: 3_600,
 };
 
+/// No permit is waited for where all are gathered: so they are lost.
+const NO_PERMIT: Patience = Patience {
+    record: 30,
+    idle: 600,
+    answers: 30,
+    permit: 0,
+};
+
 /// An era ends behind each of three connections that can't be served, and the last one when they have come.
 const RELIEVED: [Count; 2] = [(CountedEvent::Starved, 3), (CountedEvent::Era, 4)];
+
+const NO_ERA: [Count; 2] = [(CountedEvent::Ended, 1), (CountedEvent::Era, 0)];
 
 /// Of three peers two are given up.
 const GIVEN_UP: [Count; 3] = [
@@ -45,6 +55,10 @@ const BEGUN: [u32; 1] = [0x80001000];
 const MOST_LOOKS: usize = 60;
 
 const FEWEST_LOOKS: usize = 3;
+
+const CALLS: [Exchange; 1] = [NULL];
+
+const ONE: [&str; 4] = ["--tcp", "127.0.0.1:0", "--accept", "1"];
 
 const THREE: [&str; 4] = ["--tcp", "127.0.0.1:0", "--accept", "3"];
 
@@ -113,6 +127,13 @@ pub(crate) fn are_closed<R: AllocGlobal + SystemNet>(rt: &R, tcp: SocketAddr) ->
 #[test]
 fn peers_that_can_not_be_served(rt: HostRuntime) -> Result<(), Fail> {
     assert!(rt; is_counted(rt, &THREE_APART, NO_TIME, Visit::Unserved, &RELIEVED)?);
+    Ok(())
+}
+
+/// The server ends as where a record has no receipt, and no era was ended.
+#[test]
+fn a_permit_that_does_not_come(rt: HostRuntime) -> Result<(), Fail> {
+    assert!(rt; is_counted(rt, &ONE, NO_PERMIT, Visit::Connection(&CALLS), &NO_ERA)?);
     Ok(())
 }
 
