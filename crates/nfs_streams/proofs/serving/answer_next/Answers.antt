@@ -4,7 +4,7 @@ use Rattle.nfs_streams.proofs.serving.answer_next.Goals.{in-Dropped, in_default}
 use Rattle.nfs_streams.proofs.serving.answer_next.Goals as goal
 
 pub returns-clause-ok : goal.returns-clause-ok
-returns-clause-ok g c = elim c.match-messages.branch [
+returns-clause-ok g c = elim c.match-serving.branch [
   | in-Dropped w ↦
       rw w.engine-is
       (answered_stays _ _ _ _ _ _ _ _ _ w.drop_messages.ensures c.in_ok-answer.ensures.ok)
