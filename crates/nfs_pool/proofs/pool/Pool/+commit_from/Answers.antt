@@ -24,7 +24,7 @@ settle-committed-requires-clause-stamp g n c =
     let which = c.make_room.new.self.shard.index in
     let at : which ≡ c.next_written-index.result =
     ap (λ (s : ShardValue). s.index) c.make_room.ensures ∙ (c.if-not-may_settle.ensures refl).0 in
-    stamps-of (Some which) (option_copied c.args.terms.stamp) c.args.finished.done.change.writes
+    stamps-of (Some which) (option_copied c.args.terms.now.stamp) c.args.finished.done.change.writes
     (map write_value c.in-Ok.committed.writes.items) c.requires.stamp
     (λ a here. c.in-Ok.ensures.writes a (omega (arith, at, (unsigned_Decides (shard_of a) which).0 here)))
 
@@ -48,7 +48,7 @@ returns-then-index-eq-SHARDS-clause-free g n c =
     let writes = c.args.finished.done.change.writes in
     IfOk-weaker c.commit.result _ _ (λ made leaves.
     subst (λ (r : ReleaseValue). LetGoFrom c.args.index writes r.done) (sym leaves.release)
-    (none_let_go writes c.args.terms.written.now c.requires.written c.args.index c.next_written-index.result
+    (none_let_go writes c.args.terms.now.written.now c.requires.written c.args.index c.next_written-index.result
     c.next_written-index.ensures.within.0 c.next_written-index.ensures.passed
     (omega (arith, c.if-index-eq-SHARDS.true)))) c.commit.ensures.leaves
 
@@ -67,6 +67,6 @@ returns-in-Ok-clause-free g n c =
     subst (λ (r : ReleaseValue). LetGoFrom c.args.index writes r.done) (sym c.settle-committed.ensures.release)
     (subst (λ (i : ℕ). LetGoFrom c.args.index writes (set done i true))
     (sym (ap (λ (s : ShardValue). s.index) c.make_room.ensures ∙ (c.if-not-may_settle.ensures refl).0))
-    (one_let_go writes c.args.terms.written.now c.requires.written c.args.index c.next_written-index.result
+    (one_let_go writes c.args.terms.now.written.now c.requires.written c.args.index c.next_written-index.result
     c.next_written-index.ensures.within.0 c.next_written-index.ensures.passed within
     (c.next_written-index.ensures.found within) done c.in-Ok.ensures.free))
