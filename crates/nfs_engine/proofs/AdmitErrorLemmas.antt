@@ -88,6 +88,10 @@ module _ (r : Request) (origin : Option Origin) (is : IsCandidate r origin) wher
   abbrev asked_by : Asked
   asked_by = record { xid = r.xid; ids = r.ctx.ids; call = r.call }
 
+  -- what one would begin is no repeat, where nothing is known of what it came with
+  pub none_known : (b : BookValue) → IfSome origin (IsUnknown b) → IsNoRepeat b (candidate_value r)
+  none_known b unknown = no_repeat b (incoming_value r.received) asked_by origin is.origin_is unknown
+
   -- and the other way round
   pub known_of : (b : BookValue) → IsNoRepeat b (candidate_value r) → IfSome origin (IsUnknown b)
   known_of b none = subst (λ (o : Option Origin). IfSome o (IsUnknown b)) (sym is.origin_is) (none asked_by refl)

@@ -1,13 +1,13 @@
 -- Files that are cut off: page by page the blocks behind the place go, and the maps tell of those that stay.
 use Rattle.std.proofs.Common.{◌≡◌, ◌≢◌, ◌+◌, ◌-◌, ◌*◌, ◌/◌, ◌%◌, ◌<◌, ◌≤◌, ◌==◌, ◌&&◌, ◌||◌, ◌⊎◌, ℕ, true, false}
 use Rattle.std.proofs.Common.{Bool, max, min, not, nat_lt}
-use Rattle.std.proofs.Common.{List, [], Option, Some, None, IsSome, inl, inr, refl, sym, ◌∙◌, ap, subst}
+use Rattle.std.proofs.Common.{List, [], ◌∷◌, ◌++◌, Option, Some, None, IsSome, inl, inr, refl, sym, ◌∙◌, ap, subst}
 use Rattle.std.proofs.Common.{arith}
 use Rattle.std.proofs.Common.{cond, length, take, option_map, slice_index_or}
 use Rattle.std.proofs.lemmas.Bool.{and_parts, cases_lt, le-ltb, lt-ltb, ltb-false, ltb-true}
-use Rattle.std.proofs.Common.{Result, Ok, Err}
+use Rattle.std.proofs.Common.{Result, Ok, Err, get_or, length-append}
 use Rattle.std.specs.Prelude.{MatchResult, OnOk}
-use Rattle.std.proofs.lemmas.List.{length-take, take_all}
+use Rattle.std.proofs.lemmas.List.{get_or_append_left, get_or_push, length-take, take_all}
 use Rattle.nfs_objects.specs.Attempt.{StopsCall}
 use Rattle.nfs_objects.specs.declared.change.Missing.{Missing}
 use Rattle.std.specs.Cmp.{unsigned_Decides}
@@ -43,12 +43,15 @@ use Rattle.nfs_inodes.specs.Blocks.{HasPages}
 use Rattle.nfs_inodes.specs.Cuts.{CutsBlock, CutsBlocks, CutsNext, CutsPage, IsBehind, IsCleared, IsCutAt}
 use Rattle.nfs_inodes.specs.Cuts.{IsCutTo}
 use Rattle.nfs_inodes.specs.Cuts.{IsResized}
-use Rattle.nfs_inodes.specs.Cuts.{IsPageIn, IsTold, IsToldIn, KnowsTold, ShowsMap, ShowsMaps, cut_to}
+use Rattle.nfs_inodes.specs.Cuts.{IsPageIn, IsTold, IsToldIn, KnowsMaps, KnowsTold, ShowsMap, ShowsMaps, cut_to}
 use Rattle.nfs_inodes.specs.Cuts.{told_at}
 use Rattle.nfs_inodes.specs.Stops.{StillStands, StopsAt}
 
 -- ---- which map pages may be asked for
 module _ (file : ℕ) (pages : Bits) (first : ℕ) where
+  pub no-pages : (end : ℕ) → end ≤ first → (a : Addr) → IsPageIn file pages first end a → ⊥
+  no-pages end none a is = absurd (omega (arith, none, is.behind, is.before))
+
   pub pages-apart : (end : ℕ) (b : Addr) → IsPageIn file pages first end b → is_addr b (addresses.Map file end) ≡ false
   pages-apart end b is =
       subst (λ c. is_addr c (addresses.Map file end) ≡ false) is.is
@@ -181,6 +184,11 @@ page-there d file pages first end shows still a is unknown =
     inr (was-there d a still unknown (λ s k fits stands. subst (λ b. IsSome ((with_writes s d.writes).at b)) is.is
     (page-stands d file pages is.page shows is.there s k fits stands)))
 
+pub pages-known : (d : DraftValue) (file : ℕ) (pages : Bits) (first end : ℕ) →
+    ((a : Addr) → IsPageIn file pages first end a → IsSome (known_at d a)) → KnowsMaps d file pages first end
+pages-known d file pages first end known page behind before there =
+    known (addresses.Map file page) (record { page = page; behind = behind; before = before; there = there; is = refl })
+
 -- ---- which blocks may be
 module _ (file page : ℕ) (bits : Bits) (from : ℕ) where
   pub none-told : (a : Addr) → IsTold file page bits from 0 a → ⊥
@@ -285,6 +293,9 @@ module _ (d : DraftValue) (file page : ℕ) (bits : Bits) (from : ℕ) (old mid 
 
 -- ---- of all pages
 module _ (file first : ℕ) (maps : List Bits) (from : ℕ) where
+  pub none-told-in : (end : ℕ) → end ≤ first → (a : Addr) → IsToldIn file first maps from end a → ⊥
+  none-told-in end none a is = absurd (omega (arith, none, is.behind, is.before))
+
   pub in-apart : (end : ℕ) (b c : Addr) → IsToldIn file first maps from end b →
       IsTold file end (told_at maps first end) from 512 c → is_addr b c ≡ false
   in-apart end b c is other =
@@ -417,6 +428,13 @@ module _ (old : DraftValue) (n page : ℕ) (bits : Bits) (size : ℕ) where
   abbrev from : ℕ
   from = size / block_size
 
+  pub cuts-none : CutsBlocks old old n page bits size 0
+  cuts-none = record {
+    lays = lays-none n old;
+    leaves = leaves-none old (λ a. IsTold n page bits from 0 a → ⊥);
+    cut = λ s place bytes fits below. absurd (omega (arith, below));
+  }
+
   module _ (mid : DraftValue) (places : ℕ) (so : CutsBlocks old mid n page bits size places) where
     -- a place with none, or one before the end
     pub cuts-skip : (has bits places ≡ false) ⊎ (page * 512 + places < from) →
@@ -506,6 +524,14 @@ module _ (old : DraftValue) (n page : ℕ) (bits : Bits) (size : ℕ) where
           so.leaves (λ a none told. none (told-within n page bits from places within a told));
       cut = λ s place bytes fits below told. so.cut s place bytes fits (ends place told) told;
     }
+
+    -- what is known of the block at the next place is as before
+    pub cuts-known : known_at mid (addresses.Block n (page * 512 + places)) ≡
+        known_at old (addresses.Block n (page * 512 + places))
+    cuts-known = so.leaves.known (addresses.Block n (page * 512 + places)) (λ x.
+        (let t = told-apart n page bits from places (addresses.Block n (page * 512 + places)) x in
+        let own = is_addr-refl (addresses.Block n (page * 512 + places)) in
+        let no : true ≡ false = sym own ∙ t in cc))
 
 -- ---- a page
 -- the blocks of a page that have something left are those before the end
@@ -640,6 +666,12 @@ module _ (old : DraftValue) (n : ℕ) (pages : Bits) (size : ℕ) (shows : HasPa
     pub block-same : (s : Store) (i : ℕ) → page * 512 ≤ i → at-mid s (addresses.Block n i) ≡ at-old s
         (addresses.Block n i)
     block-same s i behind = so.leaves.stands s (addresses.Block n i) (block-behind i behind)
+
+    pub map-known : known_at mid (addresses.Map n page) ≡ known_at old (addresses.Map n page)
+    map-known = so.leaves.known (addresses.Map n page) (map-behind page (omega arith))
+
+    pub block-known : (i : ℕ) → page * 512 ≤ i → known_at mid (addresses.Block n i) ≡ known_at old (addresses.Block n i)
+    block-known i behind = so.leaves.known (addresses.Block n i) (block-behind i behind)
 
     behind-less : (a : Addr) → IsBehind n (page + 1) a → IsBehind n page a
     behind-less a is = record {
@@ -998,6 +1030,42 @@ larger d n before size pages within shows = record {
 -- ---- how pages are read
 abbrev pub blank : Bits
 blank = record { words = [] }
+
+-- one map more
+pub maps-none : (d : DraftValue) (n first : ℕ) (maps : List Bits) → maps ≡ [] → ShowsMaps d n first first maps
+maps-none d n first maps none = record {
+  counted = ap length none ∙ omega arith;
+  each = λ page behind before. absurd (omega (arith, behind, before));
+}
+
+pub maps-next : (d : DraftValue) (n first page : ℕ) (maps new : List Bits) (bits : Bits) → first ≤ page →
+    ShowsMaps d n first page maps → ShowsMap d n page bits → new ≡ maps ++ bits ∷ [] → ShowsMaps d n first (page + 1)
+    new
+maps-next d n first page maps new bits within so here is = record {
+  counted = ap length is ∙ length-append maps (bits ∷ []) ∙ (let c = so.counted in omega (arith, c, within));
+  each = λ p behind before. elim (p == page) as (λ b. (p == page) ≡ b → ShowsMap d n p (told_at new first p)) [
+    | true ↦ λ same.
+        let e = (unsigned_Decides p page).0 same in
+        let at : length maps ≡ p - first = (let c = so.counted in omega (arith, c, e)) in
+        subst (λ q. ShowsMap d n q (told_at new first p)) (sym e)
+        (subst (ShowsMap d n page) (sym (ap (λ l. get_or l (p - first) blank) is
+        ∙ get_or_push maps bits blank (p - first) at)) here)
+    | false ↦ λ other.
+        let apart = differs p page other in
+        let c = so.counted in
+        subst (ShowsMap d n p) (sym (ap (λ l. get_or l (p - first) blank) is
+        ∙ get_or_append_left maps (bits ∷ []) blank (p - first) (omega (arith, c, before, apart, behind))))
+        (so.each p behind (omega (arith, before, apart)))
+  ] refl;
+}
+
+pub maps-end : (d : DraftValue) (n first page end : ℕ) (maps : List Bits) → first ≤ page → end ≤ page → page ≤ max
+    first end →
+    ShowsMaps d n first page maps → ShowsMaps d n first end maps
+maps-end d n first page end maps within past most so = record {
+  counted = so.counted ∙ omega (arith, within, past, most);
+  each = λ p behind before. so.each p behind (omega (arith, before, past));
+}
 
 -- all that is asked for of blocks
 pub in-end : (d : DraftValue) (file first : ℕ) (maps : List Bits) (from page end : ℕ) (asked : List (Addr × Mode)) →

@@ -227,6 +227,12 @@ pub known-told : (d : DraftValue) (n page : ℕ) (r : Result Bits Missing) → I
 known-told d n page (Ok bits) some is = λ s k fits stands. known-map d s n page bits fits is
 known-told d n page (Err halt) some lacks = absurd (never-lacking d (addresses.Map n page) halt some lacks)
 
+-- a page that is not there tells of no block
+pub absent-told : (d : DraftValue) (n page : ℕ) (pages bits : Bits) → HasPages d n pages → has pages page ≡ false →
+    bits ≡ no_bits → ShowsMap d n page bits
+absent-told d n page pages bits shows none is s k fits stands =
+    ap map_of (no-map (with_writes s d.writes) n pages (has-blocks d n pages shows s k fits stands) page none) ∙ sym is
+
 -- the bytes of a file are what its blocks tell
 pub content-there : (d : DraftValue) (n : ℕ) (map : FileMapValue) → HasMap d n map → (s : Store) (k : StoreMeaning) →
     Fits d.view s → Represents (with_writes s d.writes) k →

@@ -29,6 +29,26 @@ none-of-more : {X : Type 0} (xs : List X) (x : X) → xs ++ x ∷ [] ≡ [] → 
 none-of-more [] x e = cc
 none-of-more (y ∷ xs) x e = cc
 
+-- an address that the draft knows, and one that it does not
+pub wish-known : (d : DraftValue) (a : Addr) (asked : List (Addr × Mode)) → IsSome (known_at d a) → asked ≡ with_wish
+    d a asked
+wish-known d a asked some = by (known_at d a) some
+  where
+    by : (o : Option (Option Object)) → IsSome o → asked ≡ elim o [
+      | Some object ↦ asked
+      | None ↦ asked ++ (a, held_mode d.modes d.view a) ∷ []
+    ]
+    by None e = cc
+    by (Some object) e = refl
+
+pub wish-unknown : (d : DraftValue) (a : Addr) (asked : List (Addr × Mode)) (wish : Addr × Mode) → known_at d a ≡ None →
+    wish ≡ (a, held_mode d.modes d.view a) → asked ++ wish ∷ [] ≡ with_wish d a asked
+wish-unknown d a asked wish none is =
+    ap (λ w. asked ++ w ∷ []) is ∙ ap (λ (o : Option (Option Object)). elim o [
+      | Some object ↦ asked
+      | None ↦ asked ++ (a, held_mode d.modes d.view a) ∷ []
+    ]) (sym none)
+
 -- two lists of which no address is in both
 once-joined : (xs ys : List (Addr × Mode)) → EachOnce xs → EachOnce ys →
     AllByRecursion (λ (x : Addr × Mode). AllByRecursion (λ (y : Addr × Mode). is_addr x.0 y.0 ≡ false) ys) xs →

@@ -25,6 +25,7 @@ use Rattle.nfs_objects.proofs.FileStoreLemmas.{HasContent, HasListing, alone-is,
 use Rattle.nfs_objects.proofs.FileStoreLemmas.{files-stay}
 use Rattle.nfs_objects.proofs.FileStoreLemmas.{living-own, living_beside, living_bytes, living_entries, stands-but}
 use Rattle.nfs_objects.proofs.LocksStandLemmas.{KeepsFile, files-same, keeps-put, keeps-same, locks-gone, locks-stay}
+use Rattle.nfs_objects.proofs.LocksStandLemmas.{none-listed}
 use Rattle.nfs_objects.specs.Bits.{has, no_bits}
 use Rattle.nfs_objects.specs.Directories.{no_entries}
 use Rattle.nfs_objects.specs.FileMaps.{FileMapValue, IsContent}
@@ -39,7 +40,7 @@ use Rattle.nfs_objects.specs.Knows.{ShowsExport, Turns, TurnsWhere}
 use Rattle.nfs_objects.specs.Stands.{IsFitting, StoreMeaning, Represents, counts, inode_in, inode_there, links_kept}
 use Rattle.nfs_objects.specs.Stands.{lives_in}
 use Rattle.nfs_objects.specs.Stands.{HasBlocks, IsMapped, IsStored, StandFiles, bytes_at, file_bytes, content_of}
-use Rattle.nfs_objects.specs.Stands.{living_in}
+use Rattle.nfs_objects.specs.Stands.{file_of, living_in}
 use Rattle.nfs_objects.specs.Stands.{map_in, map_of, living_alone, pages_of, stored_in}
 use Rattle.nfs_objects.specs.Stands.{StandLocks, StandObjects, StandTables, bucket_there, export_table_of, exports_of}
 use Rattle.nfs_objects.specs.Stands.{living_of_inode}
@@ -770,3 +771,47 @@ module _ (d : DraftValue) (n : ℕ) where
       (λ (x : StoreMeaning). Represents (with_write (with_writes s d.writes) (addresses.Inode n)
       (Some (objects.Inode j)))
       x) (sym same) put)
+
+  -- what is no file and no directory goes
+  pub free-turns : (i : Option Object) → known_at d (addresses.Inode n) ≡ Some i → file_of i ≡ None →
+      entry_map_of i ≡ None → Turns d (next None) (λ k. freed k n)
+  free-turns i known other unlisted = turns-next None (λ k. freed k n) (λ s k fits stands.
+      let at : (with_writes s d.writes).at (addresses.Inode n) ≡ i = known-stands d s (addresses.Inode n) i fits
+      known in
+      free-stands (with_writes s d.writes) k n (stands-but n (with_writes s d.writes) k stands) (record {
+        maps = λ page. subst (λ b. IsMapped (has b page) ((with_writes s d.writes).at (addresses.Map n page)))
+            (ap pages_of at ∙ no-pages i other) ((stands.files.blocks n).maps page);
+        blocks = (stands.files.blocks n).blocks;
+      }) (emptied (with_writes s d.writes) k (ap entry_map_of at ∙ unlisted) (stands.directories n))
+      (none-listed (with_writes s d.writes) k.state n i stands.locks at other))
+    where
+      emptied : (t : Store) (k : StoreMeaning) → entry_map_of (t.at (addresses.Inode n)) ≡ None → StandEntries t k n →
+          HoldsEntries t n None []
+      emptied t k none stand =
+          let holds : HoldsEntries t n None stand.entries =
+          subst (λ m. HoldsEntries t n m stand.entries) none stand.holds in
+          holds
+
+      no-pages : (o : Option Object) → file_of o ≡ None → pages_of o ≡ no_bits
+      no-pages o is = ap (λ f. elim f [ None ↦ no_bits | Some map ↦ map.pages ]) is
+
+  -- a new inode, once the draft was changed so; the exports stayed, and its own lived before
+  pub new-turns : (old : DraftValue) (f : StoreMeaning → StoreMeaning) → Turns old d f → ((k : StoreMeaning) →
+      (f k).state.exports ≡ k.state.exports) → (i : Inode) → known_at d (addresses.Inode n) ≡ Some None
+      → pages_of (Some (objects.Inode i)) ≡ no_bits → IfSome (entry_map_in i.content) (λ m. m ≡ no_entries m.key)
+      → IsFitting n i → ShowsExport old i.export
+      → Turns old (next (Some (objects.Inode i)))
+      (λ k. with_new (f k) n (living_alone i) i.links (parent_in i.content))
+  new-turns old f turns stay i vacant none bare fitting live = record {
+    ctx = turns.ctx;
+    view = turns.view;
+    modes = turns.modes;
+    messages = turns.messages;
+    turns = λ s k fits stands.
+        subst (λ (x : Store). Represents x (with_new (f k) n (living_alone i) i.links (parent_in i.content)))
+        (sym (writes-append d.writes s (addresses.Inode n) (Some (objects.Inode i))))
+        (new-stands (with_writes s d.writes) (f k) n i (turns.turns s k fits stands)
+        (known-stands d s (addresses.Inode n) None (subst (λ v. Fits v s) (sym turns.view) fits) vacant) none bare
+        fitting
+        (ap (λ es. lives_in es i.export) (stay k) ∙ live s k fits stands));
+  }

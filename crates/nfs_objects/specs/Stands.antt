@@ -63,6 +63,10 @@ pub record Beside : Type 0 where
   pub bytes : List ℕ
   pub entries : List machine.Entry
 
+-- nothing does
+abbrev pub nothing_beside : Beside
+nothing_beside = record { bytes = []; entries = [] }
+
 -- the content, where a file has these bytes and a directory these entries
 abbrev pub filled : Beside → machine.Content → machine.Content
 filled beside (machine.Regular zeros) = machine.Regular beside.bytes
