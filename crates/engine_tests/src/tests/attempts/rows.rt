@@ -184,7 +184,8 @@ pub(super) const IN_THE_DEEPEST: &[Row<'static>] = &[
 ];
 
 /// Calls on a file. WRITE asks for the blocks, and once more for what their absence tells it to change. SETATTR goes to
-/// what its export uses and to all map pages that are cut off, and then to all blocks.
+/// what its export uses and to all map pages that are cut off, of a large file to the last one alone, and then to their
+/// blocks.
 pub(super) const ON_A_FILE: &[Row<'static>] = &[
     (READ, &[Word::Made, Word::Zeros(2), Word::Is(4096)], 1),
     (READ, &[Word::Made, Word::Zeros(2), Word::Is(65_536)], 1),
