@@ -1,4 +1,4 @@
-use Rattle.std.proofs.Common.{◌-◌, ◌+◌, ◌<◌, ◌/◌, length, sym, subst, arith}
+use Rattle.std.proofs.Common.{◌≡◌, ◌-◌, ◌<◌, ◌/◌, ◌∙◌, length, slice_index_or, ap, sym, subst, arith}
 use Rattle.std.proofs.lemmas.List.{get_or_read}
 use Rattle.nfs_inodes.proofs.CutFileLemmas.{blank}
 use Rattle.nfs_inodes.proofs.OnePageLemmas.{cut-absent, cut-result}
@@ -34,8 +34,10 @@ cut_next-requires-clause-told c =
     let page = c.args.page in
     let maps = c.in_ok-maps.maps.items in
     let counted = c.in_ok-maps.ensures.shows.counted in
-    let within : page - page < length maps = omega (arith, counted) in
-    let at = get_or_read maps (page - page) c.index.result.now within c.index.ensures blank in
+    let within : 0 < length maps = omega (arith, counted) in
+    let first : 0 ≡ page - page = omega arith in
+    let at = get_or_read maps 0 c.index.result.now within c.index.ensures blank
+    ∙ ap (λ p. slice_index_or maps p blank) first in
     subst (λ bits. KnowsTold c.args.draft.now c.args.number page bits (c.args.size / 4096)) (sym at)
     (subst (λ l. KnowsTold c.args.draft.now c.args.number page (told_at l page page) (c.args.size / 4096))
     c.deref.ensures.value (c.in_ok-ask_blocks.ensures page (omega arith) (omega arith)))
@@ -45,8 +47,10 @@ returns c =
     let page = c.args.page in
     let maps = c.in_ok-maps.maps.items in
     let counted = c.in_ok-maps.ensures.shows.counted in
-    let within : page - page < length maps = omega (arith, counted) in
-    let at = get_or_read maps (page - page) c.index.result.now within c.index.ensures blank in
+    let within : 0 < length maps = omega (arith, counted) in
+    let first : 0 ≡ page - page = omega arith in
+    let at = get_or_read maps 0 c.index.result.now within c.index.ensures blank
+    ∙ ap (λ p. slice_index_or maps p blank) first in
     cut-result c.args.draft.now c.cut_next.new.draft c.args.number page c.args.size c.args.pages c.without.result
     c.index.result.now c.cut_next.result c.requires.pages (sym c.if-not-has.ensures) c.without.ensures
     (subst (ShowsMap c.args.draft.now c.args.number page) (sym at)
