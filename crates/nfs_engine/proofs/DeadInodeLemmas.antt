@@ -1,8 +1,11 @@
 -- Which inode is dead, and what may go of it; and what of the remains of another.
 use Rattle.std.proofs.Common.{◌≡◌, ◌==◌, ◌&&◌, ◌||◌, ◌-◌, ◌%◌, ◌<◌, ◌≤◌, ℕ, Bool, true, false, not, cond, List, [], ◌∷◌}
 use Rattle.std.proofs.Common.{nat_lt, Option, Some, None, find, inl, inr, is_some, refl, sym, ◌∙◌, ap, subst, arith}
-use Rattle.std.proofs.lemmas.Bool.{le-ltb, lt-ltb}
+use Rattle.std.proofs.Common.{Result, Ok, Err, slice_index_or, ◌/◌}
+use Rattle.std.proofs.lemmas.Bool.{and_parts, le-ltb, lt-ltb, ltb-true}
+use Rattle.std.specs.Prelude.{IfOk, IfSome}
 use Rattle.std.specs.Cmp.{unsigned_Decides}
+use Rattle.std.specs.Int.{bit_at}
 use Rattle.std.specs.List.{list_any}
 use Rattle.nfs_machine.specs.Exports.{LivingExport}
 use Rattle.nfs_objects.specs.Bits.{IsEnd, has, no_bits, same_bits}
@@ -98,7 +101,7 @@ module _ (s : Store) (n : ℕ) (i : Inode) (there : inode_of (s.at (addresses.In
   abbrev listed : List LivingExport → Bool
   listed es = list_any (λ (e : LivingExport). e.number == i.export) es
 
-  lives-listed : (es : List LivingExport) (r : Bool) → es ≡ exports_of (s.at addresses.Exports) → r ≡ listed es →
+  pub lives-listed : (es : List LivingExport) (r : Bool) → es ≡ exports_of (s.at addresses.Exports) → r ≡ listed es →
       lives_in (exports_of (s.at addresses.Exports)) i.export ≡ r
   lives-listed es r same is =
       found-any (λ (e : LivingExport). e.number == i.export) (exports_of (s.at addresses.Exports))
@@ -129,6 +132,13 @@ module _ (s : Store) (n : ℕ) (i : Inode) (there : inode_of (s.at (addresses.In
   }
 
 -- ---- remains
+-- a page of two sets is below 512
+pub page-small : (pages remains : Bits) (page : ℕ) → (has pages page && has remains page) ≡ true → page < 512
+page-small pages remains page there =
+    ltb-true page 512
+    (and_parts (nat_lt page 512) (bit_at (slice_index_or pages.words (page / 64) 0) (page % 64) == 1)
+    (and_parts (has pages page) (has remains page) there).0).0
+
 -- what may go of a living file
 pub may-remains : (s : Store) (n page : ℕ) (i : Inode) (map : FileMapValue) (pages : Bits) (left : Option Object) →
     inode_of (s.at (addresses.Inode n)) ≡ Some i → lives_in (exports_of (s.at addresses.Exports)) i.export ≡ true →
@@ -186,6 +196,13 @@ module _ (s : Store) (n : ℕ) (i : Inode) (there : inode_of (s.at (addresses.In
       let same : may.map ≡ map = cc in
       let no : true ≡ false = sym may.there
       ∙ ap (λ (m : FileMapValue). has m.pages w.page && has m.remains w.page) same ∙ none w.page in cc)
+
+-- what is so of each that is given
+pub some-wider : {X E : Type 0} (P Q : X → Type 0) → ((x : X) → P x → Q x) → (r : Result (Option X) E) →
+    IfOk r (λ o. IfSome o P) → IfOk r (λ o. IfSome o Q)
+some-wider P Q wider (Ok (Some x)) given = wider x given
+some-wider P Q wider (Ok None) given = given
+some-wider P Q wider (Err e) given = given
 
 -- which may go, one or the other
 pub either-none : (s : Store) (n : ℕ) → ((w : SweepValue) → w.file ≡ n → IsDeadPage s w → ⊥) →
