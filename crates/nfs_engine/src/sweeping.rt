@@ -307,7 +307,8 @@ fn inode_left(
         changed: inode.changed,
         verifier: inode.verifier,
     };
-    Ok(Arc::new(alloc, Object::Inode(inode))?)
+    let object = Arc::new(alloc, Object::Inode(inode))?;
+    Ok(object)
 }
 
 impl Objects {

@@ -1,7 +1,4 @@
-use Rattle.std.proofs.Common.{ap, subst, sym, ◌≡◌, ◌∙◌}
-use Rattle.std.specs.Prelude.{option_copied}
-use Rattle.nfs_objects.specs.Stands.{inode_of}
-use Rattle.nfs_objects.specs.declared.address.Addr.TheVariants as addresses
+use Rattle.std.proofs.Common.{sym, ◌∙◌}
 use Rattle.nfs_engine.proofs.DeadInodeLemmas.{lives-listed, may-remains, remains-dead, remains-none, remains-other}
 use Rattle.nfs_engine.proofs.DeadInodeLemmas.{page-small, remains-over}
 use Rattle.nfs_engine.specs.Book.{store_in}
@@ -29,6 +26,11 @@ returns-in_default-last_remains-clause-none c = λ none.
 
 pub without-requires : goal.without-requires
 without-requires c =
+    page-small c.in-Regular.map.now.pages c.in-Regular.map.now.remains c.in-Some-last_remains.page
+    c.in-Some-last_remains.ensures
+
+pub invariant_of-result : goal.invariant_of-result
+invariant_of-result c =
     page-small c.in-Regular.map.now.pages c.in-Regular.map.now.remains c.in-Some-last_remains.page
     c.in-Some-last_remains.ensures
 

@@ -1,8 +1,17 @@
-use Rattle.std.proofs.Common.{Ok, ap, inr, sym, ◌∙◌}
+use Rattle.std.proofs.Common.{◌≡◌, Ok, inl, inr, subst}
+use Rattle.std.specs.Prelude.{IfSome}
 use Rattle.nfs_engine.proofs.DeadInodeLemmas.{either-none, some-wider}
 use Rattle.nfs_engine.specs.Book.{store_in}
-use Rattle.nfs_engine.specs.Sweeps.{IsRemainsPage, MaySweep}
+use Rattle.nfs_engine.specs.Sweeps.{IsDeadPage, IsRemainsPage, MaySweep, SweepValue}
 use Rattle.nfs_engine.proofs.book.Book.sweep_of.Goals as goal
+
+pub returns-in-Some-clause-may : goal.returns-in-Some-clause-may
+returns-in-Some-clause-may c =
+    inl (subst (λ o. IfSome o (IsDeadPage (store_in c.args.self.now))) c.in-Some.is c.in_ok-dead_sweep.ensures.may)
+
+pub returns-in-Some-clause-file : goal.returns-in-Some-clause-file
+returns-in-Some-clause-file c =
+    subst (λ o. IfSome o (λ (w : SweepValue). w.file ≡ c.args.number)) c.in-Some.is c.in_ok-dead_sweep.ensures.file
 
 pub returns-in-None-clause-may : goal.returns-in-None-clause-may
 returns-in-None-clause-may c =
@@ -11,5 +20,5 @@ returns-in-None-clause-may c =
 
 pub returns-in-None-clause-none : goal.returns-in-None-clause-none
 returns-in-None-clause-none c = λ none.
-    either-none (store_in c.args.self.now) c.args.number (c.in_ok-dead_sweep.ensures.none (ap Ok c.in-None.is))
+    either-none (store_in c.args.self.now) c.args.number (c.in_ok-dead_sweep.ensures.none (λ p. Ok (c.in-None.is p)))
     (c.remains_sweep.ensures.none none)
