@@ -2,8 +2,8 @@
 //! plan, as far as the view tells.
 //!
 //! Behind what its handle names, where its checks pass, READ goes to the blocks of its range, and WRITE to these and to
-//! what it changes with them: all that the attempt asks for there. SETATTR goes to what its file is counted in and to
-//! the map pages that are cut off, and then to the blocks that these tell of.
+//! what it changes with them, and then to the map pages of those that are absent. SETATTR goes to what its file is
+//! counted in and to the map pages that are cut off, and then to the blocks that these tell of.
 
 ghost use Rattle.std.specs.Prelude.{IfErr, IfSome};
 ghost use Rattle.nfs_machine.specs.declared.calls.Call.TheVariants as calls;
@@ -17,7 +17,7 @@ use crate::{read, setattr, write};
 use nfs_inodes::wishes::{NextWant, Want};
 use nfs_machine::{Call, Ctx};
 use nfs_objects::{Draft, Missing, Modes, View};
-use nfs_wire::NfsCall;
+use nfs_wire::{NfsCall, WriteArguments};
 use std::alloc::Global;
 
 /// How far a call is in its plan: what it wants next, if it lacks that.
@@ -27,6 +27,8 @@ pub enum Plan {
     Maps,
     /// What its data is in.
     Data,
+    /// The map pages of blocks that it adds.
+    Holes,
     /// Nothing.
     Over,
 }
@@ -36,6 +38,14 @@ pub fn behind_first(call: &NfsCall) -> Plan {
     match call {
         NfsCall::Read(_) | NfsCall::Write(_) => Plan::Data,
         NfsCall::Setattr(arguments) if arguments.attributes.size.is_some() => Plan::Maps,
+        _ => Plan::Over,
+    }
+}
+
+/// Where the plan is once a call has what its data is in.
+fn behind_data(call: &NfsCall) -> Plan {
+    match call {
+        NfsCall::Write(_) => Plan::Holes,
         _ => Plan::Over,
     }
 }
@@ -51,37 +61,49 @@ pub fn next(alloc: Global, call: &Call, ctx: &Ctx, view: &View, plan: Plan) -> N
     };
     let after = match plan {
         Plan::Maps => Plan::Data,
-        Plan::Data => Plan::Over,
+        Plan::Data => behind_data(nfs),
+        Plan::Holes => Plan::Over,
         Plan::Over => return None,
     };
     let mut draft = Draft::new(alloc, ctx, view, Modes::of(call));
-    go_on(&mut draft, nfs, after)
+    go_on(&mut draft, nfs, plan, after)
 }
 
 /// The same of its draft, which is of no use then; and where the plan is once it is taken.
-fn go_on(draft: &mut Draft<'_>, call: &NfsCall, after: Plan) -> NextWant<Plan>
+fn go_on(draft: &mut Draft<'_>, call: &NfsCall, plan: Plan, after: Plan) -> NextWant<Plan>
     requires { Begins (calls.Nfs call.now) draft.old }
     ensures { MayGoOn call.now draft.old result }
 {
-    match ask(draft, call) {
+    match ask(draft, call, plan) {
         Err(Missing::Need(asked)) => Some((Want::Addresses(asked), after)),
         _ => None,
     }
 }
 
-/// Asks for what the data of a call is in.
+/// Asks for what a call that is there in its plan wants, where its checks pass.
 ///
 /// # Errors
 ///
 /// `Need` of what it lacks, and `Memory`. The draft is of no use then.
-fn ask(draft: &mut Draft<'_>, call: &NfsCall) -> Result<(), Missing>
+fn ask(draft: &mut Draft<'_>, call: &NfsCall, plan: Plan) -> Result<(), Missing>
     requires { Begins (calls.Nfs call.now) draft.old }
     ensures { IfErr result (MayHalt call.now draft.old) }
 {
     match call {
         NfsCall::Setattr(arguments) => setattr::ask(draft, arguments),
         NfsCall::Read(arguments) => read::ask(draft, arguments),
-        NfsCall::Write(arguments) => write::ask(draft, arguments),
+        NfsCall::Write(arguments) => ask_write(draft, arguments, plan),
         _ => Ok(()),
+    }
+}
+
+/// The same of WRITE.
+fn ask_write(draft: &mut Draft<'_>, arguments: &WriteArguments, plan: Plan) -> Result<(), Missing>
+    requires { Begins (calls.Nfs (NfsCall.Write arguments.now)) draft.old }
+    ensures { IfErr result (MayHalt (NfsCall.Write arguments.now) draft.old) }
+{
+    match plan {
+        Plan::Holes => write::ask_holes(draft, arguments),
+        _ => write::ask(draft, arguments),
     }
 }

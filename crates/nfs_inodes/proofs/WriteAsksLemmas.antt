@@ -24,7 +24,8 @@ use Rattle.nfs_inodes.proofs.ReadBlocksLemmas.{bytes-there}
 use Rattle.nfs_inodes.specs.Known.{bytes_of, content_at}
 use Rattle.nfs_inodes.proofs.WishesLemmas.{IsPaged, among-block, among-map, asking-all, asks-as, asks-more, known-all}
 use Rattle.nfs_inodes.specs.Asking.{AsksFor, IsAsking, with_wish}
-use Rattle.nfs_inodes.specs.Blocks.{IsBlockIn, IsInRange, KnowsMapped, KnowsRange, end_of, first_of, read_from}
+use Rattle.nfs_inodes.specs.Blocks.{IsBlockIn, IsInRange, IsMapIn, KnowsMapped, KnowsRange, end_of, first_of}
+use Rattle.nfs_inodes.specs.Blocks.{read_from}
 use Rattle.nfs_inodes.specs.Blocks.{written_from}
 use Rattle.nfs_inodes.specs.Counts.{KeepsInodes}
 use Rattle.nfs_inodes.specs.Known.{HasInode}
@@ -108,6 +109,15 @@ one-map d n offset count page some few behind before halt stops =
           (record { page = page; behind = behind; before = before; is = refl })),
       tt,
     ) stops
+
+-- map pages of a range alone
+pub maps-asking : (d : DraftValue) (n offset count : ℕ) → 0 < count → count ≤ 65536 → (asked : List (Addr × Mode)) →
+    AsksFor d (λ a. ⊥ ⊎ IsMapIn n (first_of offset / 512) ((end_of offset count - 1) / 512 + 1) a) (λ a. ⊥) [] asked →
+    IsAsking d (maps_at n offset) asked
+maps-asking d n offset count some few asked asks =
+    asking-all d (λ a. ⊥ ⊎ IsMapIn n (first_of offset / 512) ((end_of offset count - 1) / 512 + 1) a) (λ a. ⊥) asked
+    asks (maps_at n offset)
+    (λ a may unknown. elim may [ inl none ↦ absurd none | inr map ↦ inl (among-map n offset count some few a map) ])
 
 module _ (d : DraftValue) (n offset count export : ℕ) (some : 0 < count) (few : count ≤ 65536) (same : Bool)
     (mid asked : List (Addr × Mode))

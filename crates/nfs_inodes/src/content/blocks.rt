@@ -1,7 +1,7 @@
 //! The blocks that files are kept in: those of a range, and what is read there and written.
 
 ghost use Rattle.std.specs.Prelude.{◌≡◌, ◌+◌, ◌-◌, ◌*◌, ◌/◌, ◌<◌, ◌≤◌, ◌^◌};
-ghost use Rattle.std.specs.Prelude.{◌||◌, ◌&&◌, [], ◌∷◌, IfOk, IfSome};
+ghost use Rattle.std.specs.Prelude.{◌||◌, ◌&&◌, [], ◌∷◌, IfErr, IfOk, IfSome};
 ghost use Rattle.std.specs.Prelude.{IsSome, MatchResult, OnOk, drop, length, nat_le, nat_lt, option_copied, take, true};
 ghost use Rattle.std.specs.Prelude.{unwrap_or, ℕ};
 ghost use Rattle.nfs_machine.specs.Data.{size_limit};
@@ -229,6 +229,37 @@ fn gets_blocks(map: &FileMap, range: Range, page: u64) -> bool
 {
     let last = range.end().min((page + 1) * MAP_BLOCKS) - 1;
     !map.pages().has(page) || last * BLOCK >= map.size()
+}
+
+/// Asks at once for the map pages of a range that get other blocks where it is written, as far as the draft shows which
+/// are absent.
+///
+/// # Errors
+///
+/// `Need` of those that it lacks, and `Memory`.
+pub(crate) fn ask_hole_maps(draft: &Draft<'_>, number: u64, range: Range) -> Result<(), Missing>
+    ensures { IfErr result (StopsAt draft.now (maps_at number range.offset)) }
+{
+    let mut asking = Asking::new(draft.alloc());
+    for page in range.first_page()..range.last_page() + 1 {
+        if has_hole(draft, number, range, page) {
+            asking.add(draft, map_at(number, page))?;
+        }
+    }
+    asking.ask()
+}
+
+/// Whether the draft shows that a block of a range is absent, of those that a map page is for.
+fn has_hole(draft: &Draft<'_>, number: u64, range: Range, page: u64) -> bool
+    requires { page * 512 < 2 ^ 63 }
+{
+    let begin = page * MAP_BLOCKS;
+    for index in range.first().max(begin)..range.end().min(begin + MAP_BLOCKS) {
+        if let Ok(None) = draft.block(number, index) {
+            return true;
+        }
+    }
+    false
 }
 
 /// Writes bytes over a range of a file that has as many: its blocks, and those map pages that get other ones. Which map

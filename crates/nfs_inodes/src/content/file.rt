@@ -8,7 +8,7 @@ ghost use Rattle.nfs_machine.specs.Checks.{text_in};
 ghost use Rattle.nfs_machine.specs.Data.{read_at, resized, size_limit, transfer_limit, written};
 ghost use Rattle.nfs_machine.specs.Times.{time_of};
 ghost use Rattle.nfs_objects.specs.Bits.{no_bits};
-ghost use Rattle.nfs_objects.specs.Calls.{addresses_of, blocks_at};
+ghost use Rattle.nfs_objects.specs.Calls.{addresses_of, blocks_at, maps_at};
 ghost use Rattle.nfs_objects.specs.Knows.{Knows, Turns};
 ghost use Rattle.nfs_objects.specs.Modes.{changing};
 ghost use Rattle.nfs_objects.specs.Stands.{bytes_at, content_of, map_in};
@@ -23,7 +23,7 @@ ghost use Rattle.nfs_inodes.specs.Remains.{HasCleared};
 ghost use Rattle.nfs_inodes.specs.Stops.{StillStands, StopsAt, counted_at};
 
 use crate::content::asking::Asking;
-use crate::content::blocks::{Mapped, Range, ask_written, read_range, write_range};
+use crate::content::blocks::{Mapped, Range, ask_hole_maps, ask_written, read_range, write_range};
 use crate::content::cut::{add_cut_maps, ask_cut, cut_off, cut_to};
 use crate::content::remains::clear_range;
 use crate::content::{KeptFile, file_at, with_content};
@@ -203,6 +203,26 @@ fn write_over(
     let content = Content::Regular(FileMap::new(size, pages)?.with_remains(remains));
     let new = with_content(&inode, now(draft.ctx()), content);
     Ok(draft.put(number, new)?)
+}
+
+/// Asks for the map pages that get other blocks where so many bytes, at least one, are written at an offset of a file,
+/// as far as the draft shows which blocks are absent.
+///
+/// # Errors
+///
+/// `Need` of those that it lacks, and `Memory`.
+pub fn ask_holes(
+    draft: &Draft<'_>,
+    file: &KnownFile,
+    offset: u64,
+    count: usize,
+) -> Result<(), Missing>
+    requires some { 0 < count }
+    requires few { count ≤ transfer_limit }
+    requires room { offset + count ≤ size_limit }
+    ensures { IfErr result (StopsAt draft.now (maps_at file.now.known.number offset)) }
+{
+    ask_hole_maps(draft, file.known.number, Range { offset, count })
 }
 
 /// Cuts a file off, or fills it up with zeros, to this size in bytes.

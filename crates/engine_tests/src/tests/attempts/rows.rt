@@ -188,9 +188,9 @@ pub(super) const INTO_ANOTHER: &[Row<'static>] = &[(
     11 + 1 + 16,
 )];
 
-/// Calls on a file. WRITE asks for the blocks, and once more for what their absence tells it to change. SETATTR goes to
-/// what its export uses and to all map pages that are cut off, of a large file to the last one alone, and then to their
-/// blocks. What has more than one map page goes without them.
+/// Calls on a file. WRITE goes to the blocks, and then to the map pages, at most two, of those that are absent. SETATTR
+/// goes to what its export uses and to all map pages that are cut off, of a large file to the last one alone, and then to
+/// their blocks. What has more than one map page goes without them.
 pub(super) const ON_A_FILE: &[Row<'static>] = &[
     (READ, &[Word::Made, Word::Zeros(2), Word::Is(4096)], 1, 3),
     (READ, &[Word::Made, Word::Zeros(2), Word::Is(65_536)], 1, 18),
@@ -203,7 +203,7 @@ pub(super) const ON_A_FILE: &[Row<'static>] = &[
             Word::Is(2),
             Word::Blocks(1),
         ],
-        2,
+        1,
         5,
     ),
     (
@@ -215,8 +215,21 @@ pub(super) const ON_A_FILE: &[Row<'static>] = &[
             Word::Is(2),
             Word::Blocks(16),
         ],
-        2,
+        1,
         20,
+    ),
+    (
+        WRITE,
+        &[
+            Word::Made,
+            Word::Zeros(1),
+            Word::Is(0x001f_8000),
+            Word::Is(65_536),
+            Word::Is(2),
+            Word::Blocks(16),
+        ],
+        1,
+        21,
     ),
     (
         SETATTR,
