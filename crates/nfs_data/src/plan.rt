@@ -1,9 +1,10 @@
-//! What READ, WRITE and a SETATTR of a size read ahead of their attempts (RFC 1813, 3.3.2, 3.3.6 and 3.3.7): their
-//! plan, as far as the view tells.
+//! What READ, WRITE, FSSTAT and a SETATTR of a size read ahead of their attempts (RFC 1813, 3.3.2, 3.3.6, 3.3.7 and
+//! 3.3.18): their plan, as far as the view tells.
 //!
 //! Behind what its handle names, where its checks pass, READ goes to the blocks of its range, and WRITE to these and to
 //! what it changes with them, and then to the map pages of those that are absent. SETATTR goes to what its file is
-//! counted in and to the map pages that are cut off, and then to the blocks that these tell of.
+//! counted in and to the map pages that are cut off, and then to the blocks that these tell of. FSSTAT goes to what all
+//! groups of its export use.
 
 ghost use Rattle.std.specs.Prelude.{IfErr, IfSome};
 ghost use Rattle.nfs_machine.specs.declared.calls.Call.TheVariants as calls;
@@ -13,7 +14,7 @@ ghost use Rattle.nfs_objects.specs.Modes.{Suits, modes_of};
 ghost use Rattle.nfs_inodes.specs.Wants.{IsWanted};
 ghost use Rattle.nfs_data.specs.Plans.{MayGoOn, MayHalt};
 
-use crate::{read, setattr, write};
+use crate::{fsstat, read, setattr, write};
 use nfs_inodes::wishes::{NextWant, Want};
 use nfs_machine::{Call, Ctx};
 use nfs_objects::{Draft, Missing, Modes, View};
@@ -36,7 +37,7 @@ pub enum Plan {
 /// The plan of a call that takes what its handle names.
 pub fn behind_first(call: &NfsCall) -> Plan {
     match call {
-        NfsCall::Read(_) | NfsCall::Write(_) => Plan::Data,
+        NfsCall::Read(_) | NfsCall::Write(_) | NfsCall::Fsstat(_) => Plan::Data,
         NfsCall::Setattr(arguments) if arguments.attributes.size.is_some() => Plan::Maps,
         _ => Plan::Over,
     }
@@ -93,6 +94,7 @@ fn ask(draft: &mut Draft<'_>, call: &NfsCall, plan: Plan) -> Result<(), Missing>
         NfsCall::Setattr(arguments) => setattr::ask(draft, arguments),
         NfsCall::Read(arguments) => read::ask(draft, arguments),
         NfsCall::Write(arguments) => ask_write(draft, arguments, plan),
+        NfsCall::Fsstat(object) => fsstat::ask(draft, object),
         _ => Ok(()),
     }
 }

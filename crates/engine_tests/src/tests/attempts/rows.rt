@@ -135,7 +135,7 @@ pub(super) const ON_THE_ROOT: &[Row<'static>] = &[
         2,
         2 + 7 + 417,
     ),
-    (FSSTAT, &[Word::Root], 2, 66),
+    (FSSTAT, &[Word::Root], 1, 66),
     (FSINFO, &[Word::Root], 1, 2),
     (PATHCONF, &[Word::Root], 1, 2),
 ];
