@@ -132,7 +132,7 @@ pub(super) const ON_THE_ROOT: &[Row<'static>] = &[
             Word::Is(65_536),
             Word::Is(65_536),
         ],
-        2,
+        1,
         2 + 7 + 417,
     ),
     (FSSTAT, &[Word::Root], 1, 66),
