@@ -189,8 +189,8 @@ pub(super) const INTO_ANOTHER: &[Row<'static>] = &[(
 )];
 
 /// Calls on a file. WRITE goes to the blocks, and then to the map pages, at most two, of those that are absent. SETATTR
-/// goes to what its export uses and to all map pages that are cut off, of a large file to the last one alone, and then to
-/// their blocks. What has more than one map page goes without them.
+/// goes to what its export uses and to the map page in which the file ends then, and then to the blocks behind that end.
+/// What has more than one map page goes without them.
 pub(super) const ON_A_FILE: &[Row<'static>] = &[
     (READ, &[Word::Made, Word::Zeros(2), Word::Is(4096)], 1, 3),
     (READ, &[Word::Made, Word::Zeros(2), Word::Is(65_536)], 1, 18),
@@ -235,7 +235,7 @@ pub(super) const ON_A_FILE: &[Row<'static>] = &[
         SETATTR,
         &[Word::Made, Word::Zeros(3), Word::Is(1), Word::Zeros(5)],
         1,
-        3 + 16 + 16,
+        3 + 1 + 16,
     ),
     (
         SETATTR,
@@ -248,7 +248,7 @@ pub(super) const ON_A_FILE: &[Row<'static>] = &[
             Word::Zeros(3),
         ],
         1,
-        3 + 16 + 15,
+        3 + 1 + 15,
     ),
     (COMMIT, &[Word::Made, Word::Zeros(3)], 1, 2),
     (LINK, &[Word::Made, Word::Root, Word::Absent], 1, 5),

@@ -1,5 +1,6 @@
 //! What stands once a file is written or cut off: its blocks in which bytes lie, and the map pages that tell of them,
-//! 512 blocks each. No block stands behind what was written, in a gap before it, or behind the end.
+//! 512 blocks each. No block stands behind what was written or in a gap before it, nor behind the end once remains are
+//! swept.
 
 use super::super::openings::{close, resting};
 use super::messages::Store;
@@ -33,7 +34,7 @@ fn resize(
     Ok(())
 }
 
-/// How many objects more there are once an empty file is written so, and then gets this size.
+/// How many objects more there are once an empty file is written so, and then gets this size, and is swept.
 fn left_in(
     rt: &(impl Abort + AllocGlobal),
     engine: &mut Engine,
@@ -48,6 +49,7 @@ fn left_in(
     }
     if let Some(size) = size {
         resize(rt, engine, &mut store, size)?;
+        engine.clear_dead(rt.alloc());
     }
     Ok(engine.objects().saturating_sub(before))
 }
