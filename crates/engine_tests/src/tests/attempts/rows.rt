@@ -189,7 +189,7 @@ pub(super) const INTO_ANOTHER: &[Row<'static>] = &[(
 )];
 
 /// Calls on a file. WRITE goes to the blocks, and then to the map pages, at most two, of those that are absent. SETATTR
-/// goes to what its export uses and to the map page in which the file ends then, and then to the blocks behind that end.
+/// goes to what its export uses and to the map page in which the file ends then, and then to the blocks behind its end.
 /// What has more than one map page goes without them.
 pub(super) const ON_A_FILE: &[Row<'static>] = &[
     (READ, &[Word::Made, Word::Zeros(2), Word::Is(4096)], 1, 3),
