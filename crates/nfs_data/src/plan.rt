@@ -2,9 +2,9 @@
 //! 3.3.18): their plan, as far as the view tells.
 //!
 //! Behind what its handle names, where its checks pass, READ goes to the blocks of its range, and WRITE to these and to
-//! what it changes with them, and then to the map pages of those that are absent. SETATTR goes to what its file is
-//! counted in and to the map pages that are cut off, and then to the blocks that these tell of. FSSTAT goes to what all
-//! groups of its export use.
+//! what it changes with them, and then to the map pages of those that are absent. Where remains lie there it goes to
+//! these first, map page by map page. SETATTR goes to what its file is counted in and to the map pages that are cut off,
+//! and then to the blocks that these tell of. FSSTAT goes to what all groups of its export use.
 
 ghost use Rattle.std.specs.Prelude.{IfErr, IfSome};
 ghost use Rattle.nfs_machine.specs.declared.calls.Call.TheVariants as calls;
@@ -43,11 +43,18 @@ pub fn behind_first(call: &NfsCall) -> Plan {
     }
 }
 
-/// Where the plan is once a call has what its data is in.
-fn behind_data(call: &NfsCall) -> Plan {
-    match call {
-        NfsCall::Write(_) => Plan::Holes,
-        _ => Plan::Over,
+/// Where the plan is once a call that is there has what it lacked; None where it is over. WRITE asks bit by bit for
+/// remains.
+fn behind(draft: &Draft<'_>, call: &NfsCall, plan: Plan) -> Option<Plan> {
+    match plan {
+        Plan::Maps => Some(Plan::Data),
+        Plan::Data => match call {
+            NfsCall::Write(arguments) if write::has_remains(draft, arguments) => Some(Plan::Data),
+            NfsCall::Write(_) => Some(Plan::Holes),
+            _ => Some(Plan::Over),
+        },
+        Plan::Holes => Some(Plan::Over),
+        Plan::Over => None,
     }
 }
 
@@ -60,13 +67,8 @@ pub fn next(alloc: Global, call: &Call, ctx: &Ctx, view: &View, plan: Plan) -> N
     let Call::Nfs(nfs) = call else {
         return None;
     };
-    let after = match plan {
-        Plan::Maps => Plan::Data,
-        Plan::Data => behind_data(nfs),
-        Plan::Holes => Plan::Over,
-        Plan::Over => return None,
-    };
     let mut draft = Draft::new(alloc, ctx, view, Modes::of(call));
+    let after = behind(&draft, nfs, plan)?;
     go_on(&mut draft, nfs, plan, after)
 }
 

@@ -20,7 +20,7 @@ use nfs_inodes::{
     Known, KnownFile, Right, SIZE_LIMIT, TRANSFER_LIMIT, changeable, exports, named, nothing_shown,
     permitted, regular, verifier, wcc, write,
 };
-use nfs_machine::{Ctx, Reply};
+use nfs_machine::{Ctx, Handle, Reply};
 use nfs_objects::{Change, Draft, LivingExport, Missing};
 use nfs_wire::{NfsCall, NfsReply, NfsStatus, WriteArguments, WriteReply, Written};
 
@@ -54,6 +54,15 @@ pub(crate) fn ask(draft: &mut Draft<'_>, arguments: &WriteArguments) -> Result<(
         let _written = store(draft, &known, arguments)?;
     }
     Ok(())
+}
+
+/// Whether the draft shows remains where WRITE writes, which go first.
+pub(crate) fn has_remains(draft: &Draft<'_>, arguments: &WriteArguments) -> bool {
+    let Some(handle) = Handle::read(arguments.file.as_slice()) else {
+        return false;
+    };
+    let count = count_of(arguments);
+    count > 0 && nfs_inodes::has_remains(draft, handle.fileid, arguments.offset, count as usize)
 }
 
 /// Asks for the map pages of blocks that WRITE adds, where its checks pass, once it has what is known of its blocks.

@@ -12,7 +12,7 @@ use super::openings::{close, resting};
 use crate::tests::attempts::courses::cost;
 use crate::tests::attempts::messages::{COUNTED_XID, Store, message};
 use crate::tests::attempts::rows::{
-    IN_THE_DEEPEST, INTO_ANOTHER, OF_HOSTS, OF_THIN_PAGES, ON_A_FILE, ON_A_LINK, ON_ITS_LOCKS,
+    IN_THE_DEEPEST, INTO_ANOTHER, INTO_REMAINS, OF_HOSTS, OF_THIN_PAGES, ON_A_FILE, ON_A_LINK, ON_ITS_LOCKS,
     ON_NAMES, ON_NEW_NAMES, ON_THE_ROOT, Row,
 };
 use crate::tests::attempts::stocks::{Stock, stock_up};
@@ -114,6 +114,14 @@ fn a_large_file_is_called_on_in_as_many_attempts(rt: HostRuntime) -> Result<(), 
     }
     for pages in [1, 2, 16] {
         count_in(&rt, Stock::Holes(pages), ON_A_FILE)?;
+    }
+    Ok(())
+}
+
+#[test]
+fn remains_are_written_over_in_one_attempt(rt: HostRuntime) -> Result<(), Fail> {
+    for pages in [2, 16] {
+        count_in(&rt, Stock::Remains(pages), INTO_REMAINS)?;
     }
     Ok(())
 }

@@ -22,7 +22,7 @@ use nfs_objects::{Addr, Bits, Draft, FileMap, MAP_BLOCKS, Missing};
 use std::alloc::AllocError;
 
 /// How many bytes the blocks of a map page have at most.
-const PAGE: u64 = BLOCK * MAP_BLOCKS;
+pub(crate) const PAGE: u64 = BLOCK * MAP_BLOCKS;
 
 /// Cuts a file off that gets smaller. What its inode tells of its bytes then.
 ///

@@ -24,7 +24,7 @@ ghost use Rattle.nfs_inodes.specs.Stops.{StillStands, StopsAt, counted_at};
 
 use crate::content::asking::Asking;
 use crate::content::blocks::{Mapped, Range, ask_hole_maps, ask_written, read_range, write_range};
-use crate::content::cut::{add_cut_maps, ask_cut, cut_off, cut_to};
+use crate::content::cut::{PAGE, add_cut_maps, ask_cut, cut_off, cut_to};
 use crate::content::remains::clear_range;
 use crate::content::{KeptFile, file_at, with_content};
 use crate::data::TRANSFER_LIMIT;
@@ -223,6 +223,22 @@ pub fn ask_holes(
     ensures { IfErr result (StopsAt draft.now (maps_at file.now.known.number offset)) }
 {
     ask_hole_maps(draft, file.known.number, Range { offset, count })
+}
+
+/// Whether the draft shows remains in the map page of the first or the last one of so many bytes, at least one, at an
+/// offset of the file at a number: they go before these bytes are written.
+pub fn has_remains(draft: &Draft<'_>, number: u64, offset: u64, count: usize) -> bool
+    requires { 0 < count }
+{
+    let Ok(Some(inode)) = inode(draft, number) else {
+        return false;
+    };
+    let Content::Regular(map) = &inode.content else {
+        return false;
+    };
+    let last = offset.saturating_add(count as u64 - 1);
+    let remains = map.pages().both(map.remains());
+    remains.has(offset / PAGE) || remains.has(last / PAGE)
 }
 
 /// Cuts a file off, or fills it up with zeros, to this size in bytes.

@@ -255,6 +255,35 @@ pub(super) const ON_A_FILE: &[Row<'static>] = &[
     (REMOVE, &[Word::Root, Word::Name(0)], 1, 7 + 1 + 16),
 ];
 
+/// WRITE into the first map page, and into the first two, where they are remains: these go first, with a block of each.
+pub(super) const INTO_REMAINS: &[Row<'static>] = &[
+    (
+        WRITE,
+        &[
+            Word::Made,
+            Word::Zeros(2),
+            Word::Is(4096),
+            Word::Is(2),
+            Word::Blocks(1),
+        ],
+        1,
+        5,
+    ),
+    (
+        WRITE,
+        &[
+            Word::Made,
+            Word::Zeros(1),
+            Word::Is(0x001f_8000),
+            Word::Is(65_536),
+            Word::Is(2),
+            Word::Blocks(16),
+        ],
+        1,
+        22,
+    ),
+];
+
 /// Calls of NLM on a file, by its host or by messages: they read what the file has. FREE_ALL reads what all files have,
 /// in 64 buckets.
 pub(super) const ON_ITS_LOCKS: &[Row<'static>] = &[

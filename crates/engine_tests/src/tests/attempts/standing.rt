@@ -4,9 +4,7 @@
 
 use super::super::openings::{close, resting};
 use super::messages::Store;
-use super::procedures::SETATTR;
-use super::rows::Word;
-use super::stocks::{Stock, make, stock_up, write};
+use super::stocks::{Stock, resize, stock_up, write};
 use nfs_engine::Engine;
 use std::alloc::AllocError;
 use std::process::Abort;
@@ -14,25 +12,6 @@ use std::test::Fail;
 
 /// A WRITE from an offset on, of so many blocks.
 type Part = (u32, u8);
-
-/// The file that was made last gets this size (RFC 1813, 3.3.2).
-fn resize(
-    rt: &(impl Abort + AllocGlobal),
-    engine: &mut Engine,
-    store: &mut Store,
-    size: u32,
-) -> Result<(), AllocError> {
-    let words = [
-        Word::Made,
-        Word::Zeros(3),
-        Word::Is(1),
-        Word::Zeros(1),
-        Word::Is(size),
-        Word::Zeros(3),
-    ];
-    assert!(rt; !make(rt, engine, store, SETATTR, &words)?);
-    Ok(())
-}
 
 /// How many objects more there are once an empty file is written so, and then gets this size, and is swept.
 fn left_in(

@@ -2,7 +2,7 @@
 
 use super::super::records::read;
 use super::messages::{MADE_XID, ROOT, Store, message};
-use super::procedures::{CREATE, LOCK, MKDIR, Procedure, REMOVE, SYMLINK, UNLOCK, WRITE};
+use super::procedures::{CREATE, LOCK, MKDIR, Procedure, REMOVE, SETATTR, SYMLINK, UNLOCK, WRITE};
 use super::rows::Word;
 use nfs_engine::Engine;
 use nfs_schedule::{Answer, execute, is_at_rest};
@@ -67,6 +67,8 @@ pub(super) enum Stock {
     Blocks(u8),
     /// A file with one block in each of so many map pages.
     Holes(u8),
+    /// The same, cut off: its map pages, if there are two, are remains.
+    Remains(u8),
     /// A link.
     Link,
     /// A file of the root, and a directory with one of so many blocks. The directory counts as made last.
@@ -171,6 +173,25 @@ fn spread(
     for page in 0..pages {
         write(rt, engine, store, u32::from(page) * 0x20_0000, 1)?;
     }
+    Ok(())
+}
+
+/// The file that was made last gets this size (RFC 1813, 3.3.2).
+pub(super) fn resize(
+    rt: &(impl Abort + AllocGlobal),
+    engine: &mut Engine,
+    store: &mut Store,
+    size: u32,
+) -> Result<(), AllocError> {
+    let words = [
+        Word::Made,
+        Word::Zeros(3),
+        Word::Is(1),
+        Word::Zeros(1),
+        Word::Is(size),
+        Word::Zeros(3),
+    ];
+    assert!(rt; !make(rt, engine, store, SETATTR, &words)?);
     Ok(())
 }
 
@@ -280,6 +301,10 @@ pub(super) fn stock_up(
             write(rt, engine, store, 0, blocks)
         }
         Stock::Holes(pages) => spread(rt, engine, store, pages),
+        Stock::Remains(pages) => {
+            spread(rt, engine, store, pages)?;
+            resize(rt, engine, store, 0)
+        }
         Stock::Link => link(rt, engine, store),
         Stock::Pair(blocks) => pair(rt, engine, store, blocks),
         Stock::Held => {
