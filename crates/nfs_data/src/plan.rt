@@ -3,8 +3,8 @@
 //!
 //! Behind what its handle names, where its checks pass, READ goes to the blocks of its range, and WRITE to these and to
 //! what it changes with them, and then to the map pages of those that are absent. Where remains lie there it goes to
-//! these first, map page by map page. SETATTR goes to what its file is counted in and to the map pages that are cut off,
-//! and then to the blocks that these tell of. FSSTAT goes to what all groups of its export use.
+//! these first, map page by map page. SETATTR goes to what its file is counted in and to the map pages that are cut
+//! off, and then to the blocks that these tell of. FSSTAT goes to what all groups of its export use.
 
 ghost use Rattle.std.specs.Prelude.{IfErr, IfSome};
 ghost use Rattle.nfs_machine.specs.declared.calls.Call.TheVariants as calls;

@@ -12,8 +12,8 @@ use super::openings::{close, resting};
 use crate::tests::attempts::courses::cost;
 use crate::tests::attempts::messages::{COUNTED_XID, Store, message};
 use crate::tests::attempts::rows::{
-    IN_THE_DEEPEST, INTO_ANOTHER, INTO_REMAINS, OF_HOSTS, OF_THIN_PAGES, ON_A_FILE, ON_A_LINK, ON_ITS_LOCKS,
-    ON_NAMES, ON_NEW_NAMES, ON_THE_ROOT, Row,
+    IN_THE_DEEPEST, INTO_ANOTHER, INTO_REMAINS, OF_HOSTS, OF_THIN_PAGES, ON_A_FILE, ON_A_LINK,
+    ON_ITS_LOCKS, ON_NAMES, ON_NEW_NAMES, ON_THE_ROOT, Row,
 };
 use crate::tests::attempts::stocks::{Stock, stock_up};
 use nfs_engine::Engine;
