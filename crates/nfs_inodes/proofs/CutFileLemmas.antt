@@ -6,7 +6,7 @@ use Rattle.std.proofs.Common.{arith}
 use Rattle.std.proofs.Common.{cond, length, take, option_map, slice_index_or}
 use Rattle.std.proofs.lemmas.Bool.{and_parts, cases_lt, le-ltb, lt-ltb, ltb-false, ltb-true}
 use Rattle.std.proofs.Common.{Result, Ok, Err, get_or, length-append}
-use Rattle.std.specs.Prelude.{MatchResult, OnOk}
+use Rattle.std.specs.Prelude.{OnOk}
 use Rattle.std.proofs.lemmas.List.{get_or_append_left, get_or_push, length-take, take_all}
 use Rattle.nfs_objects.specs.Attempt.{StopsCall}
 use Rattle.nfs_objects.specs.declared.change.Missing.{Missing}
@@ -19,12 +19,12 @@ use Rattle.nfs_objects.proofs.SeenLemmas.{is_addr-refl, is_addr-same, known-stan
 use Rattle.nfs_objects.specs.Asks.{IsThere}
 use Rattle.nfs_objects.specs.Bits.{has, no_bits, same_bits}
 use Rattle.nfs_objects.specs.Calls.{IsAmong}
-use Rattle.nfs_objects.specs.FileMaps.{block_size}
+use Rattle.nfs_objects.specs.FileMaps.{FileMapValue, block_size}
 use Rattle.nfs_objects.specs.Fits.{Fits}
 use Rattle.nfs_objects.specs.SameLaws.{bits_decides}
 use Rattle.nfs_objects.specs.Stands.{HasBlocks, IsMapped, IsStored, StoreMeaning, Represents, block_of, map_of}
 use Rattle.nfs_objects.specs.Stands.{stored_in}
-use Rattle.nfs_objects.specs.Stands.{stored_map}
+use Rattle.nfs_objects.specs.Stands.{filed_in, stored_map}
 use Rattle.nfs_objects.specs.Store.{Store, with_writes}
 use Rattle.nfs_objects.specs.Unfiled.{Lays}
 use Rattle.nfs_objects.specs.Values.{DraftValue, is_addr, known_at, with_written}
@@ -570,11 +570,11 @@ page-cut old mid new n page bits left size count none so is tells gone put test 
     })
 
 -- ---- all pages, one after another
-same-numbers : (page place : ℕ) → place < 512 → ((page * 512 + place) / 512 ≡ page) ×
+pub same-numbers : (page place : ℕ) → place < 512 → ((page * 512 + place) / 512 ≡ page) ×
     ((page * 512 + place) % 512 ≡ place)
 same-numbers page place below = (omega (arith, below), omega (arith, below))
 
-cut-bytes : (left : ℕ) (bytes : List ℕ) → stored_in (cut_to left bytes) ≡ take left bytes
+pub cut-bytes : (left : ℕ) (bytes : List ℕ) → stored_in (cut_to left bytes) ≡ take left bytes
 cut-bytes left bytes = by (left == 0) refl
   where
     by : (b : Bool) → (left == 0) ≡ b → stored_in (cond b None (Some (objects.Block (take left bytes)))) ≡ take left
@@ -583,7 +583,7 @@ cut-bytes left bytes = by (left == 0) refl
     by false some = refl
 
 -- a block is there if it has something left
-cut-stands : (left : ℕ) (bytes : List ℕ) (stays : Bool) → 0 < length bytes → (stays ≡ true → 0 < left) →
+pub cut-stands : (left : ℕ) (bytes : List ℕ) (stays : Bool) → 0 < length bytes → (stays ≡ true → 0 < left) →
     (stays ≡ false → left ≡ 0) → IsStored stays (cut_to left bytes)
 cut-stands left bytes true has some none =
     let more : (left == 0) ≡ false = not-same left 0 (λ e. (let s = some refl in absurd (omega (arith, s, e)))) in (
@@ -594,7 +594,7 @@ cut-stands left bytes true has some none =
 cut-stands left bytes false has some none =
     ap (λ l. cut_to l bytes) (none refl)
 
-left-stands : (left : Bits) (stays : Bool) → stays ≡ not (same_bits left no_bits) → (o : Option Object) →
+pub left-stands : (left : Bits) (stays : Bool) → stays ≡ not (same_bits left no_bits) → (o : Option Object) →
     o ≡ stored_map left → IsMapped stays o
 left-stands left stays is o at = subst (λ b. IsMapped b o) (sym is)
     (subst (IsMapped (not (same_bits left no_bits))) (sym at)
@@ -605,7 +605,7 @@ left-stands left stays is o at = subst (λ b. IsMapped b o) (sym is)
     by false is = (left, refl, is)
 
 -- so the map tells of just the blocks that are left of the page, and where there is none it stands for none
-map-left : (left : Bits) (o : Option Object) → o ≡ stored_map left → (n : ℕ) → has (map_of o) n ≡ has left n
+pub map-left : (left : Bits) (o : Option Object) → o ≡ stored_map left → (n : ℕ) → has (map_of o) n ≡ has left n
 map-left left o at n = ap (λ x. has (map_of x) n) at ∙ by (same_bits left no_bits) refl
   where
     by : (b : Bool) → same_bits left no_bits ≡ b → has (map_of (cond b None (Some (objects.Map left)))) n ≡ has left n
@@ -984,48 +984,69 @@ cleared-all old new n size left zero cut = record {
 }
 
 -- ---- another size
-module _ (old new : DraftValue) (n before size : ℕ) (left : Bits) where
-  pub smaller : IsCutAt old new n size left → IsResized old new n before size left
+-- a map of this size, with these pages, and with these remains
+abbrev pub sized : (size : ℕ) → (pages remains : Bits) → FileMapValue
+sized size pages remains = record { size = size; pages = pages; remains = remains }
+
+-- blocks that are cut off are so for a file with the same remains too
+pub cut-filed : (before after : FileMapValue) (i left : ℕ) (was is : Option Object) → before.remains ≡ after.remains →
+    stored_in is ≡ take left (stored_in was) → filed_in after i is ≡ take left (filed_in before i was)
+cut-filed before after i left was is same cut =
+    ap (λ (r : Bits). cond (has r (i / 512)) [] (stored_in is)) (sym same) ∙ by (has before.remains (i / 512))
+  where
+    by : (r : Bool) → cond r [] (stored_in is) ≡ take left (cond r [] (stored_in was))
+    by true = sym (take_all left [] (omega arith))
+    by false = cut
+
+module _ (old new : DraftValue) (n : ℕ) (before : FileMapValue) (size : ℕ) (left : Bits) where
+  pub smaller : IsCutAt old new n size left → IsResized old new n before size (sized size left before.remains)
   smaller cut = record {
+    sized = refl;
     lays = cut.lays;
     inodes = cut.inodes;
     content = λ s k bytes fits stands is.
-        content-resized before (λ b. stored_in ((with_writes s old.writes).at (addresses.Block n b))) bytes is size
-        (λ b. stored_in ((with_writes s new.writes).at (addresses.Block n b)))
+        content-resized before.size (λ b. filed_in before b ((with_writes s old.writes).at (addresses.Block n b))) bytes
+        is size
+        (λ b. filed_in (sized size left before.remains) b ((with_writes s new.writes).at (addresses.Block n b)))
         (λ i. elim (cases_lt i (size / block_size)) [
           | inl less ↦
               let short = is.short i in
               let part = part-length bytes i in
-              let stored = stored_in ((with_writes s old.writes).at (addresses.Block n i)) in
-              ap stored_in (cut.front s i less)
+              let stored = filed_in before i ((with_writes s old.writes).at (addresses.Block n i)) in
+              ap (filed_in before i) (cut.front s i less)
               ∙ sym (take_all (size - i * block_size) stored (omega (arith, short, part, less)))
-          | inr behind ↦ cut.blocks s k i fits stands behind
+          | inr behind ↦ cut-filed before (sized size left before.remains) i (size - i * block_size)
+              ((with_writes s old.writes).at (addresses.Block n i))
+              ((with_writes s new.writes).at (addresses.Block n i))
+              refl (cut.blocks s k i fits stands behind)
         ]);
     maps = cut.maps;
   }
 
-pub smaller-result : (old new : DraftValue) (n before size : ℕ) (r : Result Bits Missing) →
-    MatchResult r (IsCutAt old new n size) (StopsAt old []) → MatchResult r (IsResized old new n before size)
-    (StopsAt old [])
-smaller-result old new n before size (Ok left) cut = smaller old new n before size left cut
-smaller-result old new n before size (Err halt) stops = stops
-
 -- no smaller one: nothing changes
-pub larger : (d : DraftValue) (n before size : ℕ) (pages : Bits) → before ≤ size → HasPages d n pages →
-    IsResized d d n before size pages
-larger d n before size pages within shows = record {
+pub larger : (d : DraftValue) (n : ℕ) (before : FileMapValue) (size : ℕ) → before.size ≤ size →
+    HasPages d n before.pages → IsResized d d n before size (sized size before.pages before.remains)
+larger d n before size within shows = record {
+  sized = refl;
   lays = lays-none n d;
   inodes = λ q. refl;
   content = λ s k bytes fits stands is.
-      content-resized before (λ b. stored_in ((with_writes s d.writes).at (addresses.Block n b))) bytes is size
-      (λ b. stored_in ((with_writes s d.writes).at (addresses.Block n b))) (λ i.
+      content-resized before.size (λ b. filed_in before b ((with_writes s d.writes).at (addresses.Block n b))) bytes is
+      size
+      (λ b. filed_in before b ((with_writes s d.writes).at (addresses.Block n b))) (λ i.
       let short = is.short i in
       let part = part-length bytes i in
       let counted = is.counted in
-      let stored = stored_in ((with_writes s d.writes).at (addresses.Block n i)) in
+      let stored = filed_in before i ((with_writes s d.writes).at (addresses.Block n i)) in
       sym (take_all (size - i * block_size) stored (omega (arith, short, part, counted, within))));
-  maps = λ s k fits stands. has-blocks d n pages shows s k fits stands;
+  maps = λ s k fits stands. has-blocks d n before.pages shows s k fits stands;
 }
+
+-- what the code makes is the map
+pub sized-so : (old new : DraftValue) (n : ℕ) (before : FileMapValue) (size : ℕ) (pages remains : Bits)
+    (made : FileMapValue) → made ≡ sized size pages remains →
+    IsResized old new n before size (sized size pages remains) → IsResized old new n before size made
+sized-so old new n before size pages remains made is = subst (IsResized old new n before size) (sym is)
 
 -- ---- how pages are read
 abbrev pub blank : Bits
