@@ -17,7 +17,6 @@ use Rattle.nfs_machine.specs.WellFormed.{AllApart, AreApart}
 use Rattle.nfs_machine.specs.declared.exports.ExportError.TheVariants.{BadPath, BadMode, NoHost, DoublePath, TooMany}
 use Rattle.nfs_machine.specs.declared.exports.ExportText.{ExportText}
 use Rattle.nfs_machine.proofs.MapChangeLemmas.{apart, itself}
-use Rattle.nfs_machine.proofs.ExportedLemmas.{export-all, export-number}
 use Rattle.nfs_machine.proofs.WellFormedLemmas.{all_map}
 
 -- ---- numbers
@@ -50,9 +49,6 @@ pub opened-at : (es : List ExportValue) (i : ℕ) →
     export_at (opening_exports es) (1 + i) ≡ option_map (with_number (1 + i)) (slice_get es i)
 opened-at es i = numbered_from es 1 i
 
-pub opened-zero : (es : List ExportValue) → export_at (opening_exports es) 0 ≡ None
-opened-zero es = none-below es 1 0 (omega arith)
-
 pub length-numbered : (es : List ExportValue) (k : ℕ) → length (numbered_exports k es) ≡ length es
 length-numbered [] k = refl
 length-numbered (e ∷ es) k = ap suc (length-numbered es (k + 1))
@@ -66,14 +62,6 @@ all-numbered P (e ∷ es) k each = (
   each k e (omega arith) (omega arith),
   all-numbered P es (k + 1) (λ n x low high. each n x (omega (arith, low)) (omega (arith, high))),
 )
-
--- a root has its export's number then
-pub opened-root : (es : List ExportValue) (number : ℕ) (e : LivingExport) →
-    export_at (opening_exports es) number ≡ Some e → e.root ≡ number
-opened-root es number e at =
-    export-all (λ (x : LivingExport). x.root ≡ x.number) (opening_exports es) number e
-    (all-numbered (λ (x : LivingExport). x.root ≡ x.number) es 1 (λ n x low high. refl)) at
-    ∙ export-number (opening_exports es) number e at
 
 -- ---- faults
 abbrev pub DiffersFrom : ExportText → ExportText → Type 0

@@ -31,10 +31,6 @@ module _ {A : Type 0} where
   kept-some [] e = cc
   kept-some (x ∷ xs) e = cc
 
-  pub kept-from : (list xs : List A) → kept list ≡ Some xs → list ≡ xs
-  kept-from [] xs e = cc
-  kept-from (y ∷ ys) xs e = cc
-
   -- ---- one list changes
   module _ (lists : FinMap nat_cmp (List A)) (file : ℕ) where
     pub differs-with : (list : List A) → Differs lists (with_list lists file list) file (kept list)

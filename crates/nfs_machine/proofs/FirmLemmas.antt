@@ -346,20 +346,6 @@ pending-more file (r ∷ granted) pending n =
     omega (arith, has, one, rest, sum_by-cons (λ (q : Request). cond {A = ℕ} (q.number == n) 1 0) r granted)
 
 module _ (m : State) (f : Firm m) where
-  -- a file's locks
-  pub firm-locks : (file : ℕ) → IsFile m.objects file → (locks : List Lock) → AreListed locks
-      → Firm (record m { locks = with_list m.locks file locks })
-  firm-locks file living locks listed = record {
-    locks = files-with m.objects m.locks f.locks file living locks;
-    shares = f.shares;
-    waiting = f.waiting;
-    listed = each-with m.locks file locks (λ q (l : List Lock). AreListed l) listed f.listed;
-    sharers = f.sharers;
-    requests = f.requests;
-    pending = f.pending;
-    numbers = f.numbers;
-  }
-
   -- its shares
   pub firm-shares : (file : ℕ) → IsFile m.objects file → (shares : List Share) → IsDistinct same_sharer shares
       → Firm (record m { shares = with_list m.shares file shares })

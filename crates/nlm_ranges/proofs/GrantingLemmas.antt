@@ -14,17 +14,6 @@ use Rattle.nlm_ranges.specs.Granting.{Grants, IsEmptied, IsOnWay, LeadsOn, Tries
 use Rattle.nlm_ranges.specs.Held.{HasNoneAlone}
 use Rattle.nlm_ranges.specs.declared.settling.Settling.{Settling}
 
--- ---- one request is granted
--- the modes that are asked for
-pub modes-asked : (held locks set new : List Lock) (range : Range) (exclusive : Bool) (r : Request) → held ≡ locks →
-    range ≡ requested r → exclusive ≡ r.exclusive → new ≡ set → HasModes set (modes_with held range (Some exclusive)) →
-    HasModes new (modes_with locks (requested r) (Some r.exclusive))
-modes-asked held locks set new range exclusive r before asked mode after modes =
-    subst (λ ls. HasModes ls (modes_with locks (requested r) (Some r.exclusive))) (sym after)
-    (subst (λ e. HasModes set (modes_with locks (requested r) (Some e))) mode
-    (subst (λ g. HasModes set (modes_with locks g (Some exclusive))) asked
-    (subst (λ ls. HasModes set (modes_with ls range (Some exclusive))) before modes)))
-
 -- ---- what holds a request up stays in its way, where another's mode does not become a shared one
 still-conflicts : (mode e : Bool) (m : Mode) → (e ≡ false → m ≡ Some true → ⊥) →
     modes_conflict (Some mode) m ≡ true → (mode || e) ≡ true
@@ -61,12 +50,6 @@ all-still-held-up old new r modes alone rs =
     (still-held-up old new (requested r) r.exclusive modes alone)
 
 -- ---- on the way
-pub way-begins : (locks mine : List Lock) (waiting copy granted : List Request) → mine ≡ locks → copy ≡ waiting →
-    granted ≡ [] → IsOnWay (holding locks waiting) mine granted copy
-way-begins locks mine waiting copy granted one other none more end settles =
-    subst (λ rs. Settles (holding locks waiting) (rs ++ more) end) (sym none)
-    (subst (λ f. Settles f more end) (λ i. holding (one i) (other i)) settles)
-
 -- the same of equal parts
 pub way-as : (first : FileLocks) (locks mine : List Lock) (granted given left rest : List Request) → mine ≡ locks →
     given ≡ granted → rest ≡ left → IsOnWay first locks granted left → IsOnWay first mine given rest

@@ -44,11 +44,6 @@ module _ (locks : List Lock) (i : ℕ) (lock : Lock) (inside : i < length locks)
       record { low = omega (arith, under, low); high = omega (arith, over, high) }) all)
       (own, tt))
 
-  pub next-flat : (f : Lock → List Lock) → flat_map f (take (i + 1) locks) ≡ flat_map f (take i locks) ++ f lock
-  next-flat f =
-      ap (flat_map f) next ∙ flat_map-append f (take i locks) (lock ∷ [])
-      ∙ ap (λ ls. flat_map f (take i locks) ++ ls) (append-nil (f lock))
-
 -- ---- a test of the pieces
 pub any-joined : {X : Type 0} (p : X → Bool) (pieces : List (List X)) →
     list_any (list_any p) pieces ≡ list_any p (joined pieces)
@@ -72,12 +67,6 @@ module _ {X : Type 0} (pieces : List (List X)) (i : ℕ) (piece : List X) (insid
   pub next-left : (p : X → Bool) →
       filter p (joined (take (i + 1) pieces)) ≡ filter p (joined (take i pieces)) ++ filter p piece
   next-left p = ap (filter p) next-joined ∙ filter-append p (joined (take i pieces)) piece
-
-  pub next-any : (p : X → Bool) → list_any p (joined (take i pieces)) ≡ false → list_any p piece ≡ false →
-      list_any p (joined (take (i + 1) pieces)) ≡ false
-  next-any p before here =
-      ap (list_any p) next-joined ∙ list_any-append p (joined (take i pieces)) piece
-      ∙ (λ k. before k || here k)
 
   -- where one has a lock, all have
   pub some-joined : 0 < length piece → (length (joined pieces) == 0) ≡ false
@@ -192,9 +181,6 @@ inserts-in earlier old later new lock i = record {
       ∙ ap (λ ls. earlier ++ ls) (append_assoc i.earlier (lock ∷ i.later) later)
       ∙ sym (append_assoc earlier i.earlier (lock ∷ (i.later ++ later)));
 }
-
-pub inserts-last : (old : List Lock) (lock : Lock) → Inserts old lock (old ++ lock ∷ [])
-inserts-last old lock = record { earlier = old; later = []; old_is = sym (append-nil old); new_is = refl }
 
 -- a piece of them gets one more lock
 pub inserts-pieces : (pieces front behind none before mid new : List (List Lock)) (piece : List Lock) (lock : Lock)
