@@ -382,7 +382,7 @@ module _ (old : Store) (w : SweepValue) (may : IsRemainsPage old w) (k : StoreMe
   number = w.file
 
   -- the store without them
-  bare : Store
+  abbrev bare : Store
   bare = record { at = λ a. cond (is_of_page number w.page a) None (old.at a); last = old.last }
 
   -- what is of another file stands as it stood
@@ -481,8 +481,8 @@ module _ (old : Store) (w : SweepValue) (may : IsRemainsPage old w) (k : StoreMe
   and-second true b both = both
   and-second false b both = cc
 
-  old-pages : pages_of (old.at (addresses.Inode number)) ≡ may.map.pages
-  old-pages = ap pages_of may.stands ∙ ap (λ c. pages_of (Some (stored.Inode (record may.old { content = c }))))
+  had-pages : pages_of (old.at (addresses.Inode number)) ≡ may.map.pages
+  had-pages = ap pages_of may.stands ∙ ap (λ c. pages_of (Some (stored.Inode (record may.old { content = c }))))
       may.regular
 
   -- of the file itself the page is not there any more
@@ -510,7 +510,7 @@ module _ (old : Store) (w : SweepValue) (may : IsRemainsPage old w) (k : StoreMe
               (page-gone page same)
           | false ↦ λ other. subst (λ b. IsMapped b (bare.at (addresses.Map number page)))
               (sym (may.lost page ∙ ap (λ b. has may.map.pages page && not b) other ∙ kept-one (has may.map.pages page)
-              ∙ ap (λ (x : Bits). has x page) (sym old-pages)))
+              ∙ ap (λ (x : Bits). has x page) (sym had-pages)))
               (subst (IsMapped (has (pages_of (old.at (addresses.Inode number))) page)) (sym (map-stays page other))
               ((was.files.blocks number).maps page))
         ] refl;
@@ -567,7 +567,7 @@ module _ (old : Store) (w : SweepValue) (may : IsRemainsPage old w) (k : StoreMe
 
   module _ (new : Store) (changed : (a : Addr) → new.at a ≡ swept_at w old.at a)
       (given : (n : ℕ) → new.last n ≡ old.last n) where
-    put : Store
+    abbrev put : Store
     put = with_write bare (addresses.Inode number) (inode_left may.old left)
 
     -- the new store is this, address by address

@@ -22,22 +22,22 @@ returns-in_default-content-clause-none c = λ none.
 pub returns-in_default-last_remains-clause-none : goal.returns-in_default-last_remains-clause-none
 returns-in_default-last_remains-clause-none c = λ none.
     remains-over (store_in c.args.self.now) c.args.number c.in-Some.inode.now (sym c.in-Some.ensures)
-    c.in-Regular.map.now c.in-Regular.is c.in_default-last_remains.ensures
+    c.in-Regular.map c.in-Regular.is c.in_default-last_remains.ensures
 
 pub without-requires : goal.without-requires
 without-requires c =
-    page-small c.in-Regular.map.now.pages c.in-Regular.map.now.remains c.in-Some-last_remains.page
+    page-small c.in-Regular.map.pages c.in-Regular.map.remains c.in-Some-last_remains.page
     c.in-Some-last_remains.ensures
 
 pub invariant_of-result : goal.invariant_of-result
 invariant_of-result c =
-    page-small c.in-Regular.map.now.pages c.in-Regular.map.now.remains c.in-Some-last_remains.page
+    page-small c.in-Regular.map.pages c.in-Regular.map.remains c.in-Some-last_remains.page
     c.in-Some-last_remains.ensures
 
 pub returns-clause-may : goal.returns-clause-may
 returns-clause-may c =
     may-remains (store_in c.args.self.now) c.args.number c.in-Some-last_remains.page c.in-Some.inode.now
-    c.in-Regular.map.now c.without.result _ (sym c.in-Some.ensures)
+    c.in-Regular.map c.without.result _ (sym c.in-Some.ensures)
     (lives-listed (store_in c.args.self.now) c.args.number c.in-Some.inode.now (sym c.in-Some.ensures)
     c.exports.result.now c.is_listed.result c.exports.ensures c.is_listed.ensures ∙ c.if-not-is_listed.false)
     c.in-Regular.is c.in-Some-last_remains.ensures

@@ -7,11 +7,11 @@ use Rattle.nfs_engine.proofs.book.Book.sweep_of.Goals as goal
 
 pub returns-in-Some-clause-may : goal.returns-in-Some-clause-may
 returns-in-Some-clause-may c =
-    inl (subst (λ o. IfSome o (IsDeadPage (store_in c.args.self.now))) c.in-Some.is c.in_ok-dead_sweep.ensures.may)
+    inl (subst (λ o. IfSome o (IsDeadPage (store_in c.args.self.now))) c.in-Some.is c.in_ok-sweep.ensures.may)
 
 pub returns-in-Some-clause-file : goal.returns-in-Some-clause-file
 returns-in-Some-clause-file c =
-    subst (λ o. IfSome o (λ (w : SweepValue). w.file ≡ c.args.number)) c.in-Some.is c.in_ok-dead_sweep.ensures.file
+    subst (λ o. IfSome o (λ (w : SweepValue). w.file ≡ c.args.number)) c.in-Some.is c.in_ok-sweep.ensures.file
 
 pub returns-in-None-clause-may : goal.returns-in-None-clause-may
 returns-in-None-clause-may c =
@@ -20,5 +20,5 @@ returns-in-None-clause-may c =
 
 pub returns-in-None-clause-none : goal.returns-in-None-clause-none
 returns-in-None-clause-none c = λ none.
-    either-none (store_in c.args.self.now) c.args.number (c.in_ok-dead_sweep.ensures.none (λ p. Ok (c.in-None.is p)))
+    either-none (store_in c.args.self.now) c.args.number (c.in_ok-sweep.ensures.none (λ p. Ok (c.in-None.is p)))
     (c.remains_sweep.ensures.none none)
