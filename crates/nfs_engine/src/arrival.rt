@@ -235,11 +235,17 @@ impl Arrival {
         ensures { IfOk result (λ a. a ≡ record { received = incoming_value received; reading = Reading.Asks asked }) }
     {
         received.host_is_named();
+        let Ok(host) = received.host() else {
+            drop(asked);
+            drop(received);
+            return Err(AllocError);
+        };
+        let moment = received.moment();
         let Asked { xid, ids, call } = asked;
         let ctx = Ctx {
-            host: received.host()?,
+            host,
             ids,
-            moment: received.moment(),
+            moment,
             start: 0,
             limits: Limits {
                 total_bytes: 0,
@@ -252,9 +258,13 @@ impl Arrival {
             call,
             ctx,
         };
-        Ok(Arrival {
-            came: Came::Call(Box::new(alloc, request)?),
-        })
+        match Box::new(alloc, request) {
+            Ok(request) => Ok(Arrival::asking(request)),
+            Err(refused) => {
+                drop(refused);
+                Err(AllocError)
+            }
+        }
     }
 
     /// The arrival of what asks the call that has this place.

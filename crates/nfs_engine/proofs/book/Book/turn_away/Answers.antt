@@ -3,7 +3,7 @@ use Rattle.nfs_engine.specs.Arrivals.{ArrivalValue}
 use Rattle.nfs_engine.specs.Book.{Admits}
 use Rattle.nfs_engine.proofs.book.Book.turn_away.Goals as goal
 
-pub returns-in-Ok : goal.returns-in-Ok
-returns-in-Ok c =
+pub returns : goal.returns
+returns c =
     subst (λ (a : ArrivalValue). Admits c.args.self.now c.turn_call_away.new.self a c.turn_call_away.result)
     (sym c.in-Ok.ensures.0) c.turn_call_away.ensures
