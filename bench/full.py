@@ -3,20 +3,27 @@
 refused; then each of them is removed, and as many are made again. It says what was made, refused, removed and made
 again, and ends with 1 where a file could not be removed or less than half came again.
 
-A REMOVE that is refused is asked again, up to ten times in all, a second apart. Over TCP a connection that the server
-closes for want of memory is opened anew, and counts as a refusal.
+Then the other calls that only free are tried, each on a server of its own over TCP, whose memory is filled so behind
+what they are to free: RMDIR, SETATTR to a smaller size, UNLOCK, CANCEL, FREE_ALL, UMNT and UMNTALL.
+
+What is refused is asked again, up to ten times in all, a second apart. Over TCP a connection that the server closes for
+want of memory is opened anew, and counts as a refusal.
 
 usage: bench/full.py [--only WORD] [PROGRAM]
 """
+import itertools
 import os
 import resource
 import struct
 import subprocess
 import sys
 import time
+import typing
 
-import nfsd
+import locking
+import mounts
 import network
+import nfsd
 
 MEBIBYTE = 1 << 20
 PIECE = 64  # calls that are sent at once, which are as many as an era has
@@ -24,6 +31,8 @@ IN_TURN = 100  # refusals in turn that tell of a full memory
 AGAIN, PAUSE = 10, 1.0  # how often and how far apart what was refused is asked again
 DATA = bytes(range(256)) * 128
 MOST = 200_000  # files that are made at most
+MARGIN = 16 * MEBIBYTE  # the address space that a server gets whose memory is filled behind what is to be freed
+ACCEPTED = 20  # where a reply without its mark tells whether RPC has accepted the call
 OK, REFUSED = 0, 10008  # NFS3_OK and NFS3ERR_JUKEBOX
 
 
@@ -36,9 +45,20 @@ def status(reply):
     return network.status(reply) if len(reply) > network.STATUS else REFUSED
 
 
-def write(xid, file):
-    """WRITE of 32 KiB at the file's beginning, UNSTABLE (RFC 1813, 3.3.7)."""
-    return nfsd.call(xid, nfsd.WRITE, file + struct.pack(">QIII", 0, len(DATA), 0, len(DATA)) + DATA)
+def void(reply):
+    """The same of a call without results: it is done where RPC has accepted it (RFC 5531, section 9)."""
+    return OK if reply[ACCEPTED:] == bytes(4) else REFUSED
+
+
+def locked(reply):
+    """The same of a call of NLM: what it asks for is granted."""
+    told = len(reply) > locking.STATUS and locking.status(reply) == locking.IS_GRANTED
+    return OK if told else REFUSED
+
+
+def write(xid, file, offset=0):
+    """WRITE of 32 KiB, UNSTABLE (RFC 1813, 3.3.7)."""
+    return nfsd.call(xid, nfsd.WRITE, file + struct.pack(">QIII", offset, len(DATA), 0, len(DATA)) + DATA)
 
 
 def limit(pid, size):
@@ -101,7 +121,7 @@ class Peer:
         self.xid = 0
         self.refusals = 0
 
-    def asked(self, make, names):
+    def asked(self, make, names, status=status):
         """The statuses of the calls that are made for these names, with their replies."""
         records = []
         for each in names:
@@ -131,7 +151,7 @@ class Peer:
                 in_turn = 0 if told == OK and self.written(reply) else in_turn + 1
         return made
 
-    def all(self, make, names):
+    def all(self, make, names, status=status):
         """The names of which the call is refused to the end; and of how many it was when first asked."""
         first, left = None, names
         for turn in range(AGAIN):
@@ -142,7 +162,7 @@ class Peer:
             refused = []
             for begin in range(0, len(left), PIECE):
                 part = left[begin : begin + PIECE]
-                refused += [each for each, (told, _) in zip(part, list(self.asked(make, part))) if told != OK]
+                refused += [each for each, (told, _) in zip(part, list(self.asked(make, part, status))) if told != OK]
             first = len(refused) if first is None else first
             left = refused
         return left, first or 0
@@ -174,6 +194,87 @@ def is_emptied(what, server, data):
         print()
 
 
+class Freeing(typing.NamedTuple):
+    """Calls that only free: how one is made for a name, for which names, and how its reply is read."""
+
+    make: typing.Callable
+    names: list
+    status: typing.Callable
+
+
+def directories(connection):
+    names = [b"d%06d" % number for number in range(PIECE)]
+    for name in names:
+        connection.ask(nfsd.mkdir(0, name))
+    return Freeing(nfsd.rmdir, names, status)
+
+
+def sizes(connection):
+    """Files of 32 blocks, which are cut to one byte."""
+    files = [connection.make(b"c%06d" % number) for number in range(PIECE)]
+    for file in files:
+        for offset in range(0, 4 * len(DATA), len(DATA)):
+            connection.ask(write(0, file, offset))
+    return Freeing(lambda xid, file: nfsd.resized(xid, file, 1), files, status)
+
+
+def ranges(connection):
+    """Ranges of one file that are locked by different callers."""
+    file = connection.make(b"file")
+    callers = list(range(1, PIECE + 1))
+    for who in callers:
+        connection.ask(locking.locking(0, file, who, 2 * who, 1))
+    return file, callers
+
+
+def unlocked(connection):
+    file, callers = ranges(connection)
+    return Freeing(lambda xid, who: locking.unlocking(xid, file, who, 2 * who, 1), callers, locked)
+
+
+def canceled(connection):
+    """Requests that wait for a range that another has."""
+    file, callers = ranges(connection)
+    connection.ask(locking.locking(0, file, 0, 1000, 1))
+    for who in callers:
+        connection.ask(locking.locking(0, file, who, 1000, 1, block=True))
+    return Freeing(lambda xid, who: locking.canceling(xid, file, who, 1000, 1), callers, locked)
+
+
+def freed(connection):
+    _, callers = ranges(connection)
+    return Freeing(locking.freeing, callers, void)
+
+
+def mounted(connection):
+    paths = list(itertools.islice(mounts.paths(), PIECE))
+    for path in paths:
+        connection.ask(mounts.named(0, mounts.MNT, path))
+    return paths
+
+
+def unmounted(connection):
+    return Freeing(lambda xid, path: mounts.named(xid, mounts.UMNT, path), mounted(connection), void)
+
+
+def all_unmounted(connection):
+    mounted(connection)
+    return Freeing(lambda xid, _: nfsd.call(xid, mounts.UMNTALL, program=mounts.MOUNT), [b""], void)
+
+
+def are_freed(what, program, prepare):
+    """Whether such calls are done to the end once memory is full."""
+    server = Listener(program, resource.RLIM_INFINITY)
+    freeing = prepare(server.connection)
+    limit(server.server.process.pid, server.server.resident("VmSize") + MARGIN)
+    peer = Peer(server, False)
+    tell(f"{what}, behind {len(peer.fill(b's', MOST)):,} empty files: {len(freeing.names)} called")
+    left, first = peer.all(*freeing)
+    print(f"; {first} refused when first asked, {len(left)} to the end")
+    server.close()
+    return not left
+
+
 def tell(text):
     print(text, end="", flush=True)
 
@@ -197,6 +298,16 @@ def main():
         for what, make, size, data in plays
         if given.only in what
     ]
+    frees = [
+        ("RMDIR", directories),
+        ("SETATTR to a smaller size", sizes),
+        ("UNLOCK", unlocked),
+        ("CANCEL", canceled),
+        ("FREE_ALL", freed),
+        ("UMNT", unmounted),
+        ("UMNTALL", all_unmounted),
+    ]
+    good += [are_freed(what, given.program, prepare) for what, prepare in frees if given.only in what]
     if not all(good):
         sys.exit("a full memory is not emptied")
 

@@ -74,6 +74,11 @@ def touch(xid):
     return call(xid, SETATTR, ROOT + bytes(16) + struct.pack(">II", 1, 1) + bytes(4))
 
 
+def resized(xid, file, size):
+    """SETATTR of a file's size (RFC 1813, 3.3.2). The handle has its length."""
+    return call(xid, SETATTR, file + struct.pack(">IIIIQIII", 0, 0, 0, 1, size, 0, 0, 0))
+
+
 def rename(xid, old, new):
     """RENAME of a name in the root to another (RFC 1813, 3.3.14)."""
     return call(xid, RENAME, place(old) + place(new))

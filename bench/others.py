@@ -76,11 +76,6 @@ def named(directory, name):
     return directory + nfsd.place(name)[len(nfsd.ROOT) :]
 
 
-def resized(xid, file, size):
-    """SETATTR of a file's size (RFC 1813, 3.3.2)."""
-    return nfsd.call(xid, nfsd.SETATTR, file + struct.pack(">IIIIQIII", 0, 0, 0, 1, size, 0, 0, 0))
-
-
 def handle(reply):
     """The handle, with its length, in the reply of CREATE or MKDIR, which has to be a good one."""
     assert network.status(reply) == 0, "it is made"
@@ -468,7 +463,7 @@ def removes(xid, _):
 
 
 def cuts(xid, file):
-    return resized(xid, file, 0)
+    return nfsd.resized(xid, file, 0)
 
 
 def deep_rename(depth):

@@ -1,6 +1,6 @@
 //! FSSTAT: how much space an export has (RFC 1813, 3.3.18).
 
-ghost use Rattle.std.specs.Prelude.{◌≡◌, ◌-◌, ℕ};
+ghost use Rattle.std.specs.Prelude.{◌≡◌, ◌-◌, IfErr, ℕ};
 ghost use Rattle.std.specs.FinMap.{values};
 ghost use Rattle.nfs_machine.specs.FileSystemSteps.{space_left};
 ghost use Rattle.nfs_machine.specs.State.{State};
@@ -8,6 +8,7 @@ ghost use Rattle.nfs_machine.specs.declared.calls.Call.TheVariants as calls;
 ghost use Rattle.nfs_objects.specs.Attempt.{EndsCall, EndsFirst};
 ghost use Rattle.nfs_objects.specs.Begins.{Begins};
 ghost use Rattle.nfs_objects.specs.Sums.{export_usage};
+ghost use Rattle.nfs_data.specs.Plans.{MayHalt};
 
 use bytes::Bytes;
 use nfs_inodes::{export_usage, named};
@@ -41,6 +42,21 @@ pub(crate) fn attempt(draft: Draft<'_>, object: &Bytes) -> Result<Change, Missin
             Ok(draft.answer(Reply::Nfs(NfsReply::Fsstat(reply))))
         }
     }
+}
+
+/// Asks for what all groups of an export use, which FSSTAT tells of.
+///
+/// # Errors
+///
+/// `Need` of those that it lacks, and `Memory`.
+pub(crate) fn ask(draft: &Draft<'_>, object: &Bytes) -> Result<(), Missing>
+    requires { Begins (calls.Nfs (NfsCall.Fsstat object.now)) draft.now }
+    ensures { IfErr result (MayHalt (NfsCall.Fsstat object.now) draft.now) }
+{
+    if let Ok(known) = named(draft, object.as_slice())? {
+        let _usage = export_usage(draft, known.export)?;
+    }
+    Ok(())
 }
 
 /// What this usage of an export leaves of a total of so many bytes, and of all files; never below 0.

@@ -20,7 +20,7 @@ use nfs_inodes::{
     Known, KnownFile, Right, SIZE_LIMIT, TRANSFER_LIMIT, changeable, exports, named, nothing_shown,
     permitted, regular, verifier, wcc, write,
 };
-use nfs_machine::{Ctx, Reply};
+use nfs_machine::{Ctx, Handle, Reply};
 use nfs_objects::{Change, Draft, LivingExport, Missing};
 use nfs_wire::{NfsCall, NfsReply, NfsStatus, WriteArguments, WriteReply, Written};
 
@@ -52,6 +52,47 @@ pub(crate) fn ask(draft: &mut Draft<'_>, arguments: &WriteArguments) -> Result<(
 {
     if let Ok(known) = named(draft, arguments.file.as_slice())? {
         let _written = store(draft, &known, arguments)?;
+    }
+    Ok(())
+}
+
+/// Whether the draft shows remains where WRITE writes, which go first.
+pub(crate) fn has_remains(draft: &Draft<'_>, arguments: &WriteArguments) -> bool {
+    let Some(handle) = Handle::read(arguments.file.as_slice()) else {
+        return false;
+    };
+    let count = count_of(arguments);
+    count > 0 && nfs_inodes::has_remains(draft, handle.fileid, arguments.offset, count as usize)
+}
+
+/// Asks for the map pages of blocks that WRITE adds, where its checks pass, once it has what is known of its blocks.
+///
+/// # Errors
+///
+/// `Need` of those that it lacks, and `Memory`.
+pub(crate) fn ask_holes(draft: &Draft<'_>, arguments: &WriteArguments) -> Result<(), Missing>
+    requires { Begins (calls.Nfs (NfsCall.Write arguments.now)) draft.now }
+    ensures { IfErr result (MayHalt (NfsCall.Write arguments.now) draft.now) }
+{
+    if let Ok(known) = named(draft, arguments.file.as_slice())? {
+        ask_holes_in(draft, &known, arguments)?;
+    }
+    Ok(())
+}
+
+/// The same in the object that its handle names.
+fn ask_holes_in(draft: &Draft<'_>, known: &Known, arguments: &WriteArguments) -> Result<(), Missing>
+    requires begins { Begins (calls.Nfs (NfsCall.Write arguments.now)) draft.now }
+    requires names { Knows draft.now (λ k. Names draft.now.ctx arguments.now.file k known.now) }
+    requires number { HasNumber arguments.now.file known.now.number }
+    ensures { IfErr result (StopsAt draft.now (named_by (calls.Nfs (NfsCall.Write arguments.now)) draft.now.view)) }
+{
+    let Ok(file) = writable(draft.ctx(), exports(draft)?, known, arguments) else {
+        return Ok(());
+    };
+    let count = count_of(arguments);
+    if count > 0 {
+        nfs_inodes::ask_holes(draft, &file, arguments.offset, count as usize)?;
     }
     Ok(())
 }

@@ -4,19 +4,23 @@ use Rattle.std.proofs.Common.{IsSome, Ok, Err, inl, inr, refl, sym, ap, subst, �
 use Rattle.nfs_machine.specs.Changing.{is_changing}
 use Rattle.nfs_machine.specs.Run.{Arrival, FromHost, NewExports, Setting, context_of}
 use Rattle.nfs_machine.specs.declared.calls.Call.{Call}
+use Rattle.nfs_machine.specs.declared.context.Limits.{Limits}
 use Rattle.nfs_replies.specs.Kept.ReplyEvent.{Repeated}
 use Rattle.nfs_replies.specs.Replies.{IsAfter, RepliesValue}
 use Rattle.nfs_replies.specs.declared.origins.Origin.{Origin}
-use Rattle.nfs_engine.specs.Arrivals.{ArrivalValue, incoming_value}
-use Rattle.nfs_engine.specs.Book.{Admits, AsksChange, BeginsCall, BookValue, IsNoRepeat, IsUnknown, Repeats}
+use Rattle.nfs_engine.specs.Arrivals.{ArrivalValue, incoming_value, received_value}
+use Rattle.nfs_engine.specs.Book.{Admits, AsksChange, BeginsCall, BookValue, IsNoRepeat, IsUnknown, IsWant, Repeats}
 use Rattle.nfs_engine.specs.Book.{StillRuns, book_value}
 use Rattle.nfs_engine.specs.Calls.{TxnValue}
-use Rattle.nfs_engine.specs.Candidates.{IsCandidate, candidate_value}
+use Rattle.nfs_engine.specs.Candidates.{IsAskedSo, IsCandidate, candidate_value}
 use Rattle.nfs_engine.specs.Journal.{JournalValue}
 use Rattle.nfs_engine.specs.Repeats.{RepeatValue, kept_for, origin_in, origin_of}
 use Rattle.nfs_engine.specs.Running.{CallsValue, IsBegun, IsInProgress, Joins}
+use Rattle.nfs_engine.specs.declared.arrival.Incoming.{Incoming}
+use Rattle.nfs_engine.specs.declared.arrival.Incoming.TheVariants as incoming
 use Rattle.nfs_engine.specs.declared.arrival.Reading.{Reading}
 use Rattle.nfs_engine.specs.declared.arrival.Reading.TheVariants.{Asks, Faulted}
+use Rattle.nfs_engine.specs.declared.arrival.Received.{Received}
 use Rattle.nfs_engine.specs.declared.asking.Asked.{Asked}
 use Rattle.nfs_engine.specs.declared.request.Request.{Request}
 use Rattle.nfs_engine.specs.declared.running.CallSlot.{CallSlot}
@@ -88,6 +92,10 @@ module _ (r : Request) (origin : Option Origin) (is : IsCandidate r origin) wher
   abbrev asked_by : Asked
   asked_by = record { xid = r.xid; ids = r.ctx.ids; call = r.call }
 
+  -- what one would begin is no repeat, where nothing is known of what it came with
+  pub none_known : (b : BookValue) → IfSome origin (IsUnknown b) → IsNoRepeat b (candidate_value r)
+  none_known b unknown = no_repeat b (incoming_value r.received) asked_by origin is.origin_is unknown
+
   -- and the other way round
   pub known_of : (b : BookValue) → IsNoRepeat b (candidate_value r) → IfSome origin (IsUnknown b)
   known_of b none = subst (λ (o : Option Origin). IfSome o (IsUnknown b)) (sym is.origin_is) (none asked_by refl)
@@ -138,6 +146,66 @@ module _ (r : Request) (origin : Option Origin) (is : IsCandidate r origin) wher
         kept = subst (λ (y : Origin). IsSome (kept_for old.replies y)) came known.0;
       }),
     )
+
+-- what it is made under is no part of what it asks
+pub begun_asked : (r s t : Request) (origin : Option Origin) → IsCandidate r origin → (start : ℕ) (limits : Limits) →
+    s ≡ r → t ≡ record s { ctx = record (s.ctx) { start = start; limits = limits } } → IsAskedSo t
+begun_asked r s t origin is start limits same began =
+    subst IsAskedSo (sym began) (subst
+    (λ (x : Request). IsAskedSo (record x { ctx = record (x.ctx) { start = start; limits = limits } }))
+    (sym same) (record { arrival = is.arrival; host = is.host; moment = is.moment }))
+
+-- ---- calls for which there was no memory
+-- what changes nothing comes with nothing
+pub unchanging : (received : Arrival) (call : Call) → is_changing call ≡ false → origin_of received call ≡ None
+unchanging (FromHost received) call same =
+    ap (λ t. cond t (Some (origin_in (FromHost received))) None) same
+unchanging (NewExports exports moment) call same = refl
+
+-- exports come with nothing
+pub of_exports : (came : Incoming) (call : Call) → ((received : Received) → came ≢ incoming.Record received) →
+    origin_of (incoming_value came) call ≡ None
+of_exports (incoming.Record received) call other = absurd (other received refl)
+of_exports (incoming.Exports exports moment) call other = refl
+
+module _ (r : Request) where
+  abbrev asked_of : Asked
+  asked_of = record { xid = r.xid; ids = r.ctx.ids; call = r.call }
+
+  -- nothing is known of what came with this
+  pub unknown_away : (b : BookValue) (origin : Option Origin) (error : AdmitError) (back : ArrivalValue) →
+      origin ≡ origin_of (incoming_value r.received) r.call → IfSome origin (IsUnknown b) → IsWant b error →
+      back ≡ candidate_value r → Admits b b (candidate_value r) (Err (error, back))
+  unknown_away b origin error back is unknown want handed =
+      subst (λ (a : ArrivalValue). Admits b b (candidate_value r) (Err (error, a))) (sym handed) (by error want)
+    where
+      by : (error : AdmitError) → IsWant b error → Admits b b (candidate_value r) (Err (error, candidate_value r))
+      by Memory left = wanting b (incoming_value r.received) asked_of origin is unknown left
+      by Spent last = spent b (incoming_value r.received) asked_of origin is unknown last
+
+  -- a record that asks a call that changes something comes with its host and its bytes
+  pub comes_changing : IsAskedSo r → (received : Received) → r.received ≡ incoming.Record received →
+      is_changing r.call ≡ true → IsCandidate r (Some (origin_in (FromHost (received_value received))))
+  comes_changing is received came changes = record {
+    arrival = is.arrival;
+    host = is.host;
+    moment = is.moment;
+    origin_is = sym (ap (λ i. origin_of (incoming_value i) r.call) came ∙
+        ap (λ t. cond t (Some (origin_in (FromHost (received_value received)))) None) changes);
+  }
+
+-- nothing is known of what it came with, and there is no memory for it
+pub recalled_unknown : (r : Request) (origin : Option Origin) → IsCandidate r origin → (old new : BookValue)
+    (o x : Origin) → origin ≡ Some o → x ≡ o → (error : AdmitError) (back : ArrivalValue) →
+    IsUnknown old x × (new ≡ old) → IsWant new error → back ≡ candidate_value r →
+    Admits old new (candidate_value r) (Err (error, back))
+recalled_unknown r origin is old new o x some same error back known want handed =
+    subst (λ (b : BookValue). Admits b new (candidate_value r) (Err (error, back))) known.1
+    (unknown_away r new origin error back is.origin_is unknown want handed)
+  where
+    unknown : IfSome origin (IsUnknown new)
+    unknown = subst (λ (p : Option Origin). IfSome p (IsUnknown new)) (sym some) (subst (IsUnknown new) same
+        (subst (λ (b : BookValue). IsUnknown b x) (sym known.1) known.0))
 
 -- a call that begins is made under what the server was started with
 pub entered : (journal : JournalValue) (replies : RepliesValue) (calls later : CallsValue) (setting : Setting)

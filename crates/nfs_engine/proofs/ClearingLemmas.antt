@@ -1,11 +1,20 @@
 -- Sweeps behind each other leave an engine that stands where it stood.
-use Rattle.std.proofs.Common.{◌≡◌, ◌∙◌, ℕ, ◌+◌, Bool, Option, Some, None, ap, arith, subst, sym}
+use Rattle.std.proofs.Common.{◌≡◌, ◌∙◌, ℕ, ◌+◌, Bool, Option, Some, None, ap, arith, refl, subst, sym}
 use Rattle.nfs_machine.specs.State.{State}
 use Rattle.nfs_engine.specs.Book.{BookValue, StandsFor, store_in}
 use Rattle.nfs_engine.specs.Clearing.{Clears}
 use Rattle.nfs_engine.specs.Engine.{EngineValue, KeepsAll, KeepsCounters}
 use Rattle.nfs_engine.specs.Sweeps.{IsSweptAt}
 use Rattle.nfs_engine.proofs.SweptBookLemmas.{stands-swept}
+
+-- nothing went
+pub clears-none : (e : EngineValue) → Clears e e
+clears-none e = record {
+  stands = λ m stands. stands;
+  rest = refl;
+  held = λ a j. refl;
+  counters = record { ids = refl; generations = λ k. refl };
+}
 
 -- one behind the other
 pub clears-both : (e m f : EngineValue) → Clears e m → Clears m f → Clears e f

@@ -1,8 +1,10 @@
 -- One more holder, one less, and who is left.
-use Rattle.std.proofs.Common.{◌≡◌, ◌≢◌, ℕ, ◌==◌, ◌||◌, Bool, true, false, not, cond, List, [], ◌∷◌, ◌++◌}
-use Rattle.std.proofs.Common.{Option, Some, None, IsSome, refl, sym, ◌∙◌, ap, subst, arith, length, slice_get}
+use Rattle.std.proofs.Common.{◌≡◌, ◌≢◌, ◌<◌, ℕ, ◌==◌, ◌||◌, Bool, true, false, not, cond, List, [], ◌∷◌, ◌++◌}
+use Rattle.std.proofs.Common.{Option, Some, None, IsSome, refl, sym, ◌∙◌, ap, subst, arith, get_or, length, slice_get}
 use Rattle.std.proofs.Common.{true≢false}
-use Rattle.std.specs.List.{filter, list_any}
+use Rattle.std.specs.List.{AllPairs, filter, list_any}
+use Rattle.std.proofs.lemmas.List.Folds.{list_any_at}
+use Rattle.std.proofs.lemmas.List.Quantifiers.{all_pairs_push}
 use Rattle.std.specs.Cmp.{unsigned_Decides}
 use Rattle.std.proofs.lemmas.Bool.Decides.{nat_tests}
 use Rattle.nfs_objects.specs.declared.modes.Mode.{Mode}
@@ -42,6 +44,20 @@ joined_among old new id j joins = ap (λ b. cond b (Some Shared) None) joins ∙
       | true ↦ refl
       | false ↦ refl
     ]
+
+-- and nobody among them is so twice
+pub pushed_once : (hs : List ℕ) (id : ℕ) → is_among hs id ≡ false → AllPairs (λ x y. x ≢ y) hs →
+    AllPairs (λ x y. x ≢ y) (hs ++ id ∷ [])
+pushed_once hs id fresh once =
+    all_pairs_push (λ x y. x ≢ y) hs id once (λ k d within same. absent hs k d within same fresh)
+  where
+    differ_true : (b : Bool) → b ≡ false → b ≡ true → ⊥
+    differ_true b e f = cc
+
+    absent : (hs : List ℕ) (k d : ℕ) → k < length hs → get_or hs k d ≡ id → is_among hs id ≡ false → ⊥
+    absent hs k d within same fresh = differ_true (is_among hs id) fresh
+        (sym (found_among hs id)
+        ∙ list_any_at (λ h. h == id) hs k d within ((unsigned_Decides (get_or hs k d) id).1 same))
 
 differ : (h id j : ℕ) → (h == j) ≡ true → (h == id) ≡ false → (id == j) ≡ false
 differ h id j e f = grind (arith, nat_tests)

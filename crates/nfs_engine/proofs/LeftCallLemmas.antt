@@ -1,7 +1,7 @@
 -- What is left of a call that let go a shard.
 use Rattle.std.proofs.Common.{◌≡◌, ℕ, zero, suc, ◌<◌, ◌≤◌, ◌+◌, ◌==◌, ◌&&◌}
 use Rattle.std.proofs.Common.{Bool, true, false, cond, List, [], ◌∷◌}
-use Rattle.std.proofs.Common.{get_or, set, length, take, slice_get, Option, Some, None, IsSome, is_some}
+use Rattle.std.proofs.Common.{get_or, set, length, replicate, take, slice_get, Option, Some, None, IsSome, is_some}
 use Rattle.std.proofs.Common.{option_map, refl, sym, ◌∙◌, ap, subst, arith}
 use Rattle.std.specs.Cmp.{unsigned_Decides}
 use Rattle.std.specs.List.{AllByRecursion}
@@ -10,14 +10,15 @@ use Rattle.nfs_objects.proofs.SeenLemmas.{all-append, is_addr-refl, is_addr-same
 use Rattle.nfs_objects.specs.Values.{Seen, is_addr, seen_at}
 use Rattle.nfs_objects.specs.declared.address.Addr.{Addr}
 use Rattle.nfs_objects.specs.declared.modes.Mode.{Mode}
+use Rattle.nfs_engine.proofs.ShardLetGoLemmas.{below_sixteen}
 use Rattle.nfs_engine.proofs.LetGoEntryLemmas.{further}
-use Rattle.nfs_engine.proofs.OneShardOfSixteenLemmas.{any_default, elsewhere, here}
+use Rattle.nfs_engine.proofs.OneShardOfSixteenLemmas.{any_default, each_shard, elsewhere, here}
 use Rattle.nfs_engine.proofs.HolderModeLemmas.{Reholds, let_go, lets_go_holds, lifted, only_in, reheld_holds}
 use Rattle.nfs_engine.proofs.HolderModeLemmas.{reheld_others, reheld_tied}
 use Rattle.nfs_engine.specs.Book.{BookValue}
 use Rattle.nfs_engine.specs.Calls.{PendingValue}
 use Rattle.nfs_engine.specs.Engine.{EngineValue, FreesOne, HoldsNothing, HoldsSome, IsLeaving, IsNext, IsTied}
-use Rattle.nfs_engine.specs.Engine.{KeepsOthers, LeadsTo, Releases, Waits, freed_more, held_among}
+use Rattle.nfs_engine.specs.Engine.{KeepsCounters, KeepsOthers, LeadsTo, Releases, Waits, freed_more, held_among}
 use Rattle.nfs_engine.specs.Engine.{is_free, kept_by, mode_in, shard_among}
 use Rattle.nfs_engine.specs.Taking.{LetsGo}
 use Rattle.nfs_engine.specs.Releases.{ReleaseValue}
@@ -89,6 +90,11 @@ pub none_held : (r : ReleaseValue) (k : ℕ) → HoldsNothing r → HoldsSome r 
 none_held r k nothing some =
     (let no : false ≡ true = subst (λ (m : Option Mode). IsSome m) (nothing some.address) some.held in cc)
 
+none_free : (n k : ℕ) → get_or (replicate n false) k false ≡ false
+none_free zero k = refl
+none_free (suc n) zero = refl
+none_free (suc n) (suc k) = none_free n k
+
 -- what it leads to, by the book alone
 pub still_leads : (book : BookValue) (shards others : List ShardValue) (id : ℕ) (t : Then) →
     LeadsTo (record { book = book; shards = shards }) id t → LeadsTo (record { book = book; shards = others }) id t
@@ -119,6 +125,15 @@ waits_then : (e : EngineValue) (r : ReleaseValue) (p : PendingValue) → IsLeavi
 waits_then e r p leaving nothing is = waits_for e r.id p (subst (λ (t : Then). LeadsTo e r.id t) is leaving.after)
     (λ a. leaving.holds.exactly a ∙ nothing a) leaving.holds.known
 
+-- nothing was held
+pub ended_releases : (e : EngineValue) (r : ReleaseValue) (n : Next) → IsLeaving e r → HoldsNothing r →
+    IsNext r n → Releases e e r n
+ended_releases e r (next.More left) leaving nothing is = absurd (none_held r is.1 nothing is.2)
+ended_releases e r (next.Aborted p) leaving nothing is =
+    (is.1, waits_then e r p leaving nothing is.1, None, (refl, nothing))
+ended_releases e r next.Ended leaving nothing is =
+    (is.1, λ a. leaving.holds.exactly a ∙ nothing a, None, (refl, nothing))
+
 -- one shard was let go
 next_releases : (old new : EngineValue) (r : ReleaseValue) (k : ℕ) (n : Next) → IsLeaving new (freed_more r k) →
     FreesOne old.shards new.shards r k → IsNext (freed_more r k) n → Releases old new r n
@@ -132,6 +147,18 @@ next_releases old new r k next.Ended leaving frees is =
 -- ---- one shard more is free
 abbrev pub kept_where : Bool → Option Mode → Option Mode
 kept_where t m = elim t [ true ↦ None | false ↦ m ]
+
+-- where it holds something, the shard is not free of it
+pub not_free : (r : ReleaseValue) (k : ℕ) → HoldsSome r k → is_free r k ≡ false
+not_free r k some = elim (is_free r k) as (λ t. is_free r k ≡ t → t ≡ false) [
+  | true ↦ λ free. (let no : false ≡ true = subst (λ t. IsSome (kept_where t (mode_in r.view.entries some.address)))
+      (ap (is_free r) some.shard ∙ free) some.held in cc)
+  | false ↦ λ kept. refl
+] refl
+
+-- and is one of the sixteen
+pub shard_within : (r : ReleaseValue) (k : ℕ) → HoldsSome r k → k < 16
+shard_within r k some = subst (λ j. j < 16) some.shard (below_sixteen some.address)
 
 module _ (book : BookValue) (shards : List ShardValue) (k : ℕ) (was s : ShardValue) (within : k < length shards)
     (r : ReleaseValue) (there : k < length r.done) (tied : IsTied (record { book = book; shards = shards }))
@@ -189,6 +216,14 @@ module _ (book : BookValue) (shards : List ShardValue) (k : ℕ) (was s : ShardV
     holds = reheld_holds book shards (set shards k s) r.id (only_in k (let_go k r.view.entries)) all (kept_by r)
         (kept_by (freed_more r k)) leaving.holds turned;
     after = still_leads book shards (set shards k s) r.id r.after leaving.after;
+  }
+
+  pub left_counters : KeepsCounters before after
+  left_counters = record {
+    ids = refl;
+    generations = each_shard shards k s within (λ x y. y.next_generation ≡ x.next_generation)
+        (go.next_generation ∙ ap (λ (x : ShardValue). x.next_generation) (any_default shards k was within))
+        (λ x. refl);
   }
 
   left_one : HoldsSome r k → FreesOne shards (set shards k s) r k

@@ -40,6 +40,17 @@ goes which es b = (shard_of b == which) && is_some (seen_at es b)
 abbrev gone : Bool → ℕ → ℕ → Option Mode → Option Mode
 gone t id j m = cond t (cond (id == j) None m) m
 
+pub none_goes : (s : ShardValue) (which id : ℕ) → LetsGo s s which id []
+none_goes s which id = record {
+  objects = λ b. refl;
+  holds = λ b j. elim (shard_of b == which) as (λ t. hold_at s b j ≡ gone (t && false) id j (hold_at s b j)) [
+    | true ↦ refl
+    | false ↦ refl
+  ];
+  next_generation = refl;
+  index = refl;
+}
+
 module _ (old mid : ShardValue) (which id : ℕ) (es : List Seen) (e : Seen) (l : LetsGo old mid which id es) where
   -- an entry of another shard stays
   pub other_stays : shard_of e.address ≢ which → LetsGo old mid which id (es ++ e ∷ [])

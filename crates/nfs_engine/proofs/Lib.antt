@@ -6,6 +6,7 @@ pub mod BuiltCallLemmas
 pub mod CallSizes
 pub mod OriginsLemmas
 pub mod SaturatingSumLemmas
+pub mod DroppedRecordLemmas
 pub mod GivenUpCallLemmas
 pub mod ShardsFilledLemmas
 pub mod FitsLemmas

@@ -27,6 +27,12 @@ no_origin a e = cc
 pub nowhere : (key : ℕ) (o : Origin) → CameWith [] key o → ⊥
 nowhere key o came = (let no : None ≡ Some came.running = came.there in cc)
 
+pub no_origins : AreOrigins [] []
+no_origins = record {
+  exactly = λ o. (λ no. cc, λ is. absurd (nowhere is.0 o is.1));
+  apart = λ key other o came came_too. absurd (nowhere key o came);
+}
+
 -- ---- one more
 module _ (old new : Living) (key id : ℕ) (origin : Option Origin) (j : Joins old new key id origin) where
   came_still : (k : ℕ) (o : Origin) → CameWith old k o → CameWith new k o

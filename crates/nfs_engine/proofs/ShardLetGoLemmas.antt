@@ -32,6 +32,20 @@ below_sixteen (Locks b) = omega arith
 abbrev gone : Bool → Option Mode → Option Mode
 gone t m = elim t [ true ↦ None | false ↦ m ]
 
+pub freeing_none : (shards : List ShardValue) (which : List Bool) (id : ℕ) → Frees shards shards which id []
+freeing_none shards which id = record {
+  objects = λ b. refl;
+  holds = λ b j. stays (id == j) (is_of which (shard_of b)) (held_among shards b j);
+  counters = λ k. refl;
+  indices = λ k. refl;
+}
+  where
+    stays : (u t : Bool) (m : Option Mode) → m ≡ gone (u && (t && false)) m
+    stays u t m = elim u as (λ u. m ≡ gone (u && (t && false)) m) [
+      | true ↦ elim t as (λ t. m ≡ gone (t && false) m) [ true ↦ refl | false ↦ refl ]
+      | false ↦ refl
+    ]
+
 module _ (initial now : List ShardValue) (which : List Bool) (id : ℕ) (es : List Seen) (e : Seen)
     (f : Frees initial now which id es) where
   -- what is seen of another address

@@ -8,11 +8,11 @@ use Rattle.nfs_objects.specs.Values.{Seen, is_addr, seen_at, written_at}
 use Rattle.nfs_objects.specs.declared.address.Addr.{Addr}
 use Rattle.nfs_objects.specs.declared.modes.Mode.{Mode}
 use Rattle.nfs_objects.specs.declared.object.Object.{Object}
-use Rattle.nfs_engine.proofs.ShardLetGoLemmas.{is_of}
+use Rattle.nfs_engine.proofs.ShardLetGoLemmas.{below_sixteen, is_of}
 use Rattle.nfs_engine.proofs.OneShardOfSixteenLemmas.{alike_or, any_default, elsewhere, here}
 use Rattle.nfs_engine.proofs.WritesInShardLemmas.{Writes}
 use Rattle.nfs_engine.specs.Engine.{ArePlaces, IsHeldAmong, freed, held_among, is_written, shard_among, slot_among}
-use Rattle.nfs_engine.specs.Settling.{AreHeldIn, Settles, spent_in}
+use Rattle.nfs_engine.specs.Settling.{AreHeldIn, IsSettled, Settles, spent_in}
 use Rattle.nfs_engine.specs.Shards.{IsHeld, ShardValue, hold_at, shard_of, slot_at}
 
 abbrev gone : Bool → Option Mode → Option Mode
@@ -87,6 +87,19 @@ pub record SettledTo (initial now : List ShardValue) (which : List Bool) (id : �
   pub indices : (j : ℕ) → (shard_among now j).index ≡ (shard_among initial j).index
   pub still : (b : Addr) (x : Option (Option Object)) → k ≤ shard_of b → written_at x left b ≡ written_at x all b
   pub held : AllByRecursion (λ (w : Addr × Option Object). IsHeldAmong initial w.0) left
+
+pub settled_none : (initial : List ShardValue) (which : List Bool) (id : ℕ) (es : List Seen) (all : Writes) →
+    AllByRecursion (λ (w : Addr × Option Object). IsHeldAmong initial w.0) all →
+    SettledTo initial initial which id es all all 0
+settled_none initial which id es all held = record {
+  objects = λ b below. absurd (omega arith);
+  holds = λ b j below. absurd (omega arith);
+  rest = λ j from. refl;
+  counters = λ j. refl;
+  indices = λ j. refl;
+  still = λ b x from. refl;
+  held = held;
+}
 
 module _ (initial now : List ShardValue) (which : List Bool) (id : ℕ) (es : List Seen) (all left : Writes) (k : ℕ)
     (f : SettledTo initial now which id es all left k) where
@@ -195,3 +208,12 @@ settled_next initial now which id es all left more k was s f within sixteen indi
   where
     own : (get_or now k was).index ≡ k
     own = own_index initial now which id es all left k f was within sixteen indices
+
+pub settled_all : (initial now : List ShardValue) (which : List Bool) (id : ℕ) (es : List Seen) (all left : Writes)
+    (k : ℕ) → 16 ≤ k → SettledTo initial now which id es all left k → IsSettled initial now which id es all
+settled_all initial now which id es all left k over f = record {
+  objects = λ b. f.objects b (let less = below_sixteen b in omega arith);
+  holds = λ b j. f.holds b j (let less = below_sixteen b in omega arith);
+  counters = f.counters;
+  indices = f.indices;
+}

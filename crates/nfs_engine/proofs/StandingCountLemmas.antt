@@ -2,7 +2,7 @@
 use Rattle.std.proofs.Common.{◌≡◌, ℕ, suc, ◌+◌, ◌-◌, ◌^◌, ◌<◌, ◌≤◌, Bool, true, false, cond, min, List, [], ◌∷◌}
 use Rattle.std.proofs.Common.{length, map, ◌&&◌, ◌||◌, not, Option, Some, None, is_some, unwrap_or}
 use Rattle.std.proofs.Common.{refl, sym, ◌∙◌, ap, subst, arith}
-use Rattle.std.proofs.Common.{option_map}
+use Rattle.std.proofs.Common.{Bor, option_copied, option_map}
 use Rattle.std.specs.Bool.{Decides}
 use Rattle.std.specs.Cmp.{IsEquivalence, decided}
 use Rattle.std.specs.List.{AllByRecursion, IsDistinct, filter}
@@ -181,6 +181,11 @@ pub no-objects : HasObjects (store_of []) 0
 unfolding IsDistinct
 no-objects = record { addresses = []; once = tt; which = λ a. refl; count_is = refl }
 
+-- whether something stands is seen of its reference
+is-copied : {A B : Type 0} (f : A → B) (o : Option (Bor A)) → is_some (option_map f (option_copied o)) ≡ is_some o
+is-copied f None = refl
+is-copied f (Some x) = refl
+
 is-mapped : {A B : Type 0} (f : A → B) (o : Option A) → is_some (option_map f o) ≡ is_some o
 is-mapped f None = refl
 is-mapped f (Some x) = refl
@@ -195,6 +200,10 @@ put-count old new a o before after has put short is =
     (arith, most, short)) in
     subst (λ (s : Store). HasObjects s after) (sym put)
     (subst (HasObjects (with_write (store_of old) a o)) (sym is) (written-count (store_of old) a o before has few))
+
+pub found-some : {A B : Type 0} (f : A → B) (o : Option (Bor A)) (there : Option B) (seen : Bool) → seen ≡ is_some o →
+    option_map f (option_copied o) ≡ there → seen ≡ is_some there
+found-some f o there seen is same = is ∙ sym (is-copied f o) ∙ ap is_some same
 
 pub given-some : {A B : Type 0} (f : A → B) (o : Option A) (seen : Bool) → seen ≡ is_some o →
     seen ≡ is_some (option_map f o)

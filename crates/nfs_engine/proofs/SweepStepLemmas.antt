@@ -147,6 +147,10 @@ module _ (file page : ℕ) where
   gone-all old mid new o gone puts (Usage e g) = puts (Usage e g) ∙ gone (Usage e g)
   gone-all old mid new o gone puts (Locks b) = puts (Locks b) ∙ gone (Locks b)
 
+  -- the inode stands still
+  pub gone-inode : (old mid : At) (count : ℕ) → IsGoneTo old mid file page count → mid (Inode file) ≡ old (Inode file)
+  gone-inode old mid count gone = gone (Inode file)
+
 -- ---- what of it was looked at
 -- of the first so many blocks each has this
 abbrev pub AllBlocks : (Addr → Type 0) → (file page count : ℕ) → Type 0

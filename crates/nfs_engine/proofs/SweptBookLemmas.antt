@@ -1,6 +1,6 @@
 -- A book that is swept: its store stands for the same state.
-use Rattle.std.proofs.Common.{◌≡◌, ◌==◌, ◌-◌, ◌≤◌, ℕ, Bool, true, false, not, cond, max, List}
-use Rattle.std.proofs.Common.{Some, None, IsSome, refl, sym, ◌∙◌, ap, subst, arith}
+use Rattle.std.proofs.Common.{◌≡◌, ◌==◌, ◌≤◌, ℕ, Bool, true, false, cond, max, List}
+use Rattle.std.proofs.Common.{Some, None, IsSome, inl, inr, refl, sym, ◌∙◌, ap, subst, arith}
 use Rattle.std.specs.Cmp.{unsigned_Decides}
 use Rattle.nfs_machine.specs.Run.{Record, Run, Setting}
 use Rattle.nfs_machine.specs.State.{State}
@@ -20,15 +20,35 @@ use Rattle.nfs_engine.specs.Sweeps.{MaySweep, SweepValue, Sweeps, swept_at}
 use Rattle.nfs_engine.specs.Tables.{store_of}
 use Rattle.nfs_replies.specs.Replies.{RepliesValue}
 
--- the inode that loses a page stands there
+-- the inode that loses a page
+abbrev losing : (s : Store) (w : SweepValue) → MaySweep s w → Inode
+losing s w (inl may) = may.old
+losing s w (inr may) = may.old
+
+-- it stands there
+losing-stands : (s : Store) (w : SweepValue) (may : MaySweep s w) →
+    s.at (addresses.Inode w.file) ≡ Some (stored.Inode (losing s w may))
+losing-stands s w (inl may) = may.dead.stands
+losing-stands s w (inr may) = may.stands
+
 pub sweep-stands : (s : Store) (w : SweepValue) → MaySweep s w → IsSome w.inode →
     IsSome (s.at (addresses.Inode w.file))
-sweep-stands s w may some = subst (λ o. IsSome o) (sym may.dead.stands) refl
+sweep-stands s w may some = subst (λ o. IsSome o) (sym (losing-stands s w may)) refl
 
 -- no generation is given that was not
-last-stays : (s : Store) (w : SweepValue) (may : MaySweep s w) → may.old.generation ≤ s.last w.file → (q : ℕ) →
+left-stays : (s : Store) (w : SweepValue) (i : Inode) → i.generation ≤ s.last w.file → (q : ℕ) →
+    give s.last (addresses.Inode w.file) (Some (stored.Inode i)) q ≡ s.last q
+left-stays s w i given q = elim (w.file == q) as (λ b. (w.file == q) ≡ b →
+    cond b (max (s.last q) i.generation) (s.last q) ≡ s.last q) [
+      | true ↦ λ same.
+          (let is : i.generation ≤ s.last q =
+          subst (λ n. i.generation ≤ s.last n) ((unsigned_Decides w.file q).0 same) given in omega (arith, is))
+      | false ↦ λ other. refl
+    ] refl
+
+last-stays : (s : Store) (w : SweepValue) (may : MaySweep s w) → (losing s w may).generation ≤ s.last w.file → (q : ℕ) →
     give s.last (addresses.Inode w.file) w.inode q ≡ s.last q
-last-stays s w may given q = ap (λ o. give s.last (addresses.Inode w.file) o q) may.left
+last-stays s w (inl may) given q = ap (λ o. give s.last (addresses.Inode w.file) o q) may.left
     ∙ by (same_bits may.pages no_bits)
   where
     left : Inode
@@ -36,14 +56,9 @@ last-stays s w may given q = ap (λ o. give s.last (addresses.Inode w.file) o q)
 
     by : (b : Bool) → give s.last (addresses.Inode w.file) (cond b None (Some (stored.Inode left))) q ≡ s.last q
     by true = refl
-    by false = elim (w.file == q) as (λ b. (w.file == q) ≡ b →
-        cond b (max (s.last q) may.old.generation) (s.last q) ≡ s.last q) [
-          | true ↦ λ same.
-              (let is : may.old.generation ≤ s.last q =
-              subst (λ n. may.old.generation ≤ s.last n) ((unsigned_Decides w.file q).0 same) given in omega
-              (arith, is))
-          | false ↦ λ other. refl
-        ] refl
+    by false = left-stays s w left given q
+last-stays s w (inr may) given q = ap (λ o. give s.last (addresses.Inode w.file) o q) may.left
+    ∙ left-stays s w (record may.old { content = contents.Regular (record may.map { pages = may.pages }) }) given q
 
 pub swept-so : (old new : BookValue) (w : SweepValue) (may : MaySweep (store_in old) w) → IsRun old →
     ((a : Addr) → (store_in new).at a ≡ swept_at w (store_in old).at a) →
@@ -53,7 +68,8 @@ swept-so old new w may run at last = record {
   may = may;
   at = at;
   last = λ q. last q ∙ last-stays (store_in old) w may
-      (run.leads.stands.represents.objects.given w.file may.old may.dead.stands) q;
+      (run.leads.stands.represents.objects.given w.file (losing (store_in old) w may)
+      (losing-stands (store_in old) w may)) q;
 }
 
 -- the store stands for the same state

@@ -12,7 +12,7 @@ use Rattle.nfs_objects.specs.declared.modes.Mode.{Mode}
 use Rattle.nfs_objects.specs.declared.object.Object.{Object}
 use Rattle.nfs_engine.proofs.OneShardOfSixteenLemmas.{any_default, each_shard, each_slot}
 use Rattle.nfs_engine.specs.Book.{BookValue, store_in}
-use Rattle.nfs_engine.specs.Engine.{EngineValue, KeepsAll, KeepsCounters, held_among, shard_among}
+use Rattle.nfs_engine.specs.Engine.{EngineValue, IsTied, KeepsAll, KeepsCounters, held_among, shard_among}
 use Rattle.nfs_engine.specs.Holders.{hold_of}
 use Rattle.nfs_engine.specs.Running.{running_at}
 use Rattle.nfs_engine.specs.Shards.{ShardValue, shard_of, slot_at}
@@ -83,6 +83,23 @@ module _ (book swept : BookValue) (shards now : List ShardValue) (w : SweepValue
 
   same-ids : swept.next_id ≡ book.next_id
   same-ids = ap (λ (b : BookValue). b.next_id) rest
+
+  pub swept-tied : IsTied before → IsTied after
+  swept-tied tied = record {
+    objects = λ b. went.objects b
+        ∙ ap (λ o. cond (is_of_page w.file w.page b) None (cond (is_addr (Inode w.file) b) w.inode o)) (tied.objects b)
+        ∙ sym (sweeps.at b);
+    below = λ n.
+        (let was = tied.below n in
+        let last = sweeps.last n in
+        let next = went.counters (n % 16) in
+        omega (arith, was, last, next));
+    held = λ b j some.
+        (let was = tied.held b j (subst (λ m. IsSome m) (went.holds b j) some) in
+        let ids = same-ids in
+        omega (arith, was, ids));
+    indices = λ i small. went.indices i ∙ tied.indices i small;
+  }
 
   no-some : (m : Option Mode) → m ≡ None → IsSome m → ⊥
   no-some None none some = cc

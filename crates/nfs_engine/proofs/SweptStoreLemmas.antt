@@ -1,6 +1,6 @@
--- A store from which a page of a dead file was swept stands for what it stood for.
+-- A store from which a page was swept stands for what it stood for.
 use Rattle.std.proofs.Common.{◌≡◌, ◌==◌, ◌&&◌, ◌/◌, ◌%◌, ◌≤◌, ◌<◌, ◌⊎◌, ◌^◌, ℕ, Bool, true, false, not, cond, List, []}
-use Rattle.std.proofs.Common.{◌∷◌}
+use Rattle.std.proofs.Common.{◌∷◌, inl, inr, max}
 use Rattle.std.proofs.Common.{Option, Some, None, IsSome, find, option_map, refl, sym, ◌∙◌, ap, subst, arith}
 use Rattle.std.specs.Cmp.{unsigned_Decides}
 use Rattle.std.specs.List.{AllByRecursion, Contains}
@@ -10,6 +10,8 @@ use Rattle.nfs_machine.specs.Exports.{LivingExport}
 use Rattle.nfs_machine.specs.State.{Entry}
 use Rattle.nlm_ranges.specs.Buckets.{LockedValue, bucket_count, file_in}
 use Rattle.nfs_objects.proofs.BitSetLemmas.{has-none}
+use Rattle.nfs_objects.proofs.SeenLemmas.{is_addr-same}
+use Rattle.nfs_objects.proofs.TurnsLemmas.{refiled}
 use Rattle.nfs_objects.specs.Bits.{has, no_bits, same_bits}
 use Rattle.nfs_objects.specs.Directories.{led_in_part, width_in}
 use Rattle.nfs_objects.specs.FileMaps.{FileMapValue, IsContent}
@@ -19,8 +21,9 @@ use Rattle.nfs_objects.specs.Stands.{StoreMeaning, Represents, StandLocks, besid
 use Rattle.nfs_objects.specs.Stands.{bytes_at, content_of, entry_map_in, entry_map_of, export_table_of, exported_file}
 use Rattle.nfs_objects.specs.Stands.{exports_of, inode_in, inode_there, links_kept}
 use Rattle.nfs_objects.specs.Stands.{lives_in, living_of_inode, map_of, pages_of, parent_kept, stored_bucket}
-use Rattle.nfs_objects.specs.Stands.{mounts_of, stored_in}
-use Rattle.nfs_objects.specs.Store.{Store, put_at}
+use Rattle.nfs_objects.specs.Stands.{entries_at, filed_in, map_in, mounts_of, stored_in}
+use Rattle.nfs_objects.specs.Unfiled.{RepresentsBut}
+use Rattle.nfs_objects.specs.Store.{Store, put_at, with_write}
 use Rattle.nfs_objects.specs.Values.{is_addr}
 use Rattle.nfs_objects.specs.declared.address.Addr.{Addr}
 use Rattle.nfs_objects.specs.declared.address.Addr.TheVariants as addresses
@@ -31,7 +34,8 @@ use Rattle.nfs_objects.specs.declared.object.Content.TheVariants as contents
 use Rattle.nfs_objects.specs.declared.object.Inode.{Inode}
 use Rattle.nfs_objects.specs.declared.object.Object.{Object}
 use Rattle.nfs_objects.specs.declared.object.Object.TheVariants as stored
-use Rattle.nfs_engine.specs.Sweeps.{MaySweep, SweepValue, Sweeps, inode_with, is_of_page}
+use Rattle.nfs_engine.specs.Sweeps.{IsDeadPage, IsRemainsPage, SweepValue, Sweeps, inode_left, inode_with, is_of_page}
+use Rattle.nfs_engine.specs.Sweeps.{swept_at}
 
 -- a number that is another
 same-number : (n m : ℕ) → (n == m) ≡ true → n ≡ m
@@ -81,7 +85,9 @@ left-is i j map = elim (same_bits map.pages no_bits) as (λ b.
       | false ↦ λ e. (let same : record i { content = contents.Regular map } ≡ j = cc in same)
     ]
 
-module _ (old new : Store) (w : SweepValue) (sweeps : Sweeps old new w) where
+module _ (old new : Store) (w : SweepValue) (may : IsDeadPage old w) (changed : (a : Addr)
+    → new.at a ≡ swept_at w old.at a)
+    (given : (n : ℕ) → new.last n ≡ old.last n) where
   abbrev n : ℕ
   n = w.file
 
@@ -89,14 +95,14 @@ module _ (old new : Store) (w : SweepValue) (sweeps : Sweeps old new w) where
   elsewhere : (a : Addr) → is_of_page w.file w.page a ≡ false → is_addr (addresses.Inode n) a ≡ false →
       new.at a ≡ old.at a
   elsewhere a page inode =
-      sweeps.at a ∙ ap (λ t. cond t None (put_at old.at (addresses.Inode n) w.inode a)) page
+      changed a ∙ ap (λ t. cond t None (put_at old.at (addresses.Inode n) w.inode a)) page
       ∙ ap (λ t. cond t w.inode (old.at a)) inode
 
   gone : (a : Addr) → is_of_page w.file w.page a ≡ true → new.at a ≡ None
-  gone a page = sweeps.at a ∙ ap (λ t. cond t None (put_at old.at (addresses.Inode n) w.inode a)) page
+  gone a page = changed a ∙ ap (λ t. cond t None (put_at old.at (addresses.Inode n) w.inode a)) page
 
   here : new.at (addresses.Inode n) ≡ w.inode
-  here = sweeps.at (addresses.Inode n)
+  here = changed (addresses.Inode n)
       ∙ ap (λ t. cond t w.inode (old.at (addresses.Inode n))) (is-itself n)
 
   -- another inode is as it was
@@ -114,9 +120,6 @@ module _ (old new : Store) (w : SweepValue) (sweeps : Sweeps old new w) where
         | false ↦ λ other. subst (λ o. P (old.at (addresses.Inode m)) o m) (sym (other-inode m other))
             (others (old.at (addresses.Inode m)) m other)
       ] refl
-
-  abbrev may : MaySweep old w
-  may = sweeps.may
 
   stood : old.at (addresses.Inode n) ≡ Some (stored.Inode may.old)
   stood = may.dead.stands
@@ -319,8 +322,8 @@ module _ (old new : Store) (w : SweepValue) (sweeps : Sweeps old new w) where
           (was.locks.placed index));
     }
 
-    pub swept-stands : Represents new k
-    swept-stands = record {
+    pub dead-swept : Represents new k
+    dead-swept = record {
       tables = record {
         table = subst (λ o. IsSome o) (sym (elsewhere addresses.Exports refl refl)) was.tables.table;
         exports = was.tables.exports ∙ ap exports_of (sym (elsewhere addresses.Exports refl refl));
@@ -337,13 +340,13 @@ module _ (old new : Store) (w : SweepValue) (sweeps : Sweeps old new w) where
             (let before = was-so m i is in
             let fits = was.objects.given m before.inode before.stood in
             let same = before.generation in
-            let last = sweeps.last m in
+            let last = given m in
             omega (arith, fits, same, last));
         fits = λ m i is.
             (let before = was-so m i is in
             let fits = was.objects.fits m before.inode before.stood in
             (fits.0, subst (λ s. s < 2 ^ 63) (sym before.size) fits.1));
-        spent = λ m g. was.objects.spent m g ∙ ap (nat_le g) (sym (sweeps.last m));
+        spent = λ m g. was.objects.spent m g ∙ ap (nat_le g) (sym (given m));
         numbered = λ m i is.
             (let before = was-so m i is in
             subst (λ e. (lives_in exports e ≡ true) ⊎ (e ≤ k.state.last_export)) (sym before.export)
@@ -355,7 +358,7 @@ module _ (old new : Store) (w : SweepValue) (sweeps : Sweeps old new w) where
             (let lives = sym (there m) ∙ is in
             let other = lives-other m i lives in
             subst (λ f. IsContent map.size f (bytes_at k.state m))
-            (λ j b. stored_in (sym (elsewhere (addresses.Block m b)
+            (λ j b. filed_in map b (sym (elsewhere (addresses.Block m b)
             (ap (λ t. t && (w.page == b / 512)) other) refl) j))
             (was.files.bytes m i map lives regular));
       };
@@ -371,3 +374,237 @@ module _ (old new : Store) (w : SweepValue) (sweeps : Sweeps old new w) where
       };
       locks = swept-locks;
     }
+
+-- ---- a page of remains
+-- without its blocks and its map the store stands for all but the file
+module _ (old : Store) (w : SweepValue) (may : IsRemainsPage old w) (k : StoreMeaning) (was : Represents old k) where
+  abbrev number : ℕ
+  number = w.file
+
+  -- the store without them
+  abbrev bare : Store
+  bare = record { at = λ a. cond (is_of_page number w.page a) None (old.at a); last = old.last }
+
+  -- what is of another file stands as it stood
+  bare-map : (m page : ℕ) → (number == m) ≡ false → bare.at (addresses.Map m page) ≡ old.at (addresses.Map m page)
+  bare-map m page other =
+      ap (λ t. cond (t && (w.page == page)) None (old.at (addresses.Map m page))) other
+
+  bare-block : (m i : ℕ) → (number == m) ≡ false → bare.at (addresses.Block m i) ≡ old.at (addresses.Block m i)
+  bare-block m i other =
+      ap (λ t. cond (t && (w.page == i / 512)) None (old.at (addresses.Block m i))) other
+
+  bare-but : RepresentsBut number bare k
+  bare-but = record {
+    tables = record {
+      table = was.tables.table;
+      exports = was.tables.exports;
+      last_export = was.tables.last_export;
+      mounts = was.tables.mounts;
+    };
+    objects = record {
+      objects = was.objects.objects;
+      links = was.objects.links;
+      parents = was.objects.parents;
+      given = was.objects.given;
+      fits = was.objects.fits;
+      spent = was.objects.spent;
+      numbered = was.objects.numbered;
+    };
+    files = record {
+      blocks = λ m other. record {
+        maps = λ page. subst (IsMapped (has (pages_of (old.at (addresses.Inode m))) page)) (sym (bare-map m page other))
+            ((was.files.blocks m).maps page);
+        blocks = λ i. subst (λ o. IsStored (has (map_of o) (i % 512)) (bare.at (addresses.Block m i)))
+            (sym (bare-map m (i / 512) other))
+            (subst (IsStored (has (map_of (old.at (addresses.Map m (i / 512)))) (i % 512)))
+            (sym (bare-block m i other)) ((was.files.blocks m).blocks i));
+      };
+      bytes = λ m i map other there is.
+          subst (λ (f : ℕ → List ℕ). IsContent map.size f (bytes_at k.state m))
+          (λ p b. filed_in map b (sym (bare-block m b other) p)) (was.files.bytes m i map there is);
+    };
+    directories = λ m other. record {
+      entries = (was.directories m).entries;
+      holds = bare-entries m (entry_map_of (old.at (addresses.Inode m))) (was.directories m).entries
+          (was.directories m).holds;
+      lives = (was.directories m).lives;
+    };
+    usages = record { usage = was.usages.usage };
+    locks = record {
+      held = was.locks.held;
+      pending = was.locks.pending;
+      spent = was.locks.spent;
+      stored = was.locks.stored;
+      placed = λ index. bare-placed index (bucket_there old index).files (was.locks.placed index);
+    };
+  }
+    where
+      bare-entries : (m : ℕ) (map : Option EntryMap) (entries : List Entry) → HoldsEntries old m map entries →
+          HoldsEntries bare m map entries
+      bare-entries m None entries holds = holds
+      bare-entries m (Some map) entries holds = record {
+        once = holds.once;
+        buckets = holds.buckets;
+        listed = holds.listed;
+        pages = holds.pages;
+        counted = holds.counted;
+        parts = holds.parts;
+      }
+
+      bare-placed : (index : ℕ) (fs : List LockedValue) → AllByRecursion (IsPlaced old index) fs →
+          AllByRecursion (IsPlaced bare index) fs
+      bare-placed index [] all = tt
+      bare-placed index (f ∷ fs) all = (
+        record {
+          bucket = all.0.bucket;
+          inode = all.0.inode;
+          stands = all.0.stands;
+          regular = all.0.regular;
+          export = all.0.export;
+        },
+        bare-placed index fs all.1,
+      )
+
+  abbrev left : FileMapValue
+  left = record may.map { pages = may.pages }
+
+  lost-one : (b : Bool) → (b && not true) ≡ false
+  lost-one true = refl
+  lost-one false = refl
+
+  kept-one : (b : Bool) → (b && not false) ≡ b
+  kept-one true = refl
+  kept-one false = refl
+
+  and-second : (a b : Bool) → (a && b) ≡ true → b ≡ true
+  and-second true b both = both
+  and-second false b both = cc
+
+  had-pages : pages_of (old.at (addresses.Inode number)) ≡ may.map.pages
+  had-pages = ap pages_of may.stands ∙ ap (λ c. pages_of (Some (stored.Inode (record may.old { content = c }))))
+      may.regular
+
+  -- of the file itself the page is not there any more
+  page-gone : (page : ℕ) → (w.page == page) ≡ true → bare.at (addresses.Map number page) ≡ None
+  page-gone page same =
+      (λ j. cond (is-itself number j && same j) None (old.at (addresses.Map number page)))
+
+  block-gone : (i : ℕ) → (w.page == i / 512) ≡ true → bare.at (addresses.Block number i) ≡ None
+  block-gone i same = (λ j. cond (is-itself number j && same j) None (old.at (addresses.Block number i)))
+
+  map-stays : (page : ℕ) → (w.page == page) ≡ false → bare.at (addresses.Map number page) ≡
+      old.at (addresses.Map number page)
+  map-stays page other = (λ j. cond (is-itself number j && other j) None (old.at (addresses.Map number page)))
+
+  block-stays : (i : ℕ) → (w.page == i / 512) ≡ false → bare.at (addresses.Block number i) ≡
+      old.at (addresses.Block number i)
+  block-stays i other = (λ j. cond (is-itself number j && other j) None (old.at (addresses.Block number i)))
+
+  left-blocks : HasBlocks bare number left.pages
+  left-blocks = record {
+    maps = λ page. elim (w.page == page) as (λ b. (w.page == page) ≡ b →
+        IsMapped (has may.pages page) (bare.at (addresses.Map number page))) [
+          | true ↦ λ same. subst (λ b. IsMapped b (bare.at (addresses.Map number page)))
+              (sym (may.lost page ∙ ap (λ b. has may.map.pages page && not b) same ∙ lost-one (has may.map.pages page)))
+              (page-gone page same)
+          | false ↦ λ other. subst (λ b. IsMapped b (bare.at (addresses.Map number page)))
+              (sym (may.lost page ∙ ap (λ b. has may.map.pages page && not b) other ∙ kept-one (has may.map.pages page)
+              ∙ ap (λ (x : Bits). has x page) (sym had-pages)))
+              (subst (IsMapped (has (pages_of (old.at (addresses.Inode number))) page)) (sym (map-stays page other))
+              ((was.files.blocks number).maps page))
+        ] refl;
+    blocks = λ i. elim (w.page == i / 512) as (λ b. (w.page == i / 512) ≡ b →
+        IsStored (has (map_of (bare.at (addresses.Map number (i / 512)))) (i % 512))
+        (bare.at (addresses.Block number i))) [
+          | true ↦ λ same. subst (λ b. IsStored b (bare.at (addresses.Block number i)))
+              (sym (ap (λ o. has (map_of o) (i % 512)) (page-gone (i / 512) same) ∙ has-none (i % 512)))
+              (block-gone i same)
+          | false ↦ λ other. subst (λ o. IsStored (has (map_of o) (i % 512)) (bare.at (addresses.Block number i)))
+              (sym (map-stays (i / 512) other))
+              (subst (IsStored (has (map_of (old.at (addresses.Map number (i / 512)))) (i % 512)))
+              (sym (block-stays i other)) ((was.files.blocks number).blocks i))
+        ] refl;
+  }
+
+  -- its blocks counted as zeros, and do so still
+  same-filed : (i : ℕ) → filed_in may.map i (old.at (addresses.Block number i)) ≡
+      filed_in left i (bare.at (addresses.Block number i))
+  same-filed i = elim (w.page == i / 512) as (λ b. (w.page == i / 512) ≡ b →
+      filed_in may.map i (old.at (addresses.Block number i)) ≡ filed_in left i (bare.at (addresses.Block number i))) [
+        | true ↦ λ same.
+            (let on : has may.map.remains (i / 512) ≡ true =
+            ap (has may.map.remains) (sym (same-number w.page (i / 512) same))
+            ∙ and-second (has may.map.pages w.page) (has may.map.remains w.page) may.there in
+            ap (λ t. cond t [] (stored_in (old.at (addresses.Block number i)))) on
+            ∙ sym (ap (λ t. cond t [] (stored_in (bare.at (addresses.Block number i)))) on))
+        | false ↦ λ other. ap (filed_in may.map i) (sym (block-stays i other))
+      ] refl
+
+  alive : lives_in k.state.exports may.old.export ≡ true
+  alive = ap (λ es. lives_in es may.old.export) was.tables.exports ∙ may.export
+
+  living : inode_there old k.state.exports number ≡ Some may.old
+  living = ap (inode_in k.state.exports) may.stands ∙ ap (λ b. cond b (Some may.old) None) alive
+
+  left-content : IsContent left.size (λ b. filed_in left b (bare.at (addresses.Block number b)))
+      (bytes_at k.state number)
+  left-content = subst (λ (f : ℕ → List ℕ). IsContent may.map.size f (bytes_at k.state number))
+      (λ p b. same-filed b p)
+      (was.files.bytes number may.old may.map living (ap map_in may.regular))
+
+  no-entries-there : HoldsEntries bare number None (entries_at k.state number)
+  no-entries-there = by (entry_map_of (old.at (addresses.Inode number))) none (was.directories number).entries
+      (was.directories number).holds
+    where
+      none : entry_map_of (old.at (addresses.Inode number)) ≡ None
+      none = ap entry_map_of may.stands ∙ ap entry_map_in may.regular
+
+      by : (map : Option EntryMap) → map ≡ None → (entries : List Entry) → HoldsEntries old number map entries →
+          HoldsEntries bare number None (entries_at k.state number)
+      by None is entries holds = holds
+      by (Some map) is entries holds = absurd (let no : Some map ≡ None = is in cc)
+
+  module _ (new : Store) (changed : (a : Addr) → new.at a ≡ swept_at w old.at a)
+      (given : (n : ℕ) → new.last n ≡ old.last n) where
+    abbrev put : Store
+    put = with_write bare (addresses.Inode number) (inode_left may.old left)
+
+    -- the new store is this, address by address
+    put-at : (a : Addr) → new.at a ≡ put.at a
+    put-at a = changed a ∙ by (is_addr (addresses.Inode number) a) refl
+        ∙ ap (λ o. cond (is_addr (addresses.Inode number) a) o (bare.at a)) may.left
+      where
+        by : (b : Bool) → is_addr (addresses.Inode number) a ≡ b →
+            cond (is_of_page number w.page a) None (cond b w.inode (old.at a)) ≡
+            cond b w.inode (cond (is_of_page number w.page a) None (old.at a))
+        by false other = refl
+        by true same =
+            ap (λ t. cond t None w.inode) (subst (λ c. is_of_page number w.page c ≡ false)
+            (is_addr-same (addresses.Inode number) a same) refl)
+
+    put-last : (n : ℕ) → new.last n ≡ put.last n
+    put-last n = given n ∙ sym (by (number == n) refl)
+      where
+        by : (b : Bool) → (number == n) ≡ b →
+            cond b (max (old.last n) may.old.generation) (old.last n) ≡ old.last n
+        by true same =
+            (let fits = was.objects.given number may.old may.stands in
+            let is : may.old.generation ≤ old.last n =
+            subst (λ m. may.old.generation ≤ old.last m) (same-number number n same) fits in omega (arith, is))
+        by false other = refl
+
+    pub remains-swept : Represents new k
+    remains-swept = subst (λ (x : Store). Represents x k)
+        (λ j. record { at = λ a. sym (put-at a) j; last = λ n. sym (put-last n) j })
+        (refiled bare k number may.old may.map left bare-but may.stands may.regular refl alive left-blocks left-content
+        no-entries-there)
+
+-- either
+pub swept-stands : (old new : Store) (w : SweepValue) → Sweeps old new w → (k : StoreMeaning) → Represents old k →
+    Represents new k
+swept-stands old new w sweeps k was = by sweeps.may
+  where
+    by : IsDeadPage old w ⊎ IsRemainsPage old w → Represents new k
+    by (inl may) = dead-swept old new w may sweeps.at sweeps.last k was
+    by (inr may) = remains-swept old w may k was new sweeps.at sweeps.last

@@ -1,5 +1,5 @@
 -- Slots after a write, and those in which nothing is kept.
-use Rattle.std.proofs.Common.{◌≡◌, ℕ, ◌+◌, ◌<◌, ◌≤◌, ◌==◌, ◌&&◌, ◌||◌, not, Bool, true, false, cond, max, List, ◌∷◌}
+use Rattle.std.proofs.Common.{◌≡◌, ℕ, ◌+◌, ◌<◌, ◌≤◌, ◌==◌, ◌&&◌, ◌||◌, not, Bool, true, false, cond, max, List, [], ◌∷◌}
 use Rattle.std.proofs.Common.{drop, get_or, length, map, suc, Option, Some, None, IsSome, is_some, option_map}
 use Rattle.std.proofs.Common.{unwrap_or, true≢false}
 use Rattle.std.proofs.Common.{refl, sym, ◌∙◌, ap, subst, arith}
@@ -24,7 +24,7 @@ use Rattle.nfs_engine.proofs.StandingCountLemmas.{given-some}
 use Rattle.nfs_engine.proofs.StoreWriteLemmas.{filled_store, gone-as, gone_store}
 use Rattle.nfs_engine.specs.Found.{Changes, found}
 use Rattle.nfs_engine.specs.Standing.{HasObjects}
-use Rattle.nfs_engine.specs.Tables.{IsTidyBut, KeepsSlots, KeptValue, Puts, TakesOutIdle, empty_kept, filled}
+use Rattle.nfs_engine.specs.Tables.{IsTidy, IsTidyBut, KeepsSlots, KeptValue, Puts, TakesOutIdle, empty_kept, filled}
 use Rattle.nfs_engine.specs.Tables.{generation_in, idle_at, is_idle, is_taken, kept_at, kept_value, needs_slot}
 use Rattle.nfs_engine.specs.Tables.{slots_needed, store_of}
 use Rattle.nfs_engine.specs.Tables.{takes_from}
@@ -203,10 +203,26 @@ pub record Installing (initial now : Slots) (free standing : ℕ) (all rest : Wr
   pub among : (a : Addr) → is_taken rest a ≡ true → is_taken all a ≡ true
   pub tidy : IsTidyBut now all
 
+pub installing-none : (initial : Slots) (room standing : ℕ) (all : Writes) → slots_needed initial all ≤ room →
+    HasObjects (store_of initial) standing → IsTidy initial → Installing initial initial room standing all all
+installing-none initial room standing all enough has tidy = record {
+  same = refl;
+  room = enough;
+  count = has;
+  among = λ a taken. taken;
+  tidy = λ a apart. tidy a;
+}
+
 module _ (initial now : Slots) (room standing : ℕ) (all rest left : Writes) (w : Addr × Option Object)
     (i : Installing initial now room standing all rest) (is : rest ≡ w ∷ left) where
   counted : slots_needed now rest ≡ cond (needs_slot now w) 1 0 + slots_needed now left
   counted = ap (slots_needed now) is ∙ needed-cons now w left
+
+  -- there is room for the next one
+  pub installing-next : needs_slot now w ≡ true → 0 < room
+  installing-next needs =
+      let one : ◌≡◌ {A = ℕ} (cond (needs_slot now w) 1 0) 1 = ap (λ b. cond b 1 0) needs in
+      omega (arith, i.room, counted, one)
 
   taken-first : (a : Addr) → takes_from a w ≡ true → is_taken all a ≡ true
   taken-first a takes = i.among a (ap (λ (ws : Writes). is_taken ws a) is ∙ ap (λ t. t || is_taken left a) takes)
@@ -228,6 +244,10 @@ module _ (initial now : Slots) (room standing : ℕ) (all rest left : Writes) (w
         ∙ or-true (takes_from a w));
     tidy = puts-tidy now next w puts all taken-first i.tidy;
   }
+
+pub installed-store : (initial now : Slots) (room standing : ℕ) (all rest : Writes) →
+    Installing initial now room standing all rest → rest ≡ [] → store_of now ≡ with_writes (store_of initial) all
+installed-store initial now room standing all rest i none = ap (with_writes (store_of now)) (sym none) ∙ i.same
 
 -- ---- slots in which nothing is kept
 module _ (old new : Slots) (w : Addr × Option Object) (out : TakesOutIdle old new w) where

@@ -9,7 +9,7 @@ use Rattle.std.specs.List.{AllByRecursion}
 use Rattle.std.specs.declared.alloc.Global.{Global}
 use Rattle.std.specs.declared.sync.Arc.{Arc}
 use Rattle.std.proofs.lemmas.List.{drop-set, drop_all, drop_more, get_or-set_same, length-map, length-set, map-append}
-use Rattle.std.proofs.lemmas.List.{map-set, take_more, take_more_set}
+use Rattle.std.proofs.lemmas.List.{map-set, take_all, take_more, take_more_set}
 use Rattle.nfs_objects.proofs.SeenLemmas.{is_addr-same}
 use Rattle.nfs_objects.specs.Values.{Seen, is_addr, seen_at, write_value, written_at}
 use Rattle.nfs_objects.specs.declared.address.Addr.{Addr}
@@ -193,6 +193,10 @@ module _ (initial now : ShardValue) (which : ℕ) (all left : Writes) (i : ℕ) 
     next_generation = m.next_generation;
     index = m.index;
   }
+
+  pub all_spent : left ≡ map (spent_in which) all
+  all_spent = sym (take_all i left (let same = m.same in omega arith)) ∙ m.front
+      ∙ ap (map (spent_in which)) (take_all i all over)
 
 -- the writes are made, and what was read is let go
 pub settles : (old mid new : ShardValue) (which id : ℕ) (es : List Seen) (ws : Writes) → Makes old mid which ws →

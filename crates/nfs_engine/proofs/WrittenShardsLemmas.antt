@@ -21,6 +21,10 @@ written_last (v ∷ ws) w k = ap (λ t. (shard_of v.0 == k) || t) (written_last 
     associates : (a b c : Bool) → (a || (b || c)) ≡ ((a || b) || c)
     associates a b c = elim a as (λ a. (a || (b || c)) ≡ ((a || b) || c)) [ true ↦ refl | false ↦ refl ]
 
+pub places_none : (written : List Bool) → length written ≡ 16 → ((k : ℕ) → get_or written k false ≡
+    false) → ArePlaces [] written
+places_none written sixteen none = record { sixteen = sixteen; are = none }
+
 -- one more write
 pub places_more : (ws : List (Addr × Option Object)) (w : Addr × Option Object) (written : List Bool) (i : ℕ) →
     ArePlaces ws written → i ≡ shard_of w.0 → i < length written → ArePlaces (ws ++ w ∷ [])

@@ -14,7 +14,13 @@ candidate_value r = record {
   reading = readings.Asks (record { xid = r.xid; ids = r.ctx.ids; call = r.call });
 }
 
--- it asks this, under who sent it and when, and this is what a repeat of it would come with
+-- it asks this, under who sent it and when
+pub record IsAskedSo (r : Request) : Type 0 where
+  pub arrival : IsArrival (candidate_value r)
+  pub host : r.ctx.host ≡ host_in (incoming_value r.received)
+  pub moment : r.ctx.moment ≡ moment_in (incoming_value r.received)
+
+-- and this is what a repeat of it would come with
 pub record IsCandidate (r : Request) (origin : Option Origin) : Type 0 where
   pub arrival : IsArrival (candidate_value r)
   pub host : r.ctx.host ≡ host_in (incoming_value r.received)

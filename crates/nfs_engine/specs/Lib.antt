@@ -6,6 +6,7 @@ pub mod Book
 pub mod Bounds
 pub mod Built
 pub mod Calls
+pub mod Came
 pub mod Candidates
 pub mod Clearing
 pub mod Commits

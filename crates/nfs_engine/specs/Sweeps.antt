@@ -1,5 +1,6 @@
--- Sweeps: what a dead file leaves in the store goes page by page.
-use Rattle.std.specs.Prelude.{◌≡◌, ℕ, ◌/◌, ◌%◌, ◌==◌, ◌&&◌, not, Bool, true, false, Option, Some, None, IsSome}
+-- Sweeps: what a dead file leaves in the store goes page by page, and so do the remains of others.
+use Rattle.std.specs.Prelude.{◌≡◌, ◌⊎◌, ℕ, ◌/◌, ◌%◌, ◌==◌, ◌&&◌, not, Bool, true, false, Option, Some, None}
+use Rattle.std.specs.Prelude.{IsSome}
 use Rattle.std.specs.Prelude.{if◌then◌else◌}
 use Rattle.std.specs.Bool.{Decides}
 use Rattle.nlm_ranges.specs.Buckets.{bucket_count, file_in}
@@ -38,13 +39,16 @@ pub record IsDead (s : Store) (n : ℕ) (i : Inode) : Type 0 where
   pub export : lives_in (exports_of (s.at addresses.Exports)) i.export ≡ false
   pub unlocked : file_in (bucket_there s (n % bucket_count)) n ≡ None
 
--- the inode of a file with these map pages; nothing where there are none
-abbrev pub inode_with : Inode → FileMapValue → Option Object
-inode_with i map = if same_bits map.pages no_bits then None
-    else Some (stored.Inode (record i { content = contents.Regular map }))
+-- the inode of a file with these map pages
+abbrev pub inode_left : Inode → FileMapValue → Option Object
+inode_left i map = Some (stored.Inode (record i { content = contents.Regular map }))
 
--- what may go: a page of a dead file, whose inode loses it
-pub record MaySweep (s : Store) (w : SweepValue) : Type 0 where
+-- the same; nothing where there are none
+abbrev pub inode_with : Inode → FileMapValue → Option Object
+inode_with i map = if same_bits map.pages no_bits then None else inode_left i map
+
+-- a page of a dead file, whose inode loses it
+pub record IsDeadPage (s : Store) (w : SweepValue) : Type 0 where
   pub old : Inode
   pub dead : IsDead s w.file old
   pub map : FileMapValue
@@ -52,6 +56,22 @@ pub record MaySweep (s : Store) (w : SweepValue) : Type 0 where
   pub pages : Bits
   pub lost : (page : ℕ) → has pages page ≡ (has map.pages page && not (w.page == page))
   pub left : w.inode ≡ inode_with old (record map { pages = pages })
+
+-- a page of a living file whose blocks are remains: its inode loses it, and stays
+pub record IsRemainsPage (s : Store) (w : SweepValue) : Type 0 where
+  pub old : Inode
+  pub stands : s.at (addresses.Inode w.file) ≡ Some (stored.Inode old)
+  pub export : lives_in (exports_of (s.at addresses.Exports)) old.export ≡ true
+  pub map : FileMapValue
+  pub regular : old.content ≡ contents.Regular map
+  pub there : (has map.pages w.page && has map.remains w.page) ≡ true
+  pub pages : Bits
+  pub lost : (page : ℕ) → has pages page ≡ (has map.pages page && not (w.page == page))
+  pub left : w.inode ≡ inode_left old (record map { pages = pages })
+
+-- what may go: either
+abbrev pub MaySweep : Store → SweepValue → Type 0
+MaySweep s w = IsDeadPage s w ⊎ IsRemainsPage s w
 
 -- it went, and nothing else changed
 pub record Sweeps (old new : Store) (w : SweepValue) : Type 0 where

@@ -1,18 +1,21 @@
 //! What came in: records, and exports that replace those before; and what is kept of what was executed.
 
-ghost use Rattle.std.specs.Prelude.{◌≡◌, ◌-◌, ◌^◌, IfOk, OnErr, min};
+ghost use Rattle.std.specs.Prelude.{◌≡◌, ◌-◌, ◌^◌, IfOk, MatchResult, OnErr, min};
 ghost use Rattle.nfs_machine.specs.Run.{FromHost, NewExports, host_in, moment_in, no_ids};
 ghost use Rattle.nfs_engine.specs.Arrivals.{IsArrival, IsDropped, HostIsNamed, incoming_value, received_value};
 ghost use Rattle.nfs_engine.specs.Asked.{IsAskedBy};
+ghost use Rattle.nfs_engine.specs.Came.{IsCame, came_value};
 ghost use Rattle.nfs_engine.specs.Commits.{arrival_bytes};
 ghost use Rattle.nfs_engine.specs.Repeats.{origin_in};
 
+use crate::admission::Faulted;
 use crate::answers;
 use crate::asking::{Asked, Unasked, read_record};
 use crate::host::Host;
 use crate::lengths::exports_size;
+use crate::request::Request;
 use bytes::Bytes;
-use nfs_machine::{Call, Exports, Moment, Reply};
+use nfs_machine::{Call, Ctx, Exports, Limits, Moment, Reply};
 use nfs_replies::{Hashed, Origin, RecordKey};
 use nfs_rpc::{Gids, Ids, Record};
 use side_wire::Message;
@@ -130,21 +133,30 @@ pub enum Reading {
     Faulted(Option<Vec<u8>>),
 }
 
-/// What came in, with what it is. Its type keeps that a record was read so.
+/// What came in, with what it is. Its type keeps that a record was read so. A call has one place from here to its end.
 #[derive(Drop)]
 pub struct Arrival {
-    received: Incoming,
-    reading: Reading,
+    came: Came,
+}
+
+/// What came in, as what it is.
+#[derive(Drop)]
+enum Came {
+    /// It asks a call.
+    Call(Box<Request>),
+    /// It is a record with a fault, and this is the answer; None where the record is dropped.
+    Faulted(Incoming, Option<Vec<u8>>),
 }
 
 impl Model for Arrival {
-    ghost use Rattle.nfs_engine.specs.Arrivals.{ArrivalValue, IsArrival, incoming_value};
+    ghost use Rattle.nfs_engine.specs.Arrivals.{ArrivalValue};
+    ghost use Rattle.nfs_engine.specs.Came.{IsCame, came_value};
 
     ghost Value = { ArrivalValue };
 
-    ghost view = { λ a. record { received = incoming_value a.received; reading = a.reading } };
+    ghost view = { λ a. came_value a.came };
 
-    ghost invariant = { λ a. IsArrival (record { received = incoming_value a.received; reading = a.reading }) };
+    ghost invariant = { λ a. IsCame a.came };
 }
 
 impl Arrival {
@@ -152,8 +164,8 @@ impl Arrival {
     ///
     /// # Errors
     ///
-    /// There is no memory to share its arguments' bytes, or for the answer. A record that is dropped, as it is a reply
-    /// or cut short (RFC 5531, 9), wants none.
+    /// There is no memory to share its arguments' bytes, for the call that it asks, or for the answer. A record that is
+    /// dropped, as it is a reply or cut short (RFC 5531, 9), wants none.
     #[inline(always)]
     pub fn read(
         alloc: Global,
@@ -167,27 +179,33 @@ impl Arrival {
     {
         // It brings that the host has 1 to 255 bytes.
         host.text();
-        let reading = match read_record(&message) {
-            Ok(asked) => Reading::Asks(asked),
-            Err(Unasked::Early(fault)) => Reading::Faulted(answers::early(alloc, fault)?),
-            Err(Unasked::Memory) => return Err(AllocError),
-        };
-        Ok(Arrival {
-            received: Incoming::Record(Received {
-                host,
-                message,
-                moment,
-            }),
-            reading,
-        })
+        let reading = read_record(&message);
+        let received = Incoming::Record(Received {
+            host,
+            message,
+            moment,
+        });
+        match reading {
+            Ok(asked) => {
+                let arrival = Arrival::of_call(alloc, received, asked)?;
+                Ok(arrival)
+            }
+            Err(Unasked::Early(fault)) => {
+                let answer = answers::early(alloc, fault)?;
+                Ok(Arrival {
+                    came: Came::Faulted(received, answer),
+                })
+            }
+            Err(Unasked::Memory) => Err(AllocError),
+        }
     }
 
     /// The arrival of exports, which replace those before. It asks for that, and nobody is answered.
     ///
     /// # Errors
     ///
-    /// There is no memory for one more owner of their list.
-    pub fn exports(exports: Exports, moment: Moment) -> Result<Arrival, AllocError>
+    /// There is no memory for one more owner of their list, or for the call.
+    pub fn exports(alloc: Global, exports: Exports, moment: Moment) -> Result<Arrival, AllocError>
         ensures { IfOk result (λ a. a ≡ record {
           received = NewExports exports moment;
           reading = Reading.Asks (record { xid = 0; ids = no_ids; call = Call.Replace exports });
@@ -202,21 +220,60 @@ impl Arrival {
             },
             call: Call::Replace(exports.clone()?),
         };
-        Ok(Arrival {
-            received: Incoming::Exports(exports, moment),
-            reading: Reading::Asks(asked),
-        })
+        let arrival = Arrival::of_call(alloc, Incoming::Exports(exports, moment), asked)?;
+        Ok(arrival)
     }
 
     /// The arrival of what asks this.
-    pub(crate) fn asking(received: Incoming, asked: Asked) -> Arrival
+    ///
+    /// # Errors
+    ///
+    /// There is no memory for the call, or for one more owner of the host's name.
+    #[inline(always)]
+    fn of_call(alloc: Global, received: Incoming, asked: Asked) -> Result<Arrival, AllocError>
         requires { IsAskedBy (incoming_value received) asked }
-        ensures { result ≡ record { received = incoming_value received; reading = Reading.Asks asked } }
+        ensures { IfOk result (λ a. a ≡ record { received = incoming_value received; reading = Reading.Asks asked }) }
     {
         received.host_is_named();
-        Arrival {
+        let Ok(host) = received.host() else {
+            drop(asked);
+            drop(received);
+            return Err(AllocError);
+        };
+        let moment = received.moment();
+        let Asked { xid, ids, call } = asked;
+        let ctx = Ctx {
+            host,
+            ids,
+            moment,
+            start: 0,
+            limits: Limits {
+                total_bytes: 0,
+                name_key: [0; 16],
+            },
+        };
+        let request = Request {
             received,
-            reading: Reading::Asks(asked),
+            xid,
+            call,
+            ctx,
+        };
+        match Box::new(alloc, request) {
+            Ok(request) => Ok(Arrival::asking(request)),
+            Err(refused) => {
+                drop(refused);
+                Err(AllocError)
+            }
+        }
+    }
+
+    /// The arrival of what asks the call that has this place.
+    pub(crate) fn asking(request: Box<Request>) -> Arrival
+        requires { IsCame (Came.Call request) }
+        ensures { result ≡ came_value (Came.Call request) }
+    {
+        Arrival {
+            came: Came::Call(request),
         }
     }
 
@@ -224,15 +281,20 @@ impl Arrival {
     pub fn received(&self) -> &Incoming
         ensures { incoming_value result.now ≡ self.now.received }
     {
-        &self.received
+        match &self.came {
+            Came::Call(request) => &request.received,
+            Came::Faulted(received, _) => received,
+        }
     }
 
-    /// What it is.
-    pub fn reading(&self) -> &Reading
-        ensures reading { result.now ≡ self.now.reading }
-        ensures arrival { IsArrival self.now }
+    /// It is what the record was read as.
+    pub fn show_read(&self)
+        ensures { IsArrival self.now }
     {
-        &self.reading
+        match &self.came {
+            Came::Call(_) => (),
+            Came::Faulted(..) => (),
+        }
     }
 
     /// What came in, and what it is.
@@ -241,7 +303,25 @@ impl Arrival {
         ensures reading { result.1 ≡ self.reading }
         ensures arrival { IsArrival self }
     {
-        (self.received, self.reading)
+        match self.came {
+            Came::Call(request) => {
+                let (received, asked) = Box::into_inner(request).into_parts();
+                (received, Reading::Asks(asked))
+            }
+            Came::Faulted(received, answer) => (received, Reading::Faulted(answer)),
+        }
+    }
+
+    /// What came in, with the place of the call that it asks; or the record with its fault.
+    #[inline(always)]
+    pub(crate) fn into_came(self) -> Result<Box<Request>, Faulted>
+        ensures { MatchResult result (λ request. (self ≡ came_value (Came.Call request)) × IsCame (Came.Call request))
+            (λ faulted. self ≡ came_value (Came.Faulted faulted.received faulted.answer)) }
+    {
+        match self.came {
+            Came::Call(request) => Ok(request),
+            Came::Faulted(received, answer) => Err(Faulted { received, answer }),
+        }
     }
 }
 

@@ -6,11 +6,11 @@ ghost use Rattle.std.specs.Prelude.{slice_get};
 ghost use Rattle.std.specs.Arc.{arc_value};
 ghost use Rattle.std.specs.Bool.{Decides};
 ghost use Rattle.std.specs.List.{AllByRecursion};
-ghost use Rattle.nfs_engine.specs.Arrivals.{received_value, shared_value};
-ghost use Rattle.nfs_engine.specs.Asked.{IsAsked};
+ghost use Rattle.nfs_engine.specs.Arrivals.{shared_value};
 ghost use Rattle.nfs_engine.specs.Book.{Admits, Commits, GivesUp, IsNoRepeat, IsRun, IsWant, LeadsBook, MayCommit};
 ghost use Rattle.nfs_engine.specs.Book.{Rebases, Recalls, Steps, TakesEra, TakesMessage, is_full, store_in};
 ghost use Rattle.nfs_engine.specs.Calls.{IsUnder};
+ghost use Rattle.nfs_engine.specs.Candidates.{IsAskedSo, candidate_value};
 ghost use Rattle.nfs_engine.specs.Commits.{IsReceipt, Leaves};
 ghost use Rattle.nfs_engine.specs.Opening.{IsStartError, Opens, no_store};
 ghost use Rattle.nfs_engine.specs.Repeats.{Keeps, NoneIsKept, origin_of};
@@ -22,12 +22,11 @@ ghost use Rattle.nfs_objects.specs.Store.{with_writes};
 ghost use Rattle.nfs_objects.specs.Values.{write_value};
 ghost use Rattle.nfs_machine.specs.Changing.{is_changing};
 ghost use Rattle.nfs_machine.specs.RpcReplies.{success_message};
-ghost use Rattle.nfs_machine.specs.Run.{FromHost};
 ghost use Rattle.nfs_engine.specs.declared.arrival.Reading.TheVariants as readings;
+ghost use Rattle.nfs_engine.specs.declared.asking.Asked.{Asked};
 
 use crate::admission::{Admission, Refused};
-use crate::arrival::{Arrival, Executed, Incoming, Reading, Received};
-use crate::asking::Asked;
+use crate::arrival::{Arrival, Executed, Incoming};
 use crate::calls::{Finished, Pending, Txn};
 use crate::candidate::{Candidate, Prepared};
 use crate::journal::{Committed, Journal};
@@ -36,6 +35,7 @@ use crate::objects::Objects;
 use crate::opening::{Config, StartError, is_limit, opening_writes};
 use crate::outbox::Posted;
 use crate::records::Era;
+use crate::request::Request;
 use crate::running::{AdmitError, CallSlot, Calls};
 use crate::sweeping::Sweep;
 use bytes::Bytes;
@@ -161,7 +161,7 @@ impl Book {
     ) -> Result<Admission, (AdmitError, Arrival)>
         ensures { Admits self.old self.new arrival result }
     {
-        match arrival.prepare(alloc, self.record_key()) {
+        match arrival.prepare(self.record_key()) {
             Ok(Prepared::Call(candidate)) => self.admit_call(alloc, candidate),
             Ok(Prepared::Early(faulted)) => Ok(Admission::Early(faulted)),
             Err(arrival) => self.turn_away(arrival),
@@ -202,57 +202,45 @@ impl Book {
         requires { (asked : Asked) × (arrival.reading ≡ readings.Asks asked) }
         ensures { Admits self.old self.new arrival result }
     {
-        let (received, reading) = arrival.into_parts();
-        match reading {
-            Reading::Asks(asked) => match received {
-                Incoming::Record(received) => self.turn_record_away(received, asked),
-                Incoming::Exports(..) => Err((self.want(), Arrival::asking(received, asked))),
-            },
-            Reading::Faulted(_) => unreachable!(),
+        match arrival.into_came() {
+            Ok(request) => self.turn_call_away(request),
+            Err(_) => unreachable!(),
         }
     }
 
-    /// The same of a record.
-    fn turn_record_away(
-        &mut self,
-        received: Received,
-        asked: Asked,
-    ) -> Result<Admission, (AdmitError, Arrival)>
-        requires { IsAsked (received_value received).bytes asked }
-        ensures { Admits self.old self.new
-            (record { received = FromHost (received_value received); reading = readings.Asks asked }) result }
+    /// The same of the call that has its box.
+    fn turn_call_away(&mut self, request: Box<Request>) -> Result<Admission, (AdmitError, Arrival)>
+        requires { IsAskedSo request.value }
+        ensures { Admits self.old self.new (candidate_value request.value) result }
     {
-        if !asked.call.is_changing() {
-            return Err((
-                self.want(),
-                Arrival::asking(Incoming::Record(received), asked),
-            ));
+        if !request.call.is_changing() {
+            return Err((self.want(), Arrival::asking(request)));
         }
-        self.turn_change_away(received, asked)
+        self.turn_change_away(request)
     }
 
-    /// The same of a record that asks a call that changes something.
+    /// The same of a call that changes something.
     fn turn_change_away(
         &mut self,
-        received: Received,
-        asked: Asked,
+        request: Box<Request>,
     ) -> Result<Admission, (AdmitError, Arrival)>
-        requires asked { IsAsked (received_value received).bytes asked }
-        requires changes { is_changing asked.call ≡ true }
-        ensures { Admits self.old self.new
-            (record { received = FromHost (received_value received); reading = readings.Asks asked }) result }
+        requires asked { IsAskedSo request.value }
+        requires changes { is_changing request.value.call ≡ true }
+        ensures { Admits self.old self.new (candidate_value request.value) result }
     {
+        let Incoming::Record(received) = &request.received else {
+            return Err((self.want(), Arrival::asking(request)));
+        };
         let sought = HashedRef::new(self.record_key(), &received.message);
-        let recalled = self.recall(received.host.text(), sought);
-        let received = Incoming::Record(received);
-        match recalled {
+        match self.recall(received.host.text(), sought) {
             Ok(Recalled::Kept(reply)) => {
+                let (received, asked) = Box::into_inner(request).into_parts();
                 drop(asked);
                 Ok(Admission::Repeat(Kept::new(received, reply)))
             }
-            Ok(Recalled::Running) => Ok(Admission::Running(Arrival::asking(received, asked))),
-            Ok(Recalled::Unknown) => Err((self.want(), Arrival::asking(received, asked))),
-            Err(AllocError) => Err((AdmitError::Memory, Arrival::asking(received, asked))),
+            Ok(Recalled::Running) => Ok(Admission::Running(Arrival::asking(request))),
+            Ok(Recalled::Unknown) => Err((self.want(), Arrival::asking(request))),
+            Err(AllocError) => Err((AdmitError::Memory, Arrival::asking(request))),
         }
     }
 
@@ -302,10 +290,7 @@ impl Book {
                 request,
                 view: View::new(alloc),
             })),
-            Err(error) => {
-                let (received, asked) = Box::into_inner(request).into_parts();
-                Err((error, Arrival::asking(received, asked)))
-            }
+            Err(error) => Err((error, Arrival::asking(request))),
         }
     }
 

@@ -1,20 +1,18 @@
 //! What the admission of a call wants, made before it.
 
 ghost use Rattle.std.specs.Prelude.{◌≡◌, IfOk, IfErr};
-ghost use Rattle.nfs_machine.specs.Run.{FromHost, host_in, moment_in};
-ghost use Rattle.nfs_engine.specs.Arrivals.{HostIsNamed, incoming_value, received_value};
-ghost use Rattle.nfs_engine.specs.Asked.{IsAskedBy};
+ghost use Rattle.nfs_machine.specs.Run.{FromHost};
+ghost use Rattle.nfs_engine.specs.Arrivals.{incoming_value, received_value};
 ghost use Rattle.nfs_engine.specs.Book.{Prepares};
+ghost use Rattle.nfs_engine.specs.Candidates.{IsAskedSo, candidate_value};
 ghost use Rattle.nfs_engine.specs.Repeats.{origin_of};
-ghost use Rattle.nfs_engine.specs.declared.arrival.Reading.TheVariants as readings;
 
 use crate::admission::Faulted;
-use crate::arrival::{Arrival, Incoming, Reading, Received};
-use crate::asking::Asked;
+use crate::arrival::{Arrival, Incoming, Received};
 use crate::request::Request;
-use nfs_machine::{Call, Ctx, Limits};
+use nfs_machine::Call;
 use nfs_replies::{Origin, RecordKey};
-use std::alloc::{AllocError, Global};
+use std::alloc::AllocError;
 use std::marker::Model;
 
 /// What came in and asks a call, with all that the call's admission wants. A clause sees it as the arrival.
@@ -51,60 +49,33 @@ impl Arrival {
     ///
     /// # Errors
     ///
-    /// It asks a call, for which there is no memory: the arrival is handed back.
+    /// It asks a call that changes something, and there is no memory for one more owner: the arrival is handed back.
     #[inline(always)]
-    pub fn prepare(self, alloc: Global, key: RecordKey) -> Result<Prepared, Arrival>
+    pub fn prepare(self, key: RecordKey) -> Result<Prepared, Arrival>
         ensures { Prepares self result }
     {
-        let (received, reading) = self.into_parts();
-        match reading {
-            Reading::Asks(asked) => match Candidate::new(alloc, key, received, asked) {
-                Ok(candidate) => Ok(Prepared::Call(candidate)),
-                Err(arrival) => Err(arrival),
-            },
-            Reading::Faulted(answer) => Ok(Prepared::Early(Faulted { received, answer })),
+        match self.into_came() {
+            Ok(request) => Ok(Prepared::Call(Candidate::new(key, request)?)),
+            Err(faulted) => Ok(Prepared::Early(faulted)),
         }
     }
 }
 
 impl Candidate {
-    /// The candidate of what asks this.
+    /// The candidate of the call that has this place.
     ///
     /// # Errors
     ///
-    /// The arrival, where there is no memory for it.
-    fn new(
-        alloc: Global,
-        key: RecordKey,
-        received: Incoming,
-        asked: Asked,
-    ) -> Result<Candidate, Arrival>
-        requires { IsAskedBy (incoming_value received) asked }
-        ensures made { IfOk result (λ candidate. candidate ≡ record {
-          received = incoming_value received;
-          reading = readings.Asks asked;
-        }) }
-        ensures back { IfErr result (λ arrival. arrival ≡ record {
-          received = incoming_value received;
-          reading = readings.Asks asked;
-        }) }
+    /// The arrival, where there is no memory for what a repeat of it would come with.
+    #[inline(always)]
+    fn new(key: RecordKey, request: Box<Request>) -> Result<Candidate, Arrival>
+        requires { IsAskedSo request.value }
+        ensures made { IfOk result (λ candidate. candidate ≡ candidate_value request.value) }
+        ensures back { IfErr result (λ arrival. arrival ≡ candidate_value request.value) }
     {
-        let Ok((origin, ctx)) = beginning(key, &received, &asked) else {
-            return Err(Arrival::asking(received, asked));
-        };
-        let Asked { xid, ids: _, call } = asked;
-        let request = Request {
-            received,
-            xid,
-            call,
-            ctx,
-        };
-        match Box::new(alloc, request) {
-            Ok(request) => Ok(Candidate { request, origin }),
-            Err(refused) => {
-                let (received, asked) = refused.value.into_parts();
-                Err(Arrival::asking(received, asked))
-            }
+        match origin_of(key, &request.received, &request.call) {
+            Ok(origin) => Ok(Candidate { request, origin }),
+            Err(AllocError) => Err(Arrival::asking(request)),
         }
     }
 
@@ -114,8 +85,7 @@ impl Candidate {
     {
         let Candidate { request, origin } = self;
         drop(origin);
-        let (received, asked) = Box::into_inner(request).into_parts();
-        Arrival::asking(received, asked)
+        Arrival::asking(request)
     }
 
     /// What came in.
@@ -128,33 +98,6 @@ impl Candidate {
         drop(asked);
         received
     }
-}
-
-/// What a call came with, if it changes something, and what it is made under. What the server was started with comes at
-/// the admission.
-fn beginning(
-    key: RecordKey,
-    received: &Incoming,
-    asked: &Asked,
-) -> Result<(Option<Origin>, Ctx), AllocError>
-    ensures origin { IfOk result (λ b. b.0 ≡ origin_of (incoming_value received.now) asked.now.call) }
-    ensures host { IfOk result (λ b. b.1.host ≡ host_in (incoming_value received.now)) }
-    ensures ids { IfOk result (λ b. b.1.ids ≡ asked.now.ids) }
-    ensures moment { IfOk result (λ b. b.1.moment ≡ moment_in (incoming_value received.now)) }
-    ensures named { HostIsNamed (incoming_value received.now) }
-{
-    received.host_is_named();
-    let ctx = Ctx {
-        host: received.host()?,
-        ids: asked.ids,
-        moment: received.moment(),
-        start: 0,
-        limits: Limits {
-            total_bytes: 0,
-            name_key: [0; 16],
-        },
-    };
-    Ok((origin_of(key, received, &asked.call)?, ctx))
 }
 
 /// What a call came with, if it changes something.

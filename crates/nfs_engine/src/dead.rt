@@ -1,13 +1,14 @@
-//! Which files may be dead and not yet swept. Who commits notes it.
+//! Which files may be dead or have remains, and are not yet swept. Who commits notes it.
 
-use nfs_objects::{Addr, Object, Write};
+use nfs_objects::{Addr, Content, Object, Write};
 use std::alloc::{AllocError, Global};
 
-/// The numbers of files that may be dead: their last link went, or their export was replaced, and their blocks stand. A
-/// sweep tests whether it is so, and nothing is proved of these numbers.
+/// The numbers of files that may be dead, since their last link went or their export was replaced, and whose blocks
+/// stand; or that may have remains, since they were cut off. A sweep tests whether it is so, and nothing is proved of
+/// these numbers.
 #[derive(Drop)]
 pub struct Dead {
-    /// Files whose last link went.
+    /// Files whose last link went, or that have remains.
     buried: Vec<u64>,
     /// The next one that is looked at since exports were replaced, each up to `end`.
     next: u64,
@@ -38,8 +39,9 @@ impl Dead {
     ///
     /// There is no memory for it.
     pub fn make_room(&mut self, writes: &[Write]) -> Result<(), AllocError> {
-        if writes.iter().any(|write| is_burial(write)) {
-            self.buried.reserve(1)?;
+        let count = writes.iter().filter(|write| leaves_blocks(write)).count();
+        if count > 0 {
+            self.buried.reserve(count)?;
         }
         Ok(())
     }
@@ -48,7 +50,7 @@ impl Dead {
     pub fn note(&mut self, writes: &[Write]) {
         for write in writes {
             match write.address {
-                Addr::Inode(number) => self.note_number(number, is_burial(write)),
+                Addr::Inode(number) => self.note_number(number, leaves_blocks(write)),
                 Addr::Exports => {
                     self.next = 0;
                     self.end = self.above;
@@ -58,10 +60,11 @@ impl Dead {
         }
     }
 
-    /// Notes that an inode was written, and whether it was buried.
-    fn note_number(&mut self, number: u64, is_buried: bool) {
+    /// Notes that an inode was written, and whether it leaves blocks.
+    fn note_number(&mut self, number: u64, leaves: bool) {
         self.above = self.above.max(number.saturating_add(1));
-        if is_buried && self.buried.len() < self.buried.capacity() {
+        let is_noted = self.buried.last().is_some_and(|last| *last == number);
+        if leaves && !is_noted && self.buried.len() < self.buried.capacity() {
             self.buried.push_reserved(number);
         }
     }
@@ -89,10 +92,18 @@ impl Dead {
     }
 }
 
-/// Whether a write puts an inode that has no export: its last link went, and its blocks stand.
-fn is_burial(write: &Write) -> bool {
+/// Whether a write puts an inode that leaves blocks: it has no export, since its last link went, or it has remains.
+fn leaves_blocks(write: &Write) -> bool {
     match write.object.as_deref() {
-        Some(Object::Inode(inode)) => inode.export == 0,
+        Some(Object::Inode(inode)) => inode.export == 0 || has_remains(&inode.content),
+        _ => false,
+    }
+}
+
+/// Whether a file has remains.
+fn has_remains(content: &Content) -> bool {
+    match content {
+        Content::Regular(map) => map.last_remains().is_some(),
         _ => false,
     }
 }

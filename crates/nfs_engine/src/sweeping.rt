@@ -1,5 +1,5 @@
-//! Sweeps: what a dead file leaves in the store goes page by page, between calls. A file is dead where its export does
-//! not live: then it stands for nothing.
+//! Sweeps: what a dead file leaves in the store goes page by page, between calls, and so do map pages of other files
+//! whose blocks are remains. A file is dead where its export does not live: then it stands for nothing.
 
 ghost use Rattle.std.specs.Prelude.{◌≡◌, ◌==◌, ◌+◌, ◌*◌, ◌%◌, ◌<◌, ◌^◌, ℕ, IfOk, IfSome, IsSome, MatchOption};
 ghost use Rattle.std.specs.Prelude.{None, Ok, OnErr, Some};
@@ -16,8 +16,8 @@ ghost use Rattle.nfs_objects.specs.declared.address.Addr.TheVariants as addresse
 ghost use Rattle.nfs_objects.specs.declared.object.Inode.{Inode as Node};
 ghost use Rattle.nfs_engine.specs.Book.{store_in};
 ghost use Rattle.nfs_engine.specs.Shards.{hold_at, slot_at};
-ghost use Rattle.nfs_engine.specs.Sweeps.{IsDead, IsFreeOf, IsPageFree, MaySweep, SweepValue, SweepsShard};
-ghost use Rattle.nfs_engine.specs.Sweeps.{inode_with, swept_at};
+ghost use Rattle.nfs_engine.specs.Sweeps.{IsDead, IsDeadPage, IsFreeOf, IsPageFree, IsRemainsPage, MaySweep};
+ghost use Rattle.nfs_engine.specs.Sweeps.{SweepValue, SweepsShard, inode_left, inode_with, swept_at};
 ghost use Rattle.nfs_engine.specs.Tables.{store_of};
 
 use crate::book::Book;
@@ -34,8 +34,8 @@ use std::sync::Arc;
 /// How many objects a sweep hands out at most: 512 blocks, their map page and the inode.
 pub const SWEPT: usize = 514;
 
-/// A map page of a dead file, which is to go with its blocks, and what is left of the file's inode then. Only
-/// `Book::sweep_of` makes one.
+/// A map page of a dead file, or one of remains, which is to go with its blocks, and what is left of the file's inode
+/// then. Only `Book::sweep_of` makes one.
 #[derive(Drop)]
 pub struct Sweep {
     number: u64,
@@ -120,8 +120,9 @@ impl Sweep {
 }
 
 impl Book {
-    /// What the next sweep of a dead file takes away: its last map page. None where nothing may go: no file stands at
-    /// the number, or its export lives, or something of locks stands for it.
+    /// What the next sweep of a file takes away: its last map page where it is dead, and else the last one of remains.
+    /// None where nothing may go: no file stands at the number, or its export lives, or something of locks stands for
+    /// it, and it has no remains.
     ///
     /// # Errors
     ///
@@ -130,6 +131,18 @@ impl Book {
         ensures may { IfOk result (λ s. IfSome s (MaySweep (store_in self.now))) }
         ensures file { IfOk result (λ s. IfSome s (λ w. w.file ≡ number)) }
         ensures none { result ≡ Ok None → (w : SweepValue) → w.file ≡ number → MaySweep (store_in self.now) w → ⊥ }
+    {
+        match self.dead_sweep(alloc, number)? {
+            Some(sweep) => Ok(Some(sweep)),
+            None => self.remains_sweep(alloc, number),
+        }
+    }
+
+    /// The last map page of a dead file.
+    fn dead_sweep(&self, alloc: Global, number: u64) -> Result<Option<Sweep>, AllocError>
+        ensures may { IfOk result (λ s. IfSome s (IsDeadPage (store_in self.now))) }
+        ensures file { IfOk result (λ s. IfSome s (λ w. w.file ≡ number)) }
+        ensures none { result ≡ Ok None → (w : SweepValue) → w.file ≡ number → IsDeadPage (store_in self.now) w → ⊥ }
     {
         let Some(inode) = self.dead_inode(number) else {
             return Ok(None);
@@ -145,6 +158,33 @@ impl Book {
             number,
             page,
             inode: left,
+        }))
+    }
+
+    /// The last map page of a living file whose blocks are remains.
+    fn remains_sweep(&self, alloc: Global, number: u64) -> Result<Option<Sweep>, AllocError>
+        ensures may { IfOk result (λ s. IfSome s (IsRemainsPage (store_in self.now))) }
+        ensures file { IfOk result (λ s. IfSome s (λ w. w.file ≡ number)) }
+        ensures none { result ≡ Ok None → (w : SweepValue) → w.file ≡ number
+            → IsRemainsPage (store_in self.now) w → ⊥ }
+    {
+        let Some(inode) = self.inode(number) else {
+            return Ok(None);
+        };
+        if !is_listed(self.exports(), inode.export) {
+            return Ok(None);
+        }
+        let Content::Regular(map) = &inode.content else {
+            return Ok(None);
+        };
+        let Some(page) = map.last_remains() else {
+            return Ok(None);
+        };
+        let left = inode_left(alloc, inode, map, map.pages().without(page))?;
+        Ok(Some(Sweep {
+            number,
+            page,
+            inode: Some(left),
         }))
     }
 
@@ -241,10 +281,23 @@ fn inode_with(
     if pages.is_none() {
         return Ok(None);
     }
+    Ok(Some(inode_left(alloc, inode, map, pages)?))
+}
+
+/// The inode of a file with these map pages.
+fn inode_left(
+    alloc: Global,
+    inode: &Inode,
+    map: &FileMap,
+    pages: Bits,
+) -> Result<Arc<Object>, AllocError>
+    ensures { IfOk result (λ left. Some (arc_value left) ≡ inode_left inode.now (record map.now { pages = pages })) }
+{
+    let map = FileMap::new(map.size(), pages)?.with_remains(map.remains());
     let inode = Inode {
         export: inode.export,
         generation: inode.generation,
-        content: Content::Regular(FileMap::new(map.size(), pages)?),
+        content: Content::Regular(map),
         mode: inode.mode,
         uid: inode.uid,
         gid: inode.gid,
@@ -255,7 +308,7 @@ fn inode_with(
         verifier: inode.verifier,
     };
     let object = Arc::new(alloc, Object::Inode(inode))?;
-    Ok(Some(object))
+    Ok(object)
 }
 
 impl Objects {

@@ -9,6 +9,7 @@ use Rattle.nfs_objects.proofs.OtherObjectsLemmas.{enters-both, enters-none, ente
 use Rattle.nfs_objects.proofs.SeenLemmas.{is_addr-refl, known-stands}
 use Rattle.nfs_objects.specs.Asks.{IsThere}
 use Rattle.nfs_objects.specs.Directories.{AreBeside, is_listed}
+use Rattle.nfs_objects.specs.Drafts.{MayChange}
 use Rattle.nfs_objects.specs.Fits.{Fits}
 use Rattle.nfs_objects.specs.Stands.{HasEntries, HoldsEntries, StoreMeaning, StandEntries, content_of, entry_map_in}
 use Rattle.nfs_objects.specs.Stands.{entry_map_of}
@@ -99,6 +100,14 @@ module _ (d : DraftValue) (n : ℕ) (o : Option Object) (known : known_at d (add
     }
 
 -- ---- one after another
+pub frees-none : (d : DraftValue) (n : ℕ) → Frees d d n []
+frees-none d n = record {
+  enters = enters-none n d;
+  knows = knows-none d;
+  pages = λ s page. refl;
+  parts = λ s bucket part. refl;
+}
+
 both-freed : (a b : Bool) (o : Option Object) → cond (b || false) None (cond a None o) ≡ cond (a || b) None o
 both-freed true true o = refl
 both-freed true false o = refl
@@ -151,6 +160,10 @@ of-entries P n pages parts (addresses.Block file index) own = cc
 of-entries P n pages parts addresses.Mounts own = cc
 of-entries P n pages parts (addresses.Usage export group) own = cc
 of-entries P n pages parts (addresses.Locks index) own = cc
+
+pub may-free : (d : DraftValue) (n : ℕ) (a : Addr) → is_entries_of n a ≡ true → MayChange d (addresses.Inode n) →
+    MayChange d a
+may-free d n a own may = of-entries (MayChange d) n (λ page. may) (λ bucket part. may) a own
 
 -- what is written at an address
 freed-at : (d : DraftValue) (s : Store) (b a : Addr) →

@@ -1,13 +1,13 @@
 -- Files that are cut off: page by page the blocks behind the place go, and the maps tell of those that stay.
 use Rattle.std.proofs.Common.{◌≡◌, ◌≢◌, ◌+◌, ◌-◌, ◌*◌, ◌/◌, ◌%◌, ◌<◌, ◌≤◌, ◌==◌, ◌&&◌, ◌||◌, ◌⊎◌, ℕ, true, false}
 use Rattle.std.proofs.Common.{Bool, max, min, not, nat_lt}
-use Rattle.std.proofs.Common.{List, [], Option, Some, None, IsSome, inl, inr, refl, sym, ◌∙◌, ap, subst}
+use Rattle.std.proofs.Common.{List, [], ◌∷◌, ◌++◌, Option, Some, None, IsSome, inl, inr, refl, sym, ◌∙◌, ap, subst}
 use Rattle.std.proofs.Common.{arith}
 use Rattle.std.proofs.Common.{cond, length, take, option_map, slice_index_or}
 use Rattle.std.proofs.lemmas.Bool.{and_parts, cases_lt, le-ltb, lt-ltb, ltb-false, ltb-true}
-use Rattle.std.proofs.Common.{Result, Ok, Err}
-use Rattle.std.specs.Prelude.{MatchResult, OnOk}
-use Rattle.std.proofs.lemmas.List.{length-take, take_all}
+use Rattle.std.proofs.Common.{Result, Ok, Err, get_or, length-append}
+use Rattle.std.specs.Prelude.{OnOk}
+use Rattle.std.proofs.lemmas.List.{get_or_append_left, get_or_push, length-take, take_all}
 use Rattle.nfs_objects.specs.Attempt.{StopsCall}
 use Rattle.nfs_objects.specs.declared.change.Missing.{Missing}
 use Rattle.std.specs.Cmp.{unsigned_Decides}
@@ -19,12 +19,12 @@ use Rattle.nfs_objects.proofs.SeenLemmas.{is_addr-refl, is_addr-same, known-stan
 use Rattle.nfs_objects.specs.Asks.{IsThere}
 use Rattle.nfs_objects.specs.Bits.{has, no_bits, same_bits}
 use Rattle.nfs_objects.specs.Calls.{IsAmong}
-use Rattle.nfs_objects.specs.FileMaps.{block_size}
+use Rattle.nfs_objects.specs.FileMaps.{FileMapValue, block_size}
 use Rattle.nfs_objects.specs.Fits.{Fits}
 use Rattle.nfs_objects.specs.SameLaws.{bits_decides}
 use Rattle.nfs_objects.specs.Stands.{HasBlocks, IsMapped, IsStored, StoreMeaning, Represents, block_of, map_of}
 use Rattle.nfs_objects.specs.Stands.{stored_in}
-use Rattle.nfs_objects.specs.Stands.{stored_map}
+use Rattle.nfs_objects.specs.Stands.{filed_in, stored_map}
 use Rattle.nfs_objects.specs.Store.{Store, with_writes}
 use Rattle.nfs_objects.specs.Unfiled.{Lays}
 use Rattle.nfs_objects.specs.Values.{DraftValue, is_addr, known_at, with_written}
@@ -43,12 +43,15 @@ use Rattle.nfs_inodes.specs.Blocks.{HasPages}
 use Rattle.nfs_inodes.specs.Cuts.{CutsBlock, CutsBlocks, CutsNext, CutsPage, IsBehind, IsCleared, IsCutAt}
 use Rattle.nfs_inodes.specs.Cuts.{IsCutTo}
 use Rattle.nfs_inodes.specs.Cuts.{IsResized}
-use Rattle.nfs_inodes.specs.Cuts.{IsPageIn, IsTold, IsToldIn, KnowsTold, ShowsMap, ShowsMaps, cut_to}
+use Rattle.nfs_inodes.specs.Cuts.{IsPageIn, IsTold, IsToldIn, KnowsMaps, KnowsTold, ShowsMap, ShowsMaps, cut_to}
 use Rattle.nfs_inodes.specs.Cuts.{told_at}
 use Rattle.nfs_inodes.specs.Stops.{StillStands, StopsAt}
 
 -- ---- which map pages may be asked for
 module _ (file : ℕ) (pages : Bits) (first : ℕ) where
+  pub no-pages : (end : ℕ) → end ≤ first → (a : Addr) → IsPageIn file pages first end a → ⊥
+  no-pages end none a is = absurd (omega (arith, none, is.behind, is.before))
+
   pub pages-apart : (end : ℕ) (b : Addr) → IsPageIn file pages first end b → is_addr b (addresses.Map file end) ≡ false
   pages-apart end b is =
       subst (λ c. is_addr c (addresses.Map file end) ≡ false) is.is
@@ -181,6 +184,11 @@ page-there d file pages first end shows still a is unknown =
     inr (was-there d a still unknown (λ s k fits stands. subst (λ b. IsSome ((with_writes s d.writes).at b)) is.is
     (page-stands d file pages is.page shows is.there s k fits stands)))
 
+pub pages-known : (d : DraftValue) (file : ℕ) (pages : Bits) (first end : ℕ) →
+    ((a : Addr) → IsPageIn file pages first end a → IsSome (known_at d a)) → KnowsMaps d file pages first end
+pages-known d file pages first end known page behind before there =
+    known (addresses.Map file page) (record { page = page; behind = behind; before = before; there = there; is = refl })
+
 -- ---- which blocks may be
 module _ (file page : ℕ) (bits : Bits) (from : ℕ) where
   pub none-told : (a : Addr) → IsTold file page bits from 0 a → ⊥
@@ -285,6 +293,9 @@ module _ (d : DraftValue) (file page : ℕ) (bits : Bits) (from : ℕ) (old mid 
 
 -- ---- of all pages
 module _ (file first : ℕ) (maps : List Bits) (from : ℕ) where
+  pub none-told-in : (end : ℕ) → end ≤ first → (a : Addr) → IsToldIn file first maps from end a → ⊥
+  none-told-in end none a is = absurd (omega (arith, none, is.behind, is.before))
+
   pub in-apart : (end : ℕ) (b c : Addr) → IsToldIn file first maps from end b →
       IsTold file end (told_at maps first end) from 512 c → is_addr b c ≡ false
   in-apart end b c is other =
@@ -417,6 +428,13 @@ module _ (old : DraftValue) (n page : ℕ) (bits : Bits) (size : ℕ) where
   abbrev from : ℕ
   from = size / block_size
 
+  pub cuts-none : CutsBlocks old old n page bits size 0
+  cuts-none = record {
+    lays = lays-none n old;
+    leaves = leaves-none old (λ a. IsTold n page bits from 0 a → ⊥);
+    cut = λ s place bytes fits below. absurd (omega (arith, below));
+  }
+
   module _ (mid : DraftValue) (places : ℕ) (so : CutsBlocks old mid n page bits size places) where
     -- a place with none, or one before the end
     pub cuts-skip : (has bits places ≡ false) ⊎ (page * 512 + places < from) →
@@ -507,6 +525,14 @@ module _ (old : DraftValue) (n page : ℕ) (bits : Bits) (size : ℕ) where
       cut = λ s place bytes fits below told. so.cut s place bytes fits (ends place told) told;
     }
 
+    -- what is known of the block at the next place is as before
+    pub cuts-known : known_at mid (addresses.Block n (page * 512 + places)) ≡
+        known_at old (addresses.Block n (page * 512 + places))
+    cuts-known = so.leaves.known (addresses.Block n (page * 512 + places)) (λ x.
+        (let t = told-apart n page bits from places (addresses.Block n (page * 512 + places)) x in
+        let own = is_addr-refl (addresses.Block n (page * 512 + places)) in
+        let no : true ≡ false = sym own ∙ t in cc))
+
 -- ---- a page
 -- the blocks of a page that have something left are those before the end
 pub count-left : (size page place : ℕ) →
@@ -544,11 +570,11 @@ page-cut old mid new n page bits left size count none so is tells gone put test 
     })
 
 -- ---- all pages, one after another
-same-numbers : (page place : ℕ) → place < 512 → ((page * 512 + place) / 512 ≡ page) ×
+pub same-numbers : (page place : ℕ) → place < 512 → ((page * 512 + place) / 512 ≡ page) ×
     ((page * 512 + place) % 512 ≡ place)
 same-numbers page place below = (omega (arith, below), omega (arith, below))
 
-cut-bytes : (left : ℕ) (bytes : List ℕ) → stored_in (cut_to left bytes) ≡ take left bytes
+pub cut-bytes : (left : ℕ) (bytes : List ℕ) → stored_in (cut_to left bytes) ≡ take left bytes
 cut-bytes left bytes = by (left == 0) refl
   where
     by : (b : Bool) → (left == 0) ≡ b → stored_in (cond b None (Some (objects.Block (take left bytes)))) ≡ take left
@@ -557,7 +583,7 @@ cut-bytes left bytes = by (left == 0) refl
     by false some = refl
 
 -- a block is there if it has something left
-cut-stands : (left : ℕ) (bytes : List ℕ) (stays : Bool) → 0 < length bytes → (stays ≡ true → 0 < left) →
+pub cut-stands : (left : ℕ) (bytes : List ℕ) (stays : Bool) → 0 < length bytes → (stays ≡ true → 0 < left) →
     (stays ≡ false → left ≡ 0) → IsStored stays (cut_to left bytes)
 cut-stands left bytes true has some none =
     let more : (left == 0) ≡ false = not-same left 0 (λ e. (let s = some refl in absurd (omega (arith, s, e)))) in (
@@ -568,7 +594,7 @@ cut-stands left bytes true has some none =
 cut-stands left bytes false has some none =
     ap (λ l. cut_to l bytes) (none refl)
 
-left-stands : (left : Bits) (stays : Bool) → stays ≡ not (same_bits left no_bits) → (o : Option Object) →
+pub left-stands : (left : Bits) (stays : Bool) → stays ≡ not (same_bits left no_bits) → (o : Option Object) →
     o ≡ stored_map left → IsMapped stays o
 left-stands left stays is o at = subst (λ b. IsMapped b o) (sym is)
     (subst (IsMapped (not (same_bits left no_bits))) (sym at)
@@ -579,7 +605,7 @@ left-stands left stays is o at = subst (λ b. IsMapped b o) (sym is)
     by false is = (left, refl, is)
 
 -- so the map tells of just the blocks that are left of the page, and where there is none it stands for none
-map-left : (left : Bits) (o : Option Object) → o ≡ stored_map left → (n : ℕ) → has (map_of o) n ≡ has left n
+pub map-left : (left : Bits) (o : Option Object) → o ≡ stored_map left → (n : ℕ) → has (map_of o) n ≡ has left n
 map-left left o at n = ap (λ x. has (map_of x) n) at ∙ by (same_bits left no_bits) refl
   where
     by : (b : Bool) → same_bits left no_bits ≡ b → has (map_of (cond b None (Some (objects.Map left)))) n ≡ has left n
@@ -640,6 +666,12 @@ module _ (old : DraftValue) (n : ℕ) (pages : Bits) (size : ℕ) (shows : HasPa
     pub block-same : (s : Store) (i : ℕ) → page * 512 ≤ i → at-mid s (addresses.Block n i) ≡ at-old s
         (addresses.Block n i)
     block-same s i behind = so.leaves.stands s (addresses.Block n i) (block-behind i behind)
+
+    pub map-known : known_at mid (addresses.Map n page) ≡ known_at old (addresses.Map n page)
+    map-known = so.leaves.known (addresses.Map n page) (map-behind page (omega arith))
+
+    pub block-known : (i : ℕ) → page * 512 ≤ i → known_at mid (addresses.Block n i) ≡ known_at old (addresses.Block n i)
+    block-known i behind = so.leaves.known (addresses.Block n i) (block-behind i behind)
 
     behind-less : (a : Addr) → IsBehind n (page + 1) a → IsBehind n page a
     behind-less a is = record {
@@ -952,52 +984,109 @@ cleared-all old new n size left zero cut = record {
 }
 
 -- ---- another size
-module _ (old new : DraftValue) (n before size : ℕ) (left : Bits) where
-  pub smaller : IsCutAt old new n size left → IsResized old new n before size left
+-- a map of this size, with these pages, and with these remains
+abbrev pub sized : (size : ℕ) → (pages remains : Bits) → FileMapValue
+sized size pages remains = record { size = size; pages = pages; remains = remains }
+
+-- blocks that are cut off are so for a file with the same remains too
+pub cut-filed : (before after : FileMapValue) (i left : ℕ) (was is : Option Object) → before.remains ≡ after.remains →
+    stored_in is ≡ take left (stored_in was) → filed_in after i is ≡ take left (filed_in before i was)
+cut-filed before after i left was is same cut =
+    ap (λ (r : Bits). cond (has r (i / 512)) [] (stored_in is)) (sym same) ∙ by (has before.remains (i / 512))
+  where
+    by : (r : Bool) → cond r [] (stored_in is) ≡ take left (cond r [] (stored_in was))
+    by true = sym (take_all left [] (omega arith))
+    by false = cut
+
+module _ (old new : DraftValue) (n : ℕ) (before : FileMapValue) (size : ℕ) (left : Bits) where
+  pub smaller : IsCutAt old new n size left → IsResized old new n before size (sized size left before.remains)
   smaller cut = record {
+    sized = refl;
     lays = cut.lays;
     inodes = cut.inodes;
     content = λ s k bytes fits stands is.
-        content-resized before (λ b. stored_in ((with_writes s old.writes).at (addresses.Block n b))) bytes is size
-        (λ b. stored_in ((with_writes s new.writes).at (addresses.Block n b)))
+        content-resized before.size (λ b. filed_in before b ((with_writes s old.writes).at (addresses.Block n b))) bytes
+        is size
+        (λ b. filed_in (sized size left before.remains) b ((with_writes s new.writes).at (addresses.Block n b)))
         (λ i. elim (cases_lt i (size / block_size)) [
           | inl less ↦
               let short = is.short i in
               let part = part-length bytes i in
-              let stored = stored_in ((with_writes s old.writes).at (addresses.Block n i)) in
-              ap stored_in (cut.front s i less)
+              let stored = filed_in before i ((with_writes s old.writes).at (addresses.Block n i)) in
+              ap (filed_in before i) (cut.front s i less)
               ∙ sym (take_all (size - i * block_size) stored (omega (arith, short, part, less)))
-          | inr behind ↦ cut.blocks s k i fits stands behind
+          | inr behind ↦ cut-filed before (sized size left before.remains) i (size - i * block_size)
+              ((with_writes s old.writes).at (addresses.Block n i))
+              ((with_writes s new.writes).at (addresses.Block n i))
+              refl (cut.blocks s k i fits stands behind)
         ]);
     maps = cut.maps;
   }
 
-pub smaller-result : (old new : DraftValue) (n before size : ℕ) (r : Result Bits Missing) →
-    MatchResult r (IsCutAt old new n size) (StopsAt old []) → MatchResult r (IsResized old new n before size)
-    (StopsAt old [])
-smaller-result old new n before size (Ok left) cut = smaller old new n before size left cut
-smaller-result old new n before size (Err halt) stops = stops
-
 -- no smaller one: nothing changes
-pub larger : (d : DraftValue) (n before size : ℕ) (pages : Bits) → before ≤ size → HasPages d n pages →
-    IsResized d d n before size pages
-larger d n before size pages within shows = record {
+pub larger : (d : DraftValue) (n : ℕ) (before : FileMapValue) (size : ℕ) → before.size ≤ size →
+    HasPages d n before.pages → IsResized d d n before size (sized size before.pages before.remains)
+larger d n before size within shows = record {
+  sized = refl;
   lays = lays-none n d;
   inodes = λ q. refl;
   content = λ s k bytes fits stands is.
-      content-resized before (λ b. stored_in ((with_writes s d.writes).at (addresses.Block n b))) bytes is size
-      (λ b. stored_in ((with_writes s d.writes).at (addresses.Block n b))) (λ i.
+      content-resized before.size (λ b. filed_in before b ((with_writes s d.writes).at (addresses.Block n b))) bytes is
+      size
+      (λ b. filed_in before b ((with_writes s d.writes).at (addresses.Block n b))) (λ i.
       let short = is.short i in
       let part = part-length bytes i in
       let counted = is.counted in
-      let stored = stored_in ((with_writes s d.writes).at (addresses.Block n i)) in
+      let stored = filed_in before i ((with_writes s d.writes).at (addresses.Block n i)) in
       sym (take_all (size - i * block_size) stored (omega (arith, short, part, counted, within))));
-  maps = λ s k fits stands. has-blocks d n pages shows s k fits stands;
+  maps = λ s k fits stands. has-blocks d n before.pages shows s k fits stands;
 }
+
+-- what the code makes is the map
+pub sized-so : (old new : DraftValue) (n : ℕ) (before : FileMapValue) (size : ℕ) (pages remains : Bits)
+    (made : FileMapValue) → made ≡ sized size pages remains →
+    IsResized old new n before size (sized size pages remains) → IsResized old new n before size made
+sized-so old new n before size pages remains made is = subst (IsResized old new n before size) (sym is)
 
 -- ---- how pages are read
 abbrev pub blank : Bits
 blank = record { words = [] }
+
+-- one map more
+pub maps-none : (d : DraftValue) (n first : ℕ) (maps : List Bits) → maps ≡ [] → ShowsMaps d n first first maps
+maps-none d n first maps none = record {
+  counted = ap length none ∙ omega arith;
+  each = λ page behind before. absurd (omega (arith, behind, before));
+}
+
+pub maps-next : (d : DraftValue) (n first page : ℕ) (maps new : List Bits) (bits : Bits) → first ≤ page →
+    ShowsMaps d n first page maps → ShowsMap d n page bits → new ≡ maps ++ bits ∷ [] → ShowsMaps d n first (page + 1)
+    new
+maps-next d n first page maps new bits within so here is = record {
+  counted = ap length is ∙ length-append maps (bits ∷ []) ∙ (let c = so.counted in omega (arith, c, within));
+  each = λ p behind before. elim (p == page) as (λ b. (p == page) ≡ b → ShowsMap d n p (told_at new first p)) [
+    | true ↦ λ same.
+        let e = (unsigned_Decides p page).0 same in
+        let at : length maps ≡ p - first = (let c = so.counted in omega (arith, c, e)) in
+        subst (λ q. ShowsMap d n q (told_at new first p)) (sym e)
+        (subst (ShowsMap d n page) (sym (ap (λ l. get_or l (p - first) blank) is
+        ∙ get_or_push maps bits blank (p - first) at)) here)
+    | false ↦ λ other.
+        let apart = differs p page other in
+        let c = so.counted in
+        subst (ShowsMap d n p) (sym (ap (λ l. get_or l (p - first) blank) is
+        ∙ get_or_append_left maps (bits ∷ []) blank (p - first) (omega (arith, c, before, apart, behind))))
+        (so.each p behind (omega (arith, before, apart)))
+  ] refl;
+}
+
+pub maps-end : (d : DraftValue) (n first page end : ℕ) (maps : List Bits) → first ≤ page → end ≤ page → page ≤ max
+    first end →
+    ShowsMaps d n first page maps → ShowsMaps d n first end maps
+maps-end d n first page end maps within past most so = record {
+  counted = so.counted ∙ omega (arith, within, past, most);
+  each = λ p behind before. so.each p behind (omega (arith, before, past));
+}
 
 -- all that is asked for of blocks
 pub in-end : (d : DraftValue) (file first : ℕ) (maps : List Bits) (from page end : ℕ) (asked : List (Addr × Mode)) →

@@ -3,8 +3,8 @@ use Rattle.std.proofs.Common.{◌≡◌, ◌⊎◌, ℕ, suc, ◌-◌, ◌/◌, 
 use Rattle.std.proofs.Common.{List, [], ◌∷◌, ◌++◌, Option, Some, None, option_map, filter, length, inl, inr, arith}
 use Rattle.std.proofs.Common.{refl, sym, ◌∙◌, ap, subst}
 use Rattle.std.specs.Prelude.{nat_lt}
-use Rattle.std.proofs.lemmas.Bool.{and_from, cases_eq, cases_lt, eq-eqb, le-ltb, lt-ltb, ne_eqb}
-use Rattle.std.proofs.lemmas.List.{get_or-set_same, get_or_past}
+use Rattle.std.proofs.lemmas.Bool.{and_from, and_parts, cases_eq, cases_lt, eq-eqb, le-ltb, lt-ltb, ltb-true, ne_eqb}
+use Rattle.std.proofs.lemmas.List.{get_or-set_other, get_or-set_same, get_or_past, length-set}
 use Rattle.nfs_machine.specs.Bytes.{same_bytes}
 use Rattle.nfs_machine.specs.Checks.{entry_of}
 use Rattle.nfs_machine.specs.RemoveSteps.{without}
@@ -25,6 +25,7 @@ use Rattle.nfs_objects.specs.Values.{DraftValue, is_addr, known_at, with_written
 use Rattle.nfs_objects.specs.declared.address.Addr.{Addr}
 use Rattle.nfs_objects.specs.declared.address.Addr.TheVariants as addresses
 use Rattle.nfs_objects.specs.declared.directory.Leaf.{Leaf}
+use Rattle.nfs_objects.specs.declared.entry_map.EntryMap.{EntryMap}
 use Rattle.nfs_objects.specs.declared.object.Object.{Object}
 use Rattle.nfs_objects.specs.declared.object.Object.TheVariants as objects
 use Rattle.nfs_objects.specs.declared.page_list.PageRun.{PageRun}
@@ -35,7 +36,7 @@ use Rattle.nfs_inodes.proofs.PageEntryLemmas.{entry-gone, pages-lost}
 use Rattle.nfs_inodes.proofs.PartEntryLemmas.{part-lost}
 use Rattle.nfs_inodes.proofs.StillKnownLemmas.{keeps-written, knows-none}
 use Rattle.nfs_inodes.proofs.WrittenBlocksLemmas.{stands-here, stands-written}
-use Rattle.nfs_inodes.specs.Entered.{HasPages, HasParts, Joins, KeepsButBucket, PagesLose, PartsLose}
+use Rattle.nfs_inodes.specs.Entered.{HasPages, HasParts, Joins, KeepsButBucket, PagesLose, PartsLose, TellsLess}
 
 -- ---- what stands
 -- a draft tells of what stands
@@ -369,6 +370,50 @@ module _ (counts after : List ℕ) (bucket : ℕ)
   pub was-one : 0 < width_in counts bucket → width_in after bucket ≡ 0 → width_in counts bucket ≡ 1
   was-one some none =
       width-none (count_in counts bucket) some (sym (ap width_of (count-after (counted-within some))) ∙ none)
+
+  -- no bucket gets more parts
+  pub widths-less : (b : ℕ) → width_in after b ≤ width_in counts b
+  widths-less b = by (cases_eq b bucket) (cases_lt bucket (length counts))
+    where
+      by : (b ≡ bucket) ⊎ (b ≡ bucket → ⊥) → (bucket < length counts) ⊎ (length counts ≤ bucket) →
+          width_in after b ≤ width_in counts b
+      by (inl same) (inl less) = subst (λ q. width_in after q ≤ width_in counts q) (sym same)
+          (subst (λ w. w ≤ width_in counts bucket) (sym (ap width_of (count-after less)))
+          (width-most (count_in counts bucket)))
+      by (inl same) (inr beyond) =
+          let none : count_in after b ≡ 0 =
+          ap (λ cs. count_in cs b) is
+          ∙ get_or_past (with_count counts bucket (counted_down (count_in counts bucket))) b 0
+          (let long = length-set counts bucket (counted_down (count_in counts bucket)) in
+          omega (arith, long, beyond, same)) in
+          omega (arith, none)
+      by (inr other) known =
+          let same : count_in after b ≡ count_in counts b =
+          ap (λ cs. count_in cs b) is
+          ∙ get_or-set_other counts bucket b (counted_down (count_in counts bucket)) 0 other in
+          omega (arith, same)
+
+-- a map with such counts, and with no more pages, tells of less
+pub tells-less : (m : EntryMap) (pages : List PageRun) (counts : List ℕ) (bucket : ℕ) →
+    ((p : ℕ) → lists pages p ≡ true → lists m.pages p ≡ true) →
+    counts ≡ with_count m.counts bucket (counted_down (count_in m.counts bucket)) →
+    TellsLess (record { key = m.key; pages = pages; counts = counts }) m
+tells-less m pages counts bucket fewer is n (addresses.Page q p) told =
+    let parts = and_parts (n == q) (lists pages p) told in
+    and_from (n == q) (lists m.pages p) parts.0 (fewer p parts.1)
+tells-less m pages counts bucket fewer is n (addresses.Part q b p) told =
+    let parts = and_parts (n == q) (nat_lt p (width_in counts b)) told in
+    let less = ltb-true p (width_in counts b) parts.1 in
+    let most = widths-less m.counts counts bucket is b in
+    and_from (n == q) (nat_lt p (width_in m.counts b)) parts.0
+    (lt-ltb p (width_in m.counts b) (omega (arith, less, most)))
+tells-less m pages counts bucket fewer is n addresses.Exports told = cc
+tells-less m pages counts bucket fewer is n (addresses.Inode q) told = cc
+tells-less m pages counts bucket fewer is n (addresses.Map file page) told = cc
+tells-less m pages counts bucket fewer is n (addresses.Block file index) told = cc
+tells-less m pages counts bucket fewer is n addresses.Mounts told = cc
+tells-less m pages counts bucket fewer is n (addresses.Usage export group) told = cc
+tells-less m pages counts bucket fewer is n (addresses.Locks index) told = cc
 
 -- ---- a name of a part
 module _ (key : List ℕ) (d : DraftValue) (n : ℕ) (before after : List ℕ) (name : List ℕ) (part : ℕ)

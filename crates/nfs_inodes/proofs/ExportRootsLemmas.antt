@@ -11,10 +11,12 @@ use Rattle.nfs_objects.proofs.PromiseLemmas.{turns-none}
 use Rattle.nfs_objects.proofs.ExportsPutLemmas.{exports-stand}
 use Rattle.nfs_objects.proofs.SeenLemmas.{known-stands, writes-append, written-append}
 use Rattle.nfs_objects.specs.Calls.{IsAmong, root_usages}
+use Rattle.nfs_objects.specs.Drafts.{MayChange}
 use Rattle.nfs_objects.specs.Edits.{recounted}
 use Rattle.nfs_objects.specs.ExportTables.{ExportTableValue}
 use Rattle.nfs_objects.specs.Fits.{Fits}
 use Rattle.nfs_objects.specs.Knows.{Shows, ShowsExport, Turns}
+use Rattle.nfs_objects.specs.Modes.{held_mode, replacing}
 use Rattle.nfs_objects.specs.Replaced.{with_table}
 use Rattle.nfs_objects.specs.Roots.{choice_of}
 use Rattle.nfs_objects.specs.Stands.{IsFitting, Represents}
@@ -24,6 +26,7 @@ use Rattle.nfs_objects.specs.Values.{DraftValue, is_addr, known_at, with_written
 use Rattle.nfs_objects.specs.declared.address.Addr.{Addr}
 use Rattle.nfs_objects.specs.declared.address.Addr.TheVariants as addresses
 use Rattle.nfs_objects.specs.declared.modes.Mode.{Mode}
+use Rattle.nfs_objects.specs.declared.modes.Mode.TheVariants.{Exclusive}
 use Rattle.nfs_objects.specs.declared.object.Inode.{Inode}
 use Rattle.nfs_objects.specs.declared.object.Object.TheVariants as objects
 use Rattle.nfs_objects.specs.declared.usage.Usage.{Usage}
@@ -51,6 +54,9 @@ table-turns d new table follows is = subst (λ (x : DraftValue). Turns d x (λ k
 })
 
 -- ---- a root
+pub may-change-replacing : (d : DraftValue) (n : ℕ) → d.modes ≡ replacing → MayChange d (addresses.Inode n)
+may-change-replacing d n is = subst (λ modes. held_mode modes d.view (addresses.Inode n) ≡ Exclusive) (sym is) refl
+
 root-vacant : (d late : DraftValue) (n : ℕ) → known_at d (addresses.Inode n) ≡ Some None → KeepsInodes d late
     → late.view ≡ d.view → (s : Store) → Fits d.view s → (with_writes s late.writes).at (addresses.Inode n) ≡ None
 root-vacant d late n vacant keeps same s fits =

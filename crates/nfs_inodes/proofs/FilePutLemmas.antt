@@ -1,8 +1,8 @@
 -- Files whose blocks and maps were written: their inode is put, or goes, and the store stands for the file with its new
 -- bytes, or without it.
-use Rattle.std.proofs.Common.{◌≡◌, ◌⊎◌, true, ℕ, ◌+◌, ◌-◌, ◌*◌, ◌/◌, ◌<◌, ◌≤◌, min, max, length, drop, List, []}
+use Rattle.std.proofs.Common.{◌≡◌, ◌⊎◌, true, false, ℕ, ◌+◌, ◌-◌, ◌*◌, ◌/◌, ◌<◌, ◌≤◌, min, max, length, drop, List, []}
 use Rattle.std.proofs.Common.{Some, None, IsSome, inl, inr, refl, sym, ◌∙◌, ap, subst, arith, ◌%◌}
-use Rattle.std.proofs.lemmas.Bool.{cases_lt}
+use Rattle.std.proofs.lemmas.Bool.{cases_eq, cases_lt}
 use Rattle.std.proofs.lemmas.List.{length-drop, length-take}
 use Rattle.std.specs.FinMap.{get}
 use Rattle.nfs_wire.specs.declared.attributes.Time.{Time}
@@ -16,7 +16,7 @@ use Rattle.nfs_objects.proofs.FileStoreLemmas.{HasContent, stands-but}
 use Rattle.nfs_objects.proofs.PromiseLemmas.{turns-both}
 use Rattle.nfs_objects.proofs.SeenLemmas.{known-stands, writes-append}
 use Rattle.nfs_objects.proofs.TurnsLemmas.{free-stands, put-stands}
-use Rattle.nfs_objects.specs.Bits.{no_bits}
+use Rattle.nfs_objects.specs.Bits.{has, no_bits}
 use Rattle.nfs_objects.specs.Edits.{counted_anew, freed, recounted, with_living}
 use Rattle.nfs_objects.specs.Sums.{in_export, one_using, shares_of}
 use Rattle.nfs_objects.specs.declared.usage.Usage.{Usage}
@@ -28,7 +28,7 @@ use Rattle.nfs_objects.specs.Stands.{Beside, HasBlocks, HoldsEntries, IsFitting,
 use Rattle.nfs_objects.specs.Stands.{StandDirectories}
 use Rattle.nfs_objects.specs.Stands.{beside_at}
 use Rattle.nfs_objects.specs.Stands.{bytes_at, entry_map_in, entry_map_of, lives_in, living_of_inode}
-use Rattle.nfs_objects.specs.Stands.{map_in, parent_in, stored_in}
+use Rattle.nfs_objects.specs.Stands.{filed_in, map_in, parent_in, stored_in}
 use Rattle.nfs_objects.specs.Modes.{held_mode}
 use Rattle.nfs_objects.specs.Store.{Store, with_write, with_writes}
 use Rattle.nfs_objects.specs.Unfiled.{Enters, KeepsEntries, Lays, RepresentsBut}
@@ -43,7 +43,7 @@ use Rattle.nfs_inodes.proofs.KeptBesideLemmas.{changed-is, put-there}
 use Rattle.nfs_inodes.proofs.PutObjectLemmas.{counted, has-kept, known-inode, same-shares, share-stands, turns-as}
 use Rattle.nfs_inodes.proofs.PutObjectLemmas.{with-bytes}
 use Rattle.nfs_inodes.proofs.StandsLemmas.{links-there, lives-there, parent-there, shows-export}
-use Rattle.nfs_inodes.proofs.ReadBlocksLemmas.{content-there}
+use Rattle.nfs_inodes.proofs.ReadBlocksLemmas.{content-there, filed-stored}
 use Rattle.nfs_inodes.specs.Blocks.{HasMap, WritesRange, end_of, first_of}
 use Rattle.nfs_inodes.specs.Kinds.{HasFile}
 use Rattle.nfs_inodes.specs.Known.{HasInode}
@@ -56,7 +56,7 @@ use Rattle.nfs_objects.specs.Stands.{bucket_at}
 use Rattle.nfs_inodes.specs.Locks.{HasNone}
 
 -- where a file stands, no page and no part does, also once its blocks and maps were written
-file-bare : (s t : Store) (k : StoreMeaning) (n : ℕ) (i : Inode) (map : FileMapValue) → KeepsEntries s t →
+pub file-bare : (s t : Store) (k : StoreMeaning) (n : ℕ) (i : Inode) (map : FileMapValue) → KeepsEntries s t →
     s.at (addresses.Inode n) ≡ Some (objects.Inode i) → i.content ≡ contents.Regular map → StandDirectories s k →
     (entries : List Entry) → HoldsEntries t n None entries
 file-bare s t k n i map keeps at is stand entries =
@@ -74,7 +74,7 @@ module _ (d laid : DraftValue) (n : ℕ) (i : Inode) (has : HasInode d n (Some i
       → ((s : Store) (k : StoreMeaning) → Fits d.view s → Represents (with_writes s d.writes) k →
       HasBlocks (with_writes s laid.writes) n after.pages)
       → ((s : Store) (k : StoreMeaning) → Fits d.view s → Represents (with_writes s d.writes) k →
-      IsContent after.size (λ b. stored_in ((with_writes s laid.writes).at (addresses.Block n b)))
+      IsContent after.size (λ b. filed_in after b ((with_writes s laid.writes).at (addresses.Block n b)))
       (change (bytes_at k.state n)))
       → IsFitting n j
       → Turns d (with_written laid (addresses.Inode n) (Some (objects.Inode j)))
@@ -94,7 +94,7 @@ module _ (d laid : DraftValue) (n : ℕ) (i : Inode) (has : HasInode d n (Some i
         let at : t.at (addresses.Inode n) ≡ Some (objects.Inode i) = lays.inodes s n ∙ stood in
         let lives : lives_in k.state.exports i.export ≡ true = shows-export d n i has s k fits stands in
         let has-content : HasContent t n changed.bytes j =
-        λ m is. subst (λ (x : FileMapValue). IsContent x.size (λ b. stored_in (t.at (addresses.Block n b)))
+        λ m is. subst (λ (x : FileMapValue). IsContent x.size (λ b. filed_in x b (t.at (addresses.Block n b)))
         changed.bytes)
         (let e : after ≡ m = cc in e) (content s k fits stands) in
         let put = put-stands t k n j changed but (blocks s k fits stands) has-content
@@ -152,7 +152,7 @@ module _ (d mid laid : DraftValue) (n : ℕ) (i : Inode) (map after : FileMapVal
       → ((s : Store) (k : StoreMeaning) → Fits mid.view s → Represents (with_writes s mid.writes) k →
       HasBlocks (with_writes s laid.writes) n after.pages)
       → ((s : Store) (k : StoreMeaning) → Fits mid.view s → Represents (with_writes s mid.writes) k →
-      IsContent after.size (λ b. stored_in ((with_writes s laid.writes).at (addresses.Block n b)))
+      IsContent after.size (λ b. filed_in after b ((with_writes s laid.writes).at (addresses.Block n b)))
       (change (bytes_at k.state n)))
       → j ≡ put → IsShareOf i share → uses ≡ one_using ((after.size + 4095) / block * block)
       → Turns d mid (recounted n (in_export share.export share.usage) (in_export share.export uses))
@@ -225,21 +225,39 @@ put-made i copy j at now made after is when same new =
 -- ---- bytes that are written
 pub range-content : (mid laid : DraftValue) (n : ℕ) (map : FileMapValue) (offset size : ℕ) (more : List ℕ)
     (pages : Bits) →
-    HasMap mid n map → WritesRange mid laid n offset more pages → 0 < length more →
+    HasMap mid n map → WritesRange mid laid n offset more pages → 0 < length more → length more ≤ 65536 →
+    has map.remains (first_of offset / 512) ≡ false
+    → has map.remains ((end_of offset (length more) - 1) / 512) ≡ false →
     size ≡ max map.size (offset + length more) → (s : Store) (k : StoreMeaning) → Fits mid.view s →
     Represents (with_writes s mid.writes) k →
-    IsContent size (λ b. stored_in ((with_writes s laid.writes).at (addresses.Block n b)))
+    IsContent size (λ b. filed_in (record { size = size; pages = pages; remains = map.remains }) b
+    ((with_writes s laid.writes).at (addresses.Block n b)))
     (written (bytes_at k.state n) offset more)
-range-content mid laid n map offset size more pages has writes some is s k fits stands =
-    subst (λ z. IsContent z (λ b. stored_in ((with_writes s laid.writes).at (addresses.Block n b)))
+range-content mid laid n map offset size more pages there-map writes some few front back is s k fits stands =
+    subst (λ z. IsContent z (λ b. filed_in map b ((with_writes s laid.writes).at (addresses.Block n b)))
     (written (bytes_at k.state n) offset more)) (sym is)
-    (content-written map.size (λ b. stored_in ((with_writes s mid.writes).at (addresses.Block n b)))
+    (content-written map.size (λ b. filed_in map b ((with_writes s mid.writes).at (addresses.Block n b)))
     (bytes_at k.state n)
-    (content-there mid n map has s k fits stands) offset more
-    (λ b. stored_in ((with_writes s laid.writes).at (addresses.Block n b)))
-    (λ i none. ap stored_in (writes.others s i (outside i none)))
-    (λ i there. ap stored_in (writes.blocks s i fits (inside i there).0 (inside i there).1)))
+    (content-there mid n map there-map s k fits stands) offset more
+    (λ b. filed_in map b ((with_writes s laid.writes).at (addresses.Block n b)))
+    (λ i none. ap (filed_in map i) (writes.others s i (outside i none)))
+    (λ i there.
+    let off = counted i (inside i there).0 (inside i there).1 in
+    filed-stored map i ((with_writes s laid.writes).at (addresses.Block n i)) off
+    ∙ ap stored_in (writes.blocks s i fits (inside i there).0 (inside i there).1)
+    ∙ ap (λ b. written b (place offset i) (window offset more i))
+    (sym (filed-stored map i ((with_writes s mid.writes).at (addresses.Block n i)) off))))
   where
+    -- the range lies in its first map page and in its last one
+    counted : (i : ℕ) → first_of offset ≤ i → i < end_of offset (length more) → has map.remains (i / 512) ≡ false
+    counted i from before = elim (cases_eq (i / 512) (first_of offset / 512)) [
+      | inl same ↦ ap (has map.remains) same ∙ front
+      | inr other ↦
+          let same : i / 512 ≡ (end_of offset (length more) - 1) / 512 = omega
+          (arith, from, before, other, few, some) in
+          ap (has map.remains) same ∙ back
+    ]
+
     long : (i : ℕ) → length (window offset more i) ≡ min (block_size - place offset i)
         (length more - (i * block_size - offset))
     long i = length-take (block_size - place offset i) (drop (i * block_size - offset) more)

@@ -117,3 +117,8 @@ module _ (d : DraftValue) (bytes : List ℕ) where
           names-of d.ctx bytes k x w.sound (there s k w).1
           (found s k w ∙ both (admitted d.ctx exports) (is_handle_of h x) k.state passes
           ∙ ap (λ n. machine.Names n (object_at k.state x)) (sym (there s k w).0))
+
+      pub stale-there : (admitted d.ctx exports && is_handle_of h x) ≡ false
+          → Knows d (Means d.ctx bytes (Err status.Stale))
+      stale-there fails s k w = stale-of d.ctx bytes k (found s k w
+          ∙ neither (admitted d.ctx exports) (is_handle_of h x) k.state fails)

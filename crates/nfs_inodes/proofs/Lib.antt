@@ -12,6 +12,8 @@ pub mod DividePartLemmas
 pub mod DropNameLemmas
 pub mod EditInodeLemmas
 pub mod NamedHaltLemmas
+pub mod OnePageLemmas
+pub mod RemainsGoLemmas
 pub mod EntryMoreLemmas
 pub mod EntryAsksLemmas
 pub mod FilePutLemmas

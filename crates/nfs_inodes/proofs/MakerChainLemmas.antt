@@ -72,6 +72,19 @@ second-stops d front few halt stops =
     stops-wider d.modes few (front ++ few) 0 d.view halt
     (covers-among few (front ++ few) d.view (among-behind front few)) stops
 
+-- the second of two lists, with more that is covered
+pub covers-second : (view : ViewValue) (front few more : List Addr) → Covers (front ++ few) view more →
+    Covers (front ++ few) view (few ++ more)
+covers-second view front few more covers =
+    covers-both (front ++ few) view few more (covers-among few (front ++ few) view (among-behind front few)) covers
+
+-- and both
+pub covers-first : (view : ViewValue) (front few more : List Addr) → Covers (front ++ few) view more →
+    Covers (front ++ few) view (front ++ (few ++ more))
+covers-first view front few more covers =
+    covers-both (front ++ few) view front (few ++ more)
+    (covers-among front (front ++ few) view (among-front front few)) (covers-second view front few more covers)
+
 -- what the group of an object uses may be asked for where it stands there
 pub group-lives : (d : DraftValue) (n : ℕ) (view : ViewValue) (named : List Addr) → d.view ≡ view → UsageLives d n →
     Covers named view (group_at n (inode_at d n))

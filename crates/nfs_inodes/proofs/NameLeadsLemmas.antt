@@ -292,6 +292,15 @@ module _ (n parent : ℕ) (es : List Entry) (name : List ℕ) where
   abbrev leads : Bool → Bool → Option ℕ
   leads a b = option_map (λ (e : Entry). e.number) (cond a (Some own) (cond b (Some above) (entry_of es name)))
 
+  pub leads-self : true ≡ same_bytes (codes ".") name → leads_to n parent es name ≡ Ok n
+  leads-self is = ap (λ a. ok_or (leads a (same_bytes (codes "..") name)) status.NoEntry) (sym is)
+
+  pub leads-above : false ≡ same_bytes (codes ".") name → true ≡ same_bytes (codes "..") name →
+      leads_to n parent es name ≡ Ok parent
+  leads-above other is =
+      ap (λ a. ok_or (leads a (same_bytes (codes "..") name)) status.NoEntry) (sym other)
+      ∙ ap (λ b. ok_or (leads false b) status.NoEntry) (sym is)
+
   pub leads-other : (number : Option ℕ) → false ≡ same_bytes (codes ".") name → false ≡ same_bytes (codes "..") name →
       option_map (λ (e : Entry). e.number) (entry_of es name) ≡ number →
       leads_to n parent es name ≡ ok_or number status.NoEntry

@@ -11,7 +11,7 @@ use Rattle.nfs_wire.specs.declared.status.NfsStatus.{NfsStatus}
 use Rattle.std.specs.Cmp.{unsigned_Decides}
 use Rattle.std.specs.FinMap.{get}
 use Rattle.nfs_machine.specs.Attributes.{block, used_of}
-use Rattle.nfs_machine.specs.Checks.{DirectoryEntries, entries_in}
+use Rattle.nfs_machine.specs.Checks.{DirectoryEntries, bytes_in, entries_in}
 use Rattle.nfs_machine.specs.Shown.{touched, with_object}
 use Rattle.nfs_machine.specs.State.{Entry, Living}
 use Rattle.nfs_machine.specs.Times.{touch}
@@ -83,6 +83,20 @@ turns-as old new f g same turns = record {
 pub known-inode : (d : DraftValue) (n : ℕ) (i : Inode) → HasInode d n (Some i)
     → known_at d (addresses.Inode n) ≡ Some (Some (objects.Inode i))
 known-inode d n i has = has.known ∙ ap Some (inode-stands has.exports has.object i (sym has.is)).stands
+
+-- what is of another kind stays
+abbrev read-so : (List ℕ → Option Living) → Result (List ℕ) NfsStatus → Option Living
+read-so f r = elim r [ Ok bytes ↦ f bytes | Err e ↦ None ]
+
+pub no-file : (c : Content) (f : List ℕ → Option Living) → ((map : FileMapValue) → c ≡ contents.Regular map → ⊥)
+    → read-so f (bytes_in (content_of c)) ≡ None
+no-file (contents.Regular map) f none = absurd (none map refl)
+no-file (contents.Directory directory) f none = refl
+no-file (contents.Link text) f none = refl
+no-file (contents.BlockDevice device) f none = refl
+no-file (contents.CharacterDevice device) f none = refl
+no-file contents.Socket f none = refl
+no-file contents.Fifo f none = refl
 
 abbrev listed-so : (DirectoryEntries → Option Living) → Result (DirectoryEntries) NfsStatus → Option Living
 listed-so f r = elim r [ Ok entries ↦ f entries | Err e ↦ None ]
@@ -439,6 +453,12 @@ counting-stops old mid op few export number halt turns stops =
       tt,
     ) (stops-before old mid op (λ view. addresses.Usage export (group_of number) ∷ []) halt turns stops)
 
+pub all-stops : {A : Type 0} (d : DraftValue) (n : ℕ) (P : A → Type 0) (r : Result A Missing)
+    → MatchResult r P (StopsAt d (addresses_of d.view n))
+    → MatchResult r P (StopsAt d (counted_at d n))
+all-stops d n P (Ok x) does = does
+all-stops d n P (Err halt) stops = object-stops d n halt stops
+
 -- the inode that the draft knows there
 pub inode-known : (d : DraftValue) (n : ℕ) (i : Option Inode) → HasInode d n i → inode_at d n ≡ i
 inode-known d n i has =
@@ -495,6 +515,13 @@ module _ (d : DraftValue) (n : ℕ) (change : Living → Option Living) where
       → Turns d d (λ k. counted_anew n (get k.state.objects n) (changed_at k n change))
   none-counted has = same-counts d n (λ k. changed_at k n change) (none-turns d n change has)
       (λ s k stand represents. ap (over d n change (λ l. l) k) (lives-there d n None has s k stand represents))
+
+  pub same-counted : (i : Inode) → HasInode d n (Some i)
+      → ((beside : Beside) → change (living_of_inode beside i) ≡ None)
+      → Turns d d (λ k. counted_anew n (get k.state.objects n) (changed_at k n change))
+  same-counted i has is = same-counts d n (λ k. changed_at k n change) (same-turns d n change i has is)
+      (λ s k stand represents. ap (over d n change (λ l. l) k) (lives-there d n (Some i) has s k stand represents)
+      ∙ ap (into d n change (λ l. l) k) (is (beside_at k.state n)))
 
 -- the share that an inode tells is that of what lives there
 pub share-stands : (d : DraftValue) (n : ℕ) (i : Inode) (share : Share) → HasInode d n (Some i) → IsShareOf i share

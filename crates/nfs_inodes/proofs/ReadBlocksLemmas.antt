@@ -1,8 +1,10 @@
 -- What a draft shows of the blocks and maps of a file, and what is read of them.
-use Rattle.std.proofs.Common.{◌≡◌, ◌+◌, ◌-◌, ◌*◌, ◌/◌, ◌%◌, ◌<◌, ◌≤◌, ℕ, true, false, Bool, min}
+use Rattle.std.proofs.Common.{◌≡◌, ◌+◌, ◌-◌, ◌*◌, ◌/◌, ◌%◌, ◌<◌, ◌≤◌, ◌&&◌, ℕ, true, false, Bool, min, not}
 use Rattle.std.proofs.Common.{List, [], ◌∷◌, ◌++◌, Option, Some, None, IsSome, Result, Ok, Err, inl, inr, refl, sym}
 use Rattle.std.proofs.Common.{◌∙◌, ap, subst, arith}
-use Rattle.std.proofs.lemmas.Bool.{cases_lt}
+use Rattle.std.proofs.Common.{nat_lt, slice_index_or, ◌==◌}
+use Rattle.std.proofs.lemmas.Bool.{and_parts, cases_lt, ltb-true}
+use Rattle.std.specs.Int.{bit_at}
 use Rattle.std.specs.FinMap.{get}
 use Rattle.nfs_wire.specs.declared.replies.ReadData.{ReadData}
 use Rattle.std.proofs.Common.{Bor, is_some, nat_le, option_copied}
@@ -18,13 +20,13 @@ use Rattle.nfs_objects.proofs.FilePartLemmas.{drop-resized, read-one, resized-le
 use Rattle.nfs_objects.proofs.SeenLemmas.{known-stands}
 use Rattle.nfs_objects.specs.Asks.{IsThere, Lacks}
 use Rattle.nfs_objects.specs.Bits.{has, no_bits}
-use Rattle.nfs_objects.specs.FileMaps.{FileMapValue, IsContent, block_size, part_at}
+use Rattle.nfs_objects.specs.FileMaps.{FileMapValue, IsContent, block_size, counts, part_at}
 use Rattle.nfs_objects.specs.Fits.{Fits}
 use Rattle.nfs_objects.specs.Knows.{Knows}
 use Rattle.nfs_objects.specs.Stands.{HasBlocks, IsMapped, IsStored, StoreMeaning, Represents, block_of, bytes_at}
 use Rattle.nfs_objects.specs.Stands.{inode_of}
 use Rattle.nfs_objects.specs.Stands.{map_in, map_of, pages_of}
-use Rattle.nfs_objects.specs.Stands.{beside_at, content_of, file_bytes, filled, stored_in}
+use Rattle.nfs_objects.specs.Stands.{beside_at, content_of, file_bytes, filed_in, filled, stored_in}
 use Rattle.nfs_objects.specs.Store.{Store, with_writes, with_write}
 use Rattle.nfs_objects.specs.Values.{DraftValue, is_addr, known_at, shown_at, written_at}
 use Rattle.nfs_objects.specs.declared.address.Addr.{Addr}
@@ -79,6 +81,11 @@ never-lacking d a halt some lacks = by (known_at d a) lacks.unknown some
     by : (o : Option (Option Object)) → o ≡ None → IsSome o → ⊥
     by None none e = cc
     by (Some x) none e = cc
+
+-- what is in a set is below 512
+pub in-set : (set : Bits) (p : ℕ) → has set p ≡ true → p < 512
+in-set set p is = ltb-true p 512
+    (and_parts (nat_lt p 512) (bit_at (slice_index_or set.words (p / 64) 0) (p % 64) == 1) is).0
 
 -- ---- maps and blocks
 pub has-pages : (d : DraftValue) (n : ℕ) (map : FileMapValue) → HasMap d n map → HasPages d n map.pages
@@ -158,21 +165,44 @@ told-stands d n page bits place below shows told s k fits stands =
         ∙ ap (λ b. has b place) (shows s k fits stands) ∙ told
 
 -- ---- blocks that are shown
-pub shows-absent : (d : DraftValue) (n : ℕ) (pages : Bits) (i : ℕ) → HasPages d n pages → has pages (i / 512) ≡ false →
-    ShowsBlock d n i []
-shows-absent d n pages i shows none s k fits stands =
-    ap stored_in (no-page (with_writes s d.writes) n pages (has-blocks d n pages shows s k fits stands) i none)
+-- what counts is no remains, and of what is none a file has what stands there
+counts-stored : (r p : Bool) → (p && not r) ≡ true → r ≡ false
+counts-stored true true counted = cc
+counts-stored true false counted = cc
+counts-stored false p counted = refl
 
-pub shows-known : (d : DraftValue) (n i : ℕ) (found : Option (List ℕ)) →
-    option_map block_of (known_at d (addresses.Block n i)) ≡ Some found → ShowsBlock d n i (unwrap_or found [])
-shows-known d n i found known = by (known_at d (addresses.Block n i)) refl known
+pub filed-stored : (map : FileMapValue) (i : ℕ) (o : Option Object) → has map.remains (i / 512) ≡ false →
+    filed_in map i o ≡ stored_in o
+filed-stored map i o off = ap (λ t. cond t [] (stored_in o)) off
+
+pub shows-absent : (d : DraftValue) (n : ℕ) (map : FileMapValue) (i : ℕ) → HasPages d n map.pages →
+    counts map (i / 512) ≡ false → ShowsBlock d n map i []
+shows-absent d n map i shows none s k fits stands =
+    by (has map.remains (i / 512)) (has map.pages (i / 512)) refl none
+  where
+    o : Option Object
+    o = (with_writes s d.writes).at (addresses.Block n i)
+
+    by : (r p : Bool) → has map.pages (i / 512) ≡ p → (p && not r) ≡ false → cond r [] (stored_in o) ≡ []
+    by true p is off = refl
+    by false true is off = cc
+    by false false is off =
+        ap stored_in (no-page (with_writes s d.writes) n map.pages (has-blocks d n map.pages shows s k fits
+        stands) i is)
+
+pub shows-known : (d : DraftValue) (n : ℕ) (map : FileMapValue) (i : ℕ) (found : Option (List ℕ)) →
+    counts map (i / 512) ≡ true → option_map block_of (known_at d (addresses.Block n i)) ≡ Some found →
+    ShowsBlock d n map i (unwrap_or found [])
+shows-known d n map i found counted known = by (known_at d (addresses.Block n i)) refl known
   where
     by : (o : Option (Option Object)) → known_at d (addresses.Block n i) ≡ o → option_map block_of o ≡ Some found →
-        ShowsBlock d n i (unwrap_or found [])
+        ShowsBlock d n map i (unwrap_or found [])
     by None is e = cc
     by (Some o) is e = λ s k fits stands.
         let same : block_of o ≡ found = cc in
-        ap stored_in (known-stands d s (addresses.Block n i) o fits is) ∙ ap (λ b. unwrap_or b []) same
+        filed-stored map i ((with_writes s d.writes).at (addresses.Block n i))
+        (counts-stored (has map.remains (i / 512)) (has map.pages (i / 512)) counted)
+        ∙ ap stored_in (known-stands d s (addresses.Block n i) o fits is) ∙ ap (λ b. unwrap_or b []) same
 
 is-block : (o : Option Object) (bytes : List ℕ) → block_of o ≡ Some bytes → o ≡ Some (objects.Block bytes)
 is-block None bytes e = cc
@@ -201,13 +231,14 @@ block-there d n i (Some bytes) known some = by (known_at d (addresses.Block n i)
         (bytes.now, is ∙ ap Some (is-block o bytes.now same))
 
 -- what was asked for is not lacking
-pub known-block : (d : DraftValue) (n i : ℕ) (r : Result (Option (Bor (List ℕ))) Missing) →
-    IsSome (known_at d (addresses.Block n i)) →
+pub known-block : (d : DraftValue) (n : ℕ) (map : FileMapValue) (i : ℕ) (r : Result (Option (Bor (List ℕ))) Missing) →
+    counts map (i / 512) ≡ true → IsSome (known_at d (addresses.Block n i)) →
     MatchResult r (λ block. option_map block_of (known_at d (addresses.Block n i)) ≡ Some (option_copied block))
     (Lacks d (addresses.Block n i)) →
-    MatchResult r (λ block. ShowsBlock d n i (unwrap_or (option_copied block) [])) (StopsAt d [])
-known-block d n i (Ok block) some is = shows-known d n i (option_copied block) is
-known-block d n i (Err halt) some lacks = absurd (never-lacking d (addresses.Block n i) halt some lacks)
+    MatchResult r (λ block. ShowsBlock d n map i (unwrap_or (option_copied block) [])) (StopsAt d [])
+known-block d n map i (Ok block) counted some is = shows-known d n map i (option_copied block) counted is
+known-block d n map i (Err halt) counted some lacks =
+    absurd (never-lacking d (addresses.Block n i) halt some lacks)
 
 -- and a map
 pub known-map : (d : DraftValue) (s : Store) (n page : ℕ) (was : Bits) → Fits d.view s →
@@ -227,10 +258,16 @@ pub known-told : (d : DraftValue) (n page : ℕ) (r : Result Bits Missing) → I
 known-told d n page (Ok bits) some is = λ s k fits stands. known-map d s n page bits fits is
 known-told d n page (Err halt) some lacks = absurd (never-lacking d (addresses.Map n page) halt some lacks)
 
+-- a page that is not there tells of no block
+pub absent-told : (d : DraftValue) (n page : ℕ) (pages bits : Bits) → HasPages d n pages → has pages page ≡ false →
+    bits ≡ no_bits → ShowsMap d n page bits
+absent-told d n page pages bits shows none is s k fits stands =
+    ap map_of (no-map (with_writes s d.writes) n pages (has-blocks d n pages shows s k fits stands) page none) ∙ sym is
+
 -- the bytes of a file are what its blocks tell
 pub content-there : (d : DraftValue) (n : ℕ) (map : FileMapValue) → HasMap d n map → (s : Store) (k : StoreMeaning) →
     Fits d.view s → Represents (with_writes s d.writes) k →
-    IsContent map.size (λ b. stored_in ((with_writes s d.writes).at (addresses.Block n b))) (bytes_at k.state n)
+    IsContent map.size (λ b. filed_in map b ((with_writes s d.writes).at (addresses.Block n b))) (bytes_at k.state n)
 content-there d n map has s k fits stands =
     stands.files.bytes n has.inode map (stands-there d n (Some has.inode) has.stands s k fits stands) has.content
 
@@ -264,7 +301,7 @@ module _ (d : DraftValue) (n : ℕ) (map : FileMapValue) (has : HasMap d n map) 
   gathered-none = record { counted = omega arith; is = λ s k w. refl }
 
   pub gathered-more : (index : ℕ) (found bytes more : List ℕ) → offset / block_size ≤ index →
-      index * block_size < offset + count → IsGathered d n offset count index found → ShowsBlock d n index bytes →
+      index * block_size < offset + count → IsGathered d n offset count index found → ShowsBlock d n map index bytes →
       more ≡ found ++ resized (drop (offset - index * block_size) bytes)
       (min (block_size - (offset - index * block_size)) (count - length found)) → IsGathered d n offset count
       (index + 1) more
@@ -274,7 +311,8 @@ module _ (d : DraftValue) (n : ℕ) (map : FileMapValue) (has : HasMap d n map) 
         let all = bytes_at k.state n in
         let content = content-there d n map has s k w.fits w.stands in
         is ∙ ap (λ b. found ++ resized (drop start b) c) (sym (shows s k w.fits w.stands))
-        ∙ (λ j. so.is s k w j ++ part all (λ b. stored_in ((with_writes s d.writes).at (addresses.Block n b))) content
+        ∙ (λ j. so.is s k w j ++ part all (λ b. filed_in map b ((with_writes s d.writes).at (addresses.Block n b)))
+        content
         j)
         ∙ sym (take-add (length found) c (drop offset all))
         ∙ ap (λ m. take m (drop offset all)) (sym (ap length is ∙ long));

@@ -1,12 +1,12 @@
 -- How readers halt, as their callers see it.
 use Rattle.std.proofs.Common.{◌≡◌, ℕ, List, [], ◌∷◌, Option, Some, None, Result, Err, IsSome, inl, inr, option_map}
 use Rattle.std.proofs.Common.{refl, sym, ◌∙◌, ap, subst}
-use Rattle.std.proofs.Common.{Ok, ◌⊎◌}
+use Rattle.std.proofs.Common.{Ok, ◌⊎◌, ◌++◌}
 use Rattle.std.specs.Prelude.{IfErr, MatchResult}
 use Rattle.nfs_machine.specs.Handles.{handle_of}
 use Rattle.nfs_machine.specs.declared.handle.Handle.{Handle}
 use Rattle.nfs_objects.proofs.StandsInExportLemmas.{table-lives}
-use Rattle.nfs_objects.proofs.KnowsLemmas.{among-first, covers-among, lacks-stops, stops-wider}
+use Rattle.nfs_objects.proofs.KnowsLemmas.{among-first, covers-among, covers-both, lacks-stops, stops-wider}
 use Rattle.nfs_objects.proofs.SeenLemmas.{unknown-unseen}
 use Rattle.nfs_objects.specs.Asks.{Lacks, IsThere}
 use Rattle.nfs_objects.specs.Attempt.{HaltsFirst, StopsCall, first_wanted_with, object_wanted, unless_seen}
@@ -166,6 +166,13 @@ there-stops d a P (Err halt) (inr there) lacks = lacks-stops d [] 0 a halt lacks
 pub lives-stops : (d : DraftValue) (n : ℕ) (halt : Missing) → IsThere d.view (addresses.Inode n) →
     StopsAt d (addresses_of d.view n) halt → StopsAt d [] halt
 lives-stops d n halt lives stops = stops-wider d.modes (addresses_of d.view n) [] 0 d.view halt (inr lives, tt) stops
+
+pub both-stop : (d : DraftValue) (n m : ℕ) (asked : List Addr) (halt : Missing) → IsThere d.view (addresses.Inode n) →
+    IsThere d.view (addresses.Inode m) → StopsAt d (addresses_of d.view n ++ addresses_of d.view m) halt →
+    StopsAt d asked halt
+both-stop d n m asked halt first second stops =
+    stops-wider d.modes (addresses_of d.view n ++ addresses_of d.view m) asked 0 d.view halt
+    (covers-both asked d.view (addresses_of d.view n) (addresses_of d.view m) (inr first, tt) (inr second, tt)) stops
 
 -- an object that the draft knows is not what it lacks
 pub known-stops : (d : DraftValue) (n : ℕ) (halt : Missing) → IsSome (known_at d (addresses.Inode n)) →

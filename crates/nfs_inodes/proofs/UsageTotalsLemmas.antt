@@ -43,6 +43,9 @@ module _ (d : DraftValue) (export : ℕ) where
   usage-at group = (addresses.Usage export group, held_mode d.modes d.view (addresses.Usage export group))
 
   -- ---- what is asked for
+  pub unread-none : (asked : List (Addr × Mode)) → asked ≡ [] → AreUnread d export 0 asked
+  unread-none asked none = subst (AreUnread d export 0) (sym none) (record { once = tt; each = tt })
+
   wider : (count : ℕ) (a : Addr × Mode) → IsUnread d export count a → IsUnread d export (count + 1) a
   wider count a is = record {
     group = is.group;

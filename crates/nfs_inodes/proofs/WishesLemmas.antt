@@ -10,12 +10,11 @@ use Rattle.std.specs.List.{AllByRecursion}
 use Rattle.nfs_machine.proofs.ModesLemmas.{all-joined}
 use Rattle.nfs_objects.proofs.SeenLemmas.{all-append, all-map, unknown-unseen}
 use Rattle.nfs_objects.specs.Asks.{EachOnce, IsThere, MayAsk}
-use Rattle.nfs_objects.specs.Bits.{has}
+use Rattle.nfs_objects.specs.FileMaps.{FileMapValue, counts}
 use Rattle.nfs_objects.specs.Calls.{IsAmong, blocks_at, blocks_from, maps_at}
 use Rattle.nfs_objects.specs.Values.{DraftValue, is_addr, known_at}
 use Rattle.nfs_objects.specs.declared.address.Addr.{Addr}
 use Rattle.nfs_objects.specs.declared.address.Addr.TheVariants as addresses
-use Rattle.nfs_objects.specs.declared.bits.Bits.{Bits}
 use Rattle.nfs_objects.specs.declared.change.Missing.{Missing}
 use Rattle.nfs_objects.specs.declared.modes.Mode.{Mode}
 use Rattle.nfs_objects.specs.Modes.{held_mode}
@@ -28,6 +27,26 @@ use Rattle.nfs_inodes.specs.Stops.{StopsAt}
 none-of-more : {X : Type 0} (xs : List X) (x : X) → xs ++ x ∷ [] ≡ [] → ⊥
 none-of-more [] x e = cc
 none-of-more (y ∷ xs) x e = cc
+
+-- an address that the draft knows, and one that it does not
+pub wish-known : (d : DraftValue) (a : Addr) (asked : List (Addr × Mode)) → IsSome (known_at d a) → asked ≡ with_wish
+    d a asked
+wish-known d a asked some = by (known_at d a) some
+  where
+    by : (o : Option (Option Object)) → IsSome o → asked ≡ elim o [
+      | Some object ↦ asked
+      | None ↦ asked ++ (a, held_mode d.modes d.view a) ∷ []
+    ]
+    by None e = cc
+    by (Some object) e = refl
+
+pub wish-unknown : (d : DraftValue) (a : Addr) (asked : List (Addr × Mode)) (wish : Addr × Mode) → known_at d a ≡ None →
+    wish ≡ (a, held_mode d.modes d.view a) → asked ++ wish ∷ [] ≡ with_wish d a asked
+wish-unknown d a asked wish none is =
+    ap (λ w. asked ++ w ∷ []) is ∙ ap (λ (o : Option (Option Object)). elim o [
+      | Some object ↦ asked
+      | None ↦ asked ++ (a, held_mode d.modes d.view a) ∷ []
+    ]) (sym none)
 
 -- two lists of which no address is in both
 once-joined : (xs ys : List (Addr × Mode)) → EachOnce xs → EachOnce ys →
@@ -237,28 +256,28 @@ module _ (file first : ℕ) where
             is = is.is;
           })
 
--- ---- those of a range whose map pages are there
-abbrev pub IsPaged : (file : ℕ) → Bits → (first end : ℕ) → Addr → Type 0
-IsPaged file pages first end a = (is : IsBlockIn file first end a) × (has pages (is.index / 512) ≡ true)
+-- ---- those of a range whose map pages are there and count
+abbrev pub IsPaged : (file : ℕ) → FileMapValue → (first end : ℕ) → Addr → Type 0
+IsPaged file map first end a = (is : IsBlockIn file first end a) × (counts map (is.index / 512) ≡ true)
 
-module _ (d : DraftValue) (file : ℕ) (pages : Bits) (first : ℕ) (old mid : List (Addr × Mode)) where
-  pub range-none : (end : ℕ) → end ≤ first → AsksFor d (IsBlockIn file first end) (IsPaged file pages first end) old old
-  range-none end none = asks-none d (IsBlockIn file first end) (IsPaged file pages first end) old
+module _ (d : DraftValue) (file : ℕ) (map : FileMapValue) (first : ℕ) (old mid : List (Addr × Mode)) where
+  pub range-none : (end : ℕ) → end ≤ first → AsksFor d (IsBlockIn file first end) (IsPaged file map first end) old old
+  range-none end none = asks-none d (IsBlockIn file first end) (IsPaged file map first end) old
       (λ a must. no-blocks file first end none a must.0)
 
   pub range-more : (end : ℕ) (a : Addr) (new : List (Addr × Mode)) → first ≤ end → a ≡ addresses.Block file end →
-      new ≡ with_wish d a mid → AsksFor d (IsBlockIn file first end) (IsPaged file pages first end) old mid →
-      AsksFor d (IsBlockIn file first (end + 1)) (IsPaged file pages first (end + 1)) old new
+      new ≡ with_wish d a mid → AsksFor d (IsBlockIn file first end) (IsPaged file map first end) old mid →
+      AsksFor d (IsBlockIn file first (end + 1)) (IsPaged file map first (end + 1)) old new
   range-more end a new within at is asks =
       asks-as d (λ b. IsBlockIn file first end b ⊎ (addresses.Block file end ≡ b)) (IsBlockIn file first (end + 1))
-      (λ b. IsPaged file pages first end b ⊎ (addresses.Block file end ≡ b)) (IsPaged file pages first (end + 1)) old
+      (λ b. IsPaged file map first end b ⊎ (addresses.Block file end ≡ b)) (IsPaged file map first (end + 1)) old
       new (blocks-wider file first end within)
       (λ b must. by b must (must.0.index == end) refl)
-      (asks-more d (IsBlockIn file first end) (IsPaged file pages first end) (addresses.Block file end) old mid asks
+      (asks-more d (IsBlockIn file first end) (IsPaged file map first end) (addresses.Block file end) old mid asks
       (blocks-apart file first end) new (is ∙ ap (λ b. with_wish d b mid) at))
     where
-      by : (b : Addr) (must : IsPaged file pages first (end + 1) b) (t : Bool) → (must.0.index == end) ≡ t →
-          IsPaged file pages first end b ⊎ (addresses.Block file end ≡ b)
+      by : (b : Addr) (must : IsPaged file map first (end + 1) b) (t : Bool) → (must.0.index == end) ≡ t →
+          IsPaged file map first end b ⊎ (addresses.Block file end ≡ b)
       by b must true same = inr (ap (addresses.Block file) (sym ((unsigned_Decides must.0.index end).0 same)) ∙
           must.0.is)
       by b must false other =
@@ -269,18 +288,18 @@ module _ (d : DraftValue) (file : ℕ) (pages : Bits) (first : ℕ) (old mid : L
             must.1,
           )
 
-  pub range-skip : (end : ℕ) → has pages (end / 512) ≡ false →
-      AsksFor d (IsBlockIn file first end) (IsPaged file pages first end) old mid →
-      AsksFor d (IsBlockIn file first (end + 1)) (IsPaged file pages first (end + 1)) old mid
+  pub range-skip : (end : ℕ) → counts map (end / 512) ≡ false →
+      AsksFor d (IsBlockIn file first end) (IsPaged file map first end) old mid →
+      AsksFor d (IsBlockIn file first (end + 1)) (IsPaged file map first (end + 1)) old mid
   range-skip end none asks =
-      asks-as d (IsBlockIn file first end) (IsBlockIn file first (end + 1)) (IsPaged file pages first end)
-      (IsPaged file pages first (end + 1)) old mid (blocks-less file first end)
+      asks-as d (IsBlockIn file first end) (IsBlockIn file first (end + 1)) (IsPaged file map first end)
+      (IsPaged file map first (end + 1)) old mid (blocks-less file first end)
       (λ b must. by b must (must.0.index == end) refl) asks
     where
-      by : (b : Addr) (must : IsPaged file pages first (end + 1) b) (t : Bool) → (must.0.index == end) ≡ t →
-          IsPaged file pages first end b
+      by : (b : Addr) (must : IsPaged file map first (end + 1) b) (t : Bool) → (must.0.index == end) ≡ t →
+          IsPaged file map first end b
       by b must true same = absurd (let no : true ≡ false = sym must.1
-          ∙ ap (λ i. has pages (i / 512)) ((unsigned_Decides must.0.index end).0 same) ∙ none in cc)
+          ∙ ap (λ i. counts map (i / 512)) ((unsigned_Decides must.0.index end).0 same) ∙ none in cc)
       by b must false other =
           let apart = differs must.0.index end other in
           let is = must.0 in (

@@ -3,13 +3,12 @@ use Rattle.std.proofs.Common.{◌≡◌, ◌⊎◌, ℕ, ◌+◌, ◌-◌, ◌/�
 use Rattle.std.proofs.Common.{Some, IsSome, inl, inr}
 use Rattle.std.proofs.Common.{refl, sym, ◌∙◌, ap, subst}
 use Rattle.nfs_objects.proofs.KnowsLemmas.{among-behind, among-front, covers-among, stops-wider}
-use Rattle.nfs_objects.specs.Bits.{has}
+use Rattle.nfs_objects.specs.FileMaps.{FileMapValue}
 use Rattle.nfs_objects.specs.Calls.{IsAmong, addresses_of, blocks_at, maps_at}
 use Rattle.nfs_objects.specs.Sums.{group_of}
 use Rattle.nfs_objects.specs.Values.{DraftValue, is_addr}
 use Rattle.nfs_objects.specs.declared.address.Addr.{Addr}
 use Rattle.nfs_objects.specs.declared.address.Addr.TheVariants as addresses
-use Rattle.nfs_objects.specs.declared.bits.Bits.{Bits}
 use Rattle.nfs_objects.specs.declared.change.Missing.{Missing}
 use Rattle.nfs_objects.specs.declared.modes.Mode.{Mode}
 use Rattle.nfs_objects.specs.declared.object.Inode.{Inode}
@@ -25,7 +24,8 @@ use Rattle.nfs_inodes.proofs.ReadBlocksLemmas.{bytes-there}
 use Rattle.nfs_inodes.specs.Known.{bytes_of, content_at}
 use Rattle.nfs_inodes.proofs.WishesLemmas.{IsPaged, among-block, among-map, asking-all, asks-as, asks-more, known-all}
 use Rattle.nfs_inodes.specs.Asking.{AsksFor, IsAsking, with_wish}
-use Rattle.nfs_inodes.specs.Blocks.{IsBlockIn, IsInRange, KnowsMapped, KnowsRange, end_of, first_of, read_from}
+use Rattle.nfs_inodes.specs.Blocks.{IsBlockIn, IsInRange, IsMapIn, KnowsMapped, KnowsRange, end_of, first_of}
+use Rattle.nfs_inodes.specs.Blocks.{read_from}
 use Rattle.nfs_inodes.specs.Blocks.{written_from}
 use Rattle.nfs_inodes.specs.Counts.{KeepsInodes}
 use Rattle.nfs_inodes.specs.Known.{HasInode}
@@ -82,20 +82,20 @@ read-result d n offset count (Ok found) is = λ s k w.
 read-result d n offset count (Err halt) stops = read-blocks d n offset halt stops
 
 -- ---- a read
-module _ (d : DraftValue) (n offset count : ℕ) (pages : Bits) (some : 0 < count) (few : count ≤ 65536)
+module _ (d : DraftValue) (n offset count : ℕ) (map : FileMapValue) (some : 0 < count) (few : count ≤ 65536)
     (asked : List (Addr × Mode))
     (asks : AsksFor d (IsBlockIn n (first_of offset) (end_of offset count))
-    (IsPaged n pages (first_of offset) (end_of offset count)) [] asked) where
+    (IsPaged n map (first_of offset) (end_of offset count)) [] asked) where
   pub read-asking : IsAsking d (blocks_at n offset) asked
   read-asking =
       asking-all d (IsBlockIn n (first_of offset) (end_of offset count))
-      (IsPaged n pages (first_of offset) (end_of offset count)) asked asks (blocks_at n offset)
+      (IsPaged n map (first_of offset) (end_of offset count)) asked asks (blocks_at n offset)
       (λ a is unknown. inl (among-block n offset count some few a is))
 
-  pub read-known : asked ≡ [] → KnowsMapped d n pages offset count
+  pub read-known : asked ≡ [] → KnowsMapped d n map offset count
   read-known none i behind before there =
       known-all d (IsBlockIn n (first_of offset) (end_of offset count))
-      (IsPaged n pages (first_of offset) (end_of offset count)) asked asks none (addresses.Block n i)
+      (IsPaged n map (first_of offset) (end_of offset count)) asked asks none (addresses.Block n i)
       (record { index = i; behind = behind; before = before; is = refl }, there)
 
 -- ---- a write
@@ -109,6 +109,15 @@ one-map d n offset count page some few behind before halt stops =
           (record { page = page; behind = behind; before = before; is = refl })),
       tt,
     ) stops
+
+-- map pages of a range alone
+pub maps-asking : (d : DraftValue) (n offset count : ℕ) → 0 < count → count ≤ 65536 → (asked : List (Addr × Mode)) →
+    AsksFor d (λ a. ⊥ ⊎ IsMapIn n (first_of offset / 512) ((end_of offset count - 1) / 512 + 1) a) (λ a. ⊥) [] asked →
+    IsAsking d (maps_at n offset) asked
+maps-asking d n offset count some few asked asks =
+    asking-all d (λ a. ⊥ ⊎ IsMapIn n (first_of offset / 512) ((end_of offset count - 1) / 512 + 1) a) (λ a. ⊥) asked
+    asks (maps_at n offset)
+    (λ a may unknown. elim may [ inl none ↦ absurd none | inr map ↦ inl (among-map n offset count some few a map) ])
 
 module _ (d : DraftValue) (n offset count export : ℕ) (some : 0 < count) (few : count ≤ 65536) (same : Bool)
     (mid asked : List (Addr × Mode))

@@ -149,6 +149,13 @@ module _ (old : DraftValue) (n offset : ℕ) (bytes : List ℕ) where
           next.leaves.stands s (addresses.Block n i) (other-block n index i (λ e. apart (sym e)))
           ∙ so.blocks s i fits from (omega (arith, before, apart))
 
+  -- what is known of later blocks is as before
+  pub blocks-known : (mid : DraftValue) (index i : ℕ) → WritesBlocks old mid n offset bytes index → index ≤ i →
+      known_at mid (addresses.Block n i) ≡ known_at old (addresses.Block n i)
+  blocks-known mid index i so behind =
+      so.leaves.known (addresses.Block n i) (λ j from before. other-block n j i
+      (λ e. absurd (omega (arith, before, e, behind))))
+
 -- ---- maps
 -- a map that tells of a block is not that of none
 pub tells-some : (bits : Bits) (place : ℕ) → has bits place ≡ true → same_bits bits no_bits ≡ false

@@ -7,9 +7,9 @@ use Rattle.std.specs.Prelude.{min}
 use Rattle.nfs_machine.specs.Data.{written}
 use Rattle.nfs_objects.specs.Bits.{has}
 use Rattle.nfs_objects.specs.Calls.{addresses_of, blocks_at, maps_at}
-use Rattle.nfs_objects.specs.FileMaps.{FileMapValue, block_size}
+use Rattle.nfs_objects.specs.FileMaps.{FileMapValue, block_size, counts}
 use Rattle.nfs_objects.specs.Fits.{Fits}
-use Rattle.nfs_objects.specs.Stands.{HasBlocks, StoreMeaning, Represents, map_in, map_of, pages_of, stored_in}
+use Rattle.nfs_objects.specs.Stands.{HasBlocks, StoreMeaning, Represents, filed_in, map_in, map_of, pages_of, stored_in}
 use Rattle.nfs_objects.specs.Stands.{stored_map}
 use Rattle.nfs_objects.specs.Store.{Store, with_writes}
 use Rattle.nfs_objects.specs.Unfiled.{Lays}
@@ -23,10 +23,11 @@ use Rattle.nfs_inodes.specs.Known.{HasInode}
 use Rattle.nfs_inodes.specs.Stops.{counted_at}
 
 -- ---- what is shown
--- a block of a file has these bytes, in every store that the draft's view fits
-abbrev pub ShowsBlock : DraftValue → (file index : ℕ) → List ℕ → Type 0
-ShowsBlock d file index bytes = (s : Store) (k : StoreMeaning) → Fits d.view s → Represents (with_writes s d.writes) k →
-    stored_in ((with_writes s d.writes).at (addresses.Block file index)) ≡ bytes
+-- a file with this map has these bytes of a block, in every store that the draft's view fits
+abbrev pub ShowsBlock : DraftValue → (file : ℕ) → FileMapValue → (index : ℕ) → List ℕ → Type 0
+ShowsBlock d file map index bytes = (s : Store) (k : StoreMeaning) → Fits d.view s
+    → Represents (with_writes s d.writes) k →
+    filed_in map index ((with_writes s d.writes).at (addresses.Block file index)) ≡ bytes
 
 -- the file with this map stands at a number
 pub record HasMap (d : DraftValue) (number : ℕ) (map : FileMapValue) : Type 0 where
@@ -55,14 +56,14 @@ first_of offset = offset / block_size
 abbrev pub end_of : (offset count : ℕ) → ℕ
 end_of offset count = (offset + count - 1) / block_size + 1
 
--- the draft knows what is at each block of a range; or, as far as its map pages are there
+-- the draft knows what is at each block of a range; or, as far as its map pages are there and count
 abbrev pub KnowsRange : DraftValue → (file offset count : ℕ) → Type 0
 KnowsRange d file offset count = (i : ℕ) → first_of offset ≤ i → i < end_of offset count →
     IsSome (known_at d (addresses.Block file i))
 
-abbrev pub KnowsMapped : DraftValue → (file : ℕ) → Bits → (offset count : ℕ) → Type 0
-KnowsMapped d file pages offset count = (i : ℕ) → first_of offset ≤ i → i < end_of offset count →
-    has pages (i / 512) ≡ true → IsSome (known_at d (addresses.Block file i))
+abbrev pub KnowsMapped : DraftValue → (file : ℕ) → FileMapValue → (offset count : ℕ) → Type 0
+KnowsMapped d file map offset count = (i : ℕ) → first_of offset ≤ i → i < end_of offset count →
+    counts map (i / 512) ≡ true → IsSome (known_at d (addresses.Block file i))
 
 -- an address is that of a block of a file, from one on and before another
 pub record IsBlockIn (file first end : ℕ) (a : Addr) : Type 0 where

@@ -5,9 +5,10 @@ use Rattle.std.specs.Prelude.{not, nat_lt, List, [], Option, Some, None, IsSome,
 use Rattle.std.specs.Prelude.{if◌then◌else◌}
 use Rattle.nfs_machine.specs.Data.{resized}
 use Rattle.nfs_objects.specs.Bits.{has, no_bits, same_bits}
-use Rattle.nfs_objects.specs.FileMaps.{IsContent, block_size}
+use Rattle.nfs_objects.specs.FileMaps.{FileMapValue, IsContent, block_size}
 use Rattle.nfs_objects.specs.Fits.{Fits}
-use Rattle.nfs_objects.specs.Stands.{HasBlocks, IsMapped, IsStored, StoreMeaning, Represents, map_of, stored_in}
+use Rattle.nfs_objects.specs.Stands.{HasBlocks, IsMapped, IsStored, StoreMeaning, Represents, filed_in, map_of}
+use Rattle.nfs_objects.specs.Stands.{stored_in}
 use Rattle.nfs_objects.specs.Stands.{stored_map}
 use Rattle.nfs_objects.specs.Store.{Store, with_writes}
 use Rattle.nfs_objects.specs.Unfiled.{Lays}
@@ -149,16 +150,19 @@ pub record IsCutAt (old new : DraftValue) (file size : ℕ) (left : Bits) : Type
       HasBlocks (with_writes s new.writes) file left
   pub gone : size ≡ 0 → (p : ℕ) → has left p ≡ false
 
--- a file that had a size has another: its blocks have its bytes, cut off or with zeros behind them
-pub record IsResized (old new : DraftValue) (file before size : ℕ) (left : Bits) : Type 0 where
+-- a file that had this map gets this size and another map: its blocks have its bytes, cut off or with zeros behind them
+pub record IsResized (old new : DraftValue) (file : ℕ) (before : FileMapValue) (size : ℕ) (after : FileMapValue)
+    : Type 0 where
+  pub sized : after.size ≡ size
   pub lays : Lays file old new
   pub inodes : (n : ℕ) → known_at new (addresses.Inode n) ≡ known_at old (addresses.Inode n)
   pub content : (s : Store) (k : StoreMeaning) (bytes : List ℕ) → Fits old.view s →
       Represents (with_writes s old.writes) k →
-      IsContent before (λ b. stored_in ((with_writes s old.writes).at (addresses.Block file b))) bytes →
-      IsContent size (λ b. stored_in ((with_writes s new.writes).at (addresses.Block file b))) (resized bytes size)
+      IsContent before.size (λ b. filed_in before b ((with_writes s old.writes).at (addresses.Block file b))) bytes →
+      IsContent after.size (λ b. filed_in after b ((with_writes s new.writes).at (addresses.Block file b)))
+      (resized bytes size)
   pub maps : (s : Store) (k : StoreMeaning) → Fits old.view s → Represents (with_writes s old.writes) k →
-      HasBlocks (with_writes s new.writes) file left
+      HasBlocks (with_writes s new.writes) file after.pages
 
 -- no block and no map of what lives at a number is there any more
 pub record IsCleared (old new : DraftValue) (number : ℕ) : Type 0 where

@@ -12,6 +12,7 @@ pub mod Links
 pub mod Listing
 pub mod Locks
 pub mod Makes
+pub mod Remains
 pub mod Removes
 pub mod Renames
 pub mod Rights

@@ -67,7 +67,7 @@ pub(crate) fn is_large(content: &Content) -> bool
 }
 
 /// Whether there are two numbers in a set, or more.
-fn has_two(bits: Bits) -> bool
+pub(crate) fn has_two(bits: Bits) -> bool
     ensures { Decides result (HasTwo bits) }
 {
     let last = bits.end().saturating_sub(1);

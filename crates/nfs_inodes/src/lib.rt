@@ -31,7 +31,7 @@ pub mod wishes;
 pub use checks::{changeable, directory, is_writable, no_directory, permitted, regular};
 pub use content::asking::Asking;
 pub use content::entries::{entry, is_empty, leads_to, new_cookie};
-pub use content::file::{ask_resize, read, resize, text, write};
+pub use content::file::{ask_holes, ask_resize, has_remains, read, resize, text, write};
 pub use content::listing::{EntriesLeft, EntryName, Left, ListedEntry, entries_left};
 pub use content::naming::{add_entry, ask_given, ask_left, give_name, leave, rehome, take_entry};
 pub use content::shape::BLOCK;

@@ -4,7 +4,7 @@
 //! new name; or both. Behind its first directory the plan goes to the second one, to the parts of its names and to what
 //! these lead to. Where RENAME moves a directory it goes up from its target (3.3.14: a directory may not move into
 //! itself or below). Where the checks of a call pass, all comes last that it has to hold to change its directories. A
-//! call that lists a directory goes through its pages.
+//! call that lists a directory goes through its pages, and READDIRPLUS then to the objects of the entries that it lists.
 
 ghost use Rattle.std.specs.Prelude.{◌≡◌, [], IfErr, IfSome};
 ghost use Rattle.nfs_machine.specs.declared.calls.Call.TheVariants as calls;
@@ -285,6 +285,7 @@ fn ask(draft: &Draft<'_>, call: &NfsCall) -> Result<(), Missing>
         NfsCall::Remove(place) => remove::ask(draft, Taking::Remove, place),
         NfsCall::Rmdir(place) => remove::ask(draft, Taking::Rmdir, place),
         NfsCall::Rename(arguments) => rename::ask(draft, arguments),
+        NfsCall::Readdirplus(arguments) => readdirplus::ask(draft, arguments),
         _ => Ok(()),
     }
 }
@@ -305,14 +306,16 @@ fn listing(draft: &Draft<'_>, call: &NfsCall) -> NextWant<Plan>
     next_pages(draft, call, left)
 }
 
-/// The next pages that a call lists.
+/// The next pages that a call lists, and what is behind them.
 fn next_pages(draft: &Draft<'_>, call: &NfsCall, left: PagesLeft) -> NextWant<Plan>
     requires { Begins (calls.Nfs call.now) draft.now }
     ensures { MayGoOn call.now draft.now result }
 {
     let (handle, _) = listed(call)?;
-    let (asked, left) = pages_wish(draft, number_of(handle)?, left)?;
-    Some((Want::Addresses(asked), Plan::Pages(left)))
+    match pages_wish(draft, number_of(handle)?, left) {
+        Some((asked, left)) => Some((Want::Addresses(asked), Plan::Pages(left))),
+        None => rest(draft, call, false),
+    }
 }
 
 /// The directory that a call lists, and what it asks for there.

@@ -1,6 +1,6 @@
 //! READDIRPLUS: the names of a directory with what they name, page by page (RFC 1813, 3.3.17).
 
-ghost use Rattle.std.specs.Prelude.{◌≡◌, [], map, MatchResult};
+ghost use Rattle.std.specs.Prelude.{◌≡◌, [], IfErr, map, MatchResult};
 ghost use Rattle.nfs_machine.specs.PageSteps.{full_entry};
 ghost use Rattle.nfs_machine.specs.declared.calls.Call.TheVariants as calls;
 ghost use Rattle.nfs_objects.specs.Asks.{IsThere};
@@ -11,6 +11,7 @@ ghost use Rattle.nfs_inodes.specs.Gathers.{EachLives};
 ghost use Rattle.nfs_inodes.specs.Known.{IsKnown};
 ghost use Rattle.nfs_inodes.specs.Listing.{listed_entry};
 ghost use Rattle.nfs_names.specs.Pages.{Lists, full_asked, full_page};
+ghost use Rattle.nfs_names.specs.Plans.{MayHalt};
 ghost use Rattle.nfs_inodes.specs.Stops.{StopsAt};
 
 use crate::page::{Budget, PageAsked, page_in};
@@ -36,6 +37,24 @@ pub(crate) fn attempt(draft: Draft<'_>, arguments: &ReaddirplusArguments) -> Res
         }
         Err(status) => Ok(draft.answer(reply(None, Err(status)))),
     }
+}
+
+/// Asks at once for the objects of the entries that are listed, where the checks pass and the pages are known.
+///
+/// # Errors
+///
+/// `Need` of what it lacks, and `Memory`.
+pub(crate) fn ask(draft: &Draft<'_>, arguments: &ReaddirplusArguments) -> Result<(), Missing>
+    requires { Begins (calls.Nfs (NfsCall.Readdirplus arguments.now)) draft.now }
+    ensures { IfErr result (MayHalt (calls.Nfs (NfsCall.Readdirplus arguments.now)) draft.now) }
+{
+    let Ok(directory) = named(draft, arguments.directory.as_slice())? else {
+        return Ok(());
+    };
+    let Ok(front) = page_in(draft, &directory, &asked(arguments))? else {
+        return Ok(());
+    };
+    read_objects(draft, &front.entries)
 }
 
 pub(crate) fn asked(arguments: &ReaddirplusArguments) -> PageAsked

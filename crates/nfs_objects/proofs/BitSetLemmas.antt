@@ -1,7 +1,7 @@
 -- Sets of bits with one number more.
 use Rattle.std.proofs.Common.{◌≡◌, ◌≢◌, ◌==◌, ◌&&◌, ◌||◌, ℕ, ◌<◌, ◌+◌, ◌*◌, ◌/◌, ◌%◌, ◌^◌, Bool, true, false, nat_lt}
 use Rattle.std.proofs.Common.{List, length, replicate, suc, zero, slice_index_or, slice_set, bit_or, refl, sym, ap, ◌∙◌}
-use Rattle.std.proofs.Common.{subst, arith}
+use Rattle.std.proofs.Common.{subst, arith, not}
 use Rattle.std.proofs.Math.Bool.{or-false}
 use Rattle.std.proofs.Math.Nat.{div-eq_of_lt-le, pow-suc}
 use Rattle.std.proofs.lemmas.Nat.{leading_top, one_shl}
@@ -9,9 +9,9 @@ use Rattle.std.proofs.lemmas.Bool.{and_from, and_parts, cases_eq, cases_lt, eq-e
 use Rattle.std.proofs.Common.{cond, min, bit_and, [], ◌∷◌, ◌-◌, ◌≤◌, inl, inr}
 use Rattle.std.proofs.lemmas.List.{get_or-set_other, get_or-set_same}
 use Rattle.std.proofs.lemmas.Nat.Bits.{bit_at-lt, bit_at-zero, bit_at_above, bit_at_and, bit_at_ones, bit_at_ones_above}
-use Rattle.std.proofs.lemmas.Nat.Bits.{bit_at_set_other, bit_at_set_same}
+use Rattle.std.proofs.lemmas.Nat.Bits.{bit_at_clear_other, bit_at_clear_same, bit_at_set_other, bit_at_set_same}
 use Rattle.std.specs.Cmp.{unsigned_Decides}
-use Rattle.std.specs.Int.{bit_at, leading_zeros, w64}
+use Rattle.std.specs.Int.{bit_at, bit_not, leading_zeros, w64}
 use Rattle.nfs_objects.specs.Bits.{IsEnd, IsMask, IsWordBelow, has, no_bits}
 use Rattle.nfs_objects.specs.declared.bits.Bits.{Bits}
 
@@ -67,6 +67,62 @@ module _ (words : List ℕ) (m : ℕ) (within : m < 512) (eight : length words �
           subst (λ q. has (bits after) q ≡ (has (bits words) q || true)) (sym same)
           ((λ i. lt-ltb m 512 within i && (bit-set i == 1)) ∙ sym (or_true (has (bits words) m)))
       by false e = ap (λ b. nat_lt n 512 && (b == 1)) (bit-after n e) ∙ sym (or-false (has (bits words) n))
+
+-- ---- one number less
+module _ (words : List ℕ) (m : ℕ) (within : m < 512) (eight : length words ≡ 8) where
+  abbrev old_word : ℕ
+  old_word = slice_index_or words (m / 64) 0
+
+  abbrev clear : ℕ
+  clear = bit_and old_word (bit_not w64 (1 * 2 ^ (m % 64) % 2 ^ 64))
+
+  abbrev rest : List ℕ
+  rest = slice_set words (m / 64) clear
+
+  bit-rest : (n : ℕ) → (m == n) ≡ false → bit_at (slice_index_or rest (n / 64) 0) (n % 64) ≡
+      bit_at (slice_index_or words (n / 64) 0) (n % 64)
+  bit-rest n other = by (n / 64 == m / 64) refl
+    where
+      differs : n ≢ m
+      differs e = absurd (let f = (unsigned_Decides m n).1 (sym e) in cc)
+
+      by : (b : Bool) → (n / 64 == m / 64) ≡ b → bit_at (slice_index_or rest (n / 64) 0) (n % 64) ≡
+          bit_at (slice_index_or words (n / 64) 0) (n % 64)
+      by true e =
+          let same : n / 64 ≡ m / 64 = (unsigned_Decides (n / 64) (m / 64)).0 e in
+          let place : n % 64 ≢ m % 64 = λ f. differs (omega (arith, same, f)) in
+          ap (λ p. bit_at (slice_index_or rest p 0) (n % 64)) same
+          ∙ ap (λ w. bit_at w (n % 64)) (get_or-set_same words (m / 64) clear 0 (omega (arith, within, eight)))
+          ∙ bit_at_clear_other w64 old_word (m % 64) (omega arith) (n % 64) (omega arith) place
+          ∙ ap (λ p. bit_at (slice_index_or words p 0) (n % 64)) (sym same)
+      by false e =
+          let apart : n / 64 ≢ m / 64 = λ f. absurd (let g = (unsigned_Decides (n / 64) (m / 64)).1 f in cc) in
+          ap (λ w. bit_at w (n % 64)) (get_or-set_other words (m / 64) (n / 64) clear 0 apart)
+
+  bit-clear : bit_at (slice_index_or rest (m / 64) 0) (m % 64) ≡ 0
+  bit-clear =
+      ap (λ w. bit_at w (m % 64)) (get_or-set_same words (m / 64) clear 0 (omega (arith, within, eight)))
+      ∙ bit_at_clear_same w64 old_word (m % 64) (omega arith)
+
+  and_off : (b : Bool) → (b && false) ≡ false
+  and_off true = refl
+  and_off false = refl
+
+  and_on : (b : Bool) → (b && true) ≡ b
+  and_on true = refl
+  and_on false = refl
+
+  pub without-has : (n : ℕ) → has (record { words = rest }) n ≡ (has (record { words = words }) n && not (m == n))
+  without-has n = by (m == n) refl
+    where
+      by : (b : Bool) → (m == n) ≡ b →
+          has (record { words = rest }) n ≡ (has (record { words = words }) n && not b)
+      by true e =
+          let same : m ≡ n = (unsigned_Decides m n).0 e in
+          subst (λ q. has (record { words = rest }) q ≡ (has (record { words = words }) q && false)) same
+          (ap (λ b. nat_lt m 512 && (b == 1)) bit-clear ∙ and_off (nat_lt m 512)
+          ∙ sym (and_off (has (record { words = words }) m)))
+      by false e = ap (λ b. nat_lt n 512 && (b == 1)) (bit-rest n e) ∙ sym (and_on (has (record { words = words }) n))
 
 and_true : (b : Bool) → (b && true) ≡ b
 and_true true = refl
@@ -163,6 +219,38 @@ below-has words number left each n = by (nat_lt n 512) refl
         cut true = sym (and_true (bit_at (slice_index_or words (n / 64) 0) (n % 64) == 1))
         cut false = sym (and_false (bit_at (slice_index_or words (n / 64) 0) (n % 64) == 1))
 
+-- ---- those in both of two sets
+-- the word at a place has the bits of both
+abbrev pub IsWordOf : (a b : List ℕ) → (place word : ℕ) → Type 0
+IsWordOf a b place word = word ≡ bit_and (slice_index_or a place 0) (slice_index_or b place 0)
+
+pub both-has : (a b both : List ℕ) → ((k : ℕ) → k < 8 → IsWordOf a b k (slice_index_or both k 0)) → (n : ℕ) →
+    has (record { words = both }) n ≡ (has (record { words = a }) n && has (record { words = b }) n)
+both-has a b both each n = by (nat_lt n 512) refl
+  where
+    x : ℕ
+    x = bit_at (slice_index_or a (n / 64) 0) (n % 64)
+
+    y : ℕ
+    y = bit_at (slice_index_or b (n / 64) 0) (n % 64)
+
+    by : (t : Bool) → nat_lt n 512 ≡ t → (t && (bit_at (slice_index_or both (n / 64) 0) (n % 64) == 1)) ≡
+        ((t && (x == 1)) && (t && (y == 1)))
+    by false e = refl
+    by true e =
+        let within = ltb-true n 512 e in
+        ap (λ w. bit_at w (n % 64) == 1) (each (n / 64) (omega (arith, within)))
+        ∙ ap (λ w. w == 1) (bit_at_and (slice_index_or a (n / 64) 0) (slice_index_or b (n / 64) 0) (n % 64))
+        ∙ least x y (bit_at-lt (slice_index_or a (n / 64) 0) (n % 64)) (bit_at-lt (slice_index_or b (n / 64) 0)
+        (n % 64))
+      where
+        least : (p q : ℕ) → p < 2 → q < 2 → (min p q == 1) ≡ ((p == 1) && (q == 1))
+        least zero q small less = ap (λ m. m == 1) (let e : min 0 q ≡ 0 = omega arith in e)
+        least (suc zero) zero small less = ap (λ m. m == 1) (let e : min 1 0 ≡ 0 = omega arith in e)
+        least (suc zero) (suc zero) small less = ap (λ m. m == 1) (let e : min 1 1 ≡ 1 = omega arith in e)
+        least (suc zero) (suc (suc q)) small less = absurd (omega (arith, less))
+        least (suc (suc p)) q small less = absurd (omega (arith, small))
+
 -- ---- the number behind the last one
 -- the highest bit of a word
 bit-top : (bits j : ℕ) → 2 ^ j ≤ bits → bits < 2 ^ suc j → bit_at bits j ≡ 1
@@ -224,3 +312,15 @@ module _ (words : List ℕ) (place : ℕ) (within : place < 8)
             omega (arith, whole, small, within),
             subst (IsEnd (record { words = words })) whole (is-end j small least most),
           )
+
+-- the last number in both of two sets
+module _ (a b both : Bits) (end : ℕ) (are : (n : ℕ) → has both n ≡ (has a n && has b n)) (ends : IsEnd both end) where
+  pub none-both : end ≡ 0 → (n : ℕ) → (has a n && has b n) ≡ false
+  none-both none n = by (has both n) refl
+    where
+      by : (t : Bool) → has both n ≡ t → (has a n && has b n) ≡ false
+      by true there = absurd (let e = ends.above n there in omega (arith, e, none))
+      by false absent = sym (are n) ∙ absent
+
+  pub last-both : 0 < end → (has a (end - 1) && has b (end - 1)) ≡ true
+  last-both some = sym (are (end - 1)) ∙ ends.last some

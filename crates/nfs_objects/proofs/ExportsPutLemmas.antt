@@ -22,7 +22,7 @@ use Rattle.nfs_objects.specs.ExportTables.{ExportTableValue}
 use Rattle.nfs_objects.specs.FileMaps.{IsContent}
 use Rattle.nfs_objects.specs.Replaced.{state_with, with_table}
 use Rattle.nfs_objects.specs.Stands.{IsPendingIn, IsPlaced, StandLocks, bucket_there, exported_file, file_there}
-use Rattle.nfs_objects.specs.Stands.{StandDirectories, StandFiles, entry_map_of, stored_in, StoreMeaning, Represents}
+use Rattle.nfs_objects.specs.Stands.{StandDirectories, StandFiles, entry_map_of, filed_in, StoreMeaning, Represents}
 use Rattle.nfs_objects.specs.Stands.{StandObjects, StandUsages, counts, inode_in, inode_of, links_kept, parent_kept}
 use Rattle.nfs_objects.specs.Stands.{lives_in, living_in, living_of_inode}
 use Rattle.nfs_objects.specs.Store.{Store, with_write}
@@ -189,7 +189,8 @@ module _ (s : Store) (k : StoreMeaning) (table : ExportTableValue) (stands : Rep
     blocks = λ n. record { maps = (stands.files.blocks n).maps; blocks = (stands.files.blocks n).blocks };
     bytes = λ n i map there is.
         let some : IsSome (inode_in new (at n)) = subst (λ (o : Option Inode). IsSome o) (sym there) refl in
-        subst (λ (g : Option Living). IsContent map.size (λ b. stored_in (s.at (addresses.Block n b))) (living_bytes g))
+        subst (λ (g : Option Living). IsContent map.size (λ b. filed_in map b (s.at (addresses.Block n b)))
+        (living_bytes g))
         (sym (same-beside n some)) (stands.files.bytes n i map (sym (was-there n some) ∙ there) is);
   }
 

@@ -242,6 +242,12 @@ written-none bytes offset within =
     ∙ ap (λ ys. ys ++ drop offset bytes) (append-nil (take offset bytes))
     ∙ take-append-drop offset bytes
 
+pub resized-same : (bytes : List ℕ) (size : ℕ) → size ≡ length bytes → resized bytes size ≡ bytes
+resized-same bytes size is =
+    let none : size - length bytes ≡ 0 = omega arith in
+    ap (λ k. take size bytes ++ replicate k 0) none ∙ append-nil (take size bytes)
+    ∙ take_all size bytes (omega arith)
+
 -- ---- the part with a number, after a change
 module _ (bytes more : List ℕ) (offset index at : ℕ) (is : at ≡ min (offset - index * block_size) block_size)
     (old window : List ℕ) (was : old ≡ part_at bytes index)

@@ -18,7 +18,7 @@ use Rattle.nfs_objects.specs.Stands.{file_bytes}
 use Rattle.nfs_objects.specs.Stands.{content_of, inode_in, inode_there, living_alone, living_of_inode, map_in, map_of}
 use Rattle.nfs_objects.specs.Stands.{pages_of}
 use Rattle.nfs_objects.specs.Stands.{Beside, HoldsEntries, beside_at, directory_entries, entry_map_in, filled}
-use Rattle.nfs_objects.specs.Stands.{stored_in}
+use Rattle.nfs_objects.specs.Stands.{filed_in}
 use Rattle.nfs_objects.specs.Store.{Store, put_at}
 use Rattle.nfs_objects.specs.Unfiled.{RepresentsBut, StandFilesBut}
 use Rattle.nfs_objects.specs.declared.address.Addr.TheVariants as addresses
@@ -149,7 +149,7 @@ files-stay s t k l same stand = record {
         ((stand.blocks n).blocks i);
   };
   bytes = λ n i map there is.
-      subst (λ x. IsContent map.size (λ b. stored_in (x.2 n b)) (living_bytes (get x.4 n))) (sym same)
+      subst (λ x. IsContent map.size (λ b. filed_in map b (x.2 n b)) (living_bytes (get x.4 n))) (sym same)
       (stand.bytes n i map (ap (λ x. inode_in x.3 (x.0 n)) (sym same) ∙ there) is);
 }
 
@@ -173,7 +173,7 @@ stands-but number s k stands = record {
 -- the blocks at a number have these bytes, where it is a file's
 abbrev pub HasContent : Store → (n : ℕ) → (bytes : List ℕ) → Inode → Type 0
 HasContent s n bytes i = (map : FileMapValue) → map_in i.content ≡ Some map →
-    IsContent map.size (λ b. stored_in (s.at (addresses.Block n b))) bytes
+    IsContent map.size (λ b. filed_in map b (s.at (addresses.Block n b))) bytes
 
 -- the pages and parts at a number are those of these entries, where it is a directory's, and else there are none
 abbrev pub HasListing : Store → (n : ℕ) → List Entry → Inode → Type 0
@@ -217,10 +217,10 @@ module _ (s : Store) (k : StoreMeaning) (number : ℕ) (o : Option Object) (last
     bytes = λ n. here-or-there
         (λ q. (i : Inode) (map : FileMapValue) → inode_there after l.state.exports q ≡ Some i →
         map_in i.content ≡ Some map →
-        IsContent map.size (λ b. stored_in (s.at (addresses.Block q b))) (bytes_at l.state q))
+        IsContent map.size (λ b. filed_in map b (s.at (addresses.Block q b))) (bytes_at l.state q))
         number
         (λ i map there is. content i (ap (inode_in l.state.exports) (sym (put-here number own)) ∙ there) map is)
-        (λ q other i map there is. subst (IsContent map.size (λ b. stored_in (s.at (addresses.Block q b))))
+        (λ q other i map there is. subst (IsContent map.size (λ b. filed_in map b (s.at (addresses.Block q b))))
         (sym (stay q other))
         (others.bytes q i map other
         ((λ j. inode_in (sym exports j) (sym (put-there q other) j)) ∙ there) is))

@@ -15,6 +15,7 @@ use Rattle.nfs_objects.proofs.SeenLemmas.{all-map, unknown-unseen}
 use Rattle.nfs_objects.specs.Asks.{Asks, WantsNumber, WantsNumbers, Lacks, IsThere, MayAsk}
 use Rattle.nfs_objects.specs.Attempt.{StopsCall}
 use Rattle.nfs_wire.specs.declared.calls.NfsCall.{NfsCall}
+use Rattle.side_wire.specs.declared.nlm.NlmCall.{NlmCall}
 use Rattle.nfs_wire.specs.Handles.{nfs_handles}
 use Rattle.nfs_objects.specs.Calls.{IsAmong, added_by, addresses_of, data_of, handles_of, named_by}
 use Rattle.nfs_objects.specs.Calls.{objects_at}
@@ -257,6 +258,12 @@ names-lost call view a among =
     (data_of call ++ (added_by view call ++ locks_lost view call)) a
     (among-behind (data_of call) (added_by view call ++ locks_lost view call) a
     (among-behind (added_by view call) (locks_lost view call) a among)))
+
+-- the locks that a call of NLM names
+pub names-locks : (call : NlmCall) (view : ViewValue) (a : Addr) → IsAmong (locks_named call) a →
+    IsAmong (named_by (calls.Nlm call) view) a
+names-locks call view a among =
+    inr (among-behind (objects_at view (nlm_handles call)) (locks_named call) a among)
 
 -- ---- chains of checks: a check that passed, and one that failed
 module _ {A B E : Type 0} where

@@ -8,7 +8,7 @@ use Rattle.std.specs.Cmp.Lexicographic.{nat_list_eq_equiv, pointwise}
 use Rattle.std.specs.List.{AllByRecursion, IsDistinct, list_any}
 use Rattle.std.proofs.lemmas.Bool.{or_parts}
 use Rattle.std.proofs.lemmas.List.{append-nil, drop-append-le, length-drop, map-append, map_more, nil_from_length}
-use Rattle.std.proofs.lemmas.List.{drop-drop, take-append-drop, take_all}
+use Rattle.std.proofs.lemmas.List.{drop-drop, take-append-drop, take-append-le, take_all}
 use Rattle.std.proofs.lemmas.List.Concat.{flat_map-append}
 use Rattle.std.proofs.lemmas.List.Elements.{filter-append}
 use Rattle.std.proofs.lemmas.List.Folds.{flat_map-map, length-flat_map-take, list_any-append}
@@ -47,9 +47,22 @@ any-turned m mounts =
     (λ x. ap (λ b. b && pointwise nat_eq m.directory x.directory) (nat_list_eq_equiv.symm m.hostname x.hostname)
     ∙ ap (λ b. pointwise nat_eq x.hostname m.hostname && b) (nat_list_eq_equiv.symm m.directory x.directory)) mounts
 
+pub any-dropped : {X : Type 0} (p : X → Bool) (xs : List X) → list_any p xs ≡ false →
+    list_any p (drop 1 xs) ≡ false
+any-dropped p [] none = none
+any-dropped p (x ∷ xs) none = (or_parts (p x) (list_any p xs) none).1
+
 and-true : (b : Bool) → (b && true) ≡ b
 and-true true = refl
 and-true false = refl
+
+-- one more, where all are kept
+pub newest-within : (mounts : List MountBody) (m : MountBody) → length mounts < 65536 →
+    newest (mounts ++ m ∷ []) ≡ mounts ++ m ∷ []
+newest-within mounts m room =
+    let all : length (mounts ++ m ∷ []) ≡ length mounts + 1 = length-append mounts (m ∷ []) in
+    ap (λ n. drop n (mounts ++ m ∷ []))
+    (let none : length (mounts ++ m ∷ []) - 65536 ≡ 0 = omega (arith, all, room) in none)
 
 -- one more, where no more are kept
 pub newest-full : (mounts : List MountBody) (m : MountBody) → length mounts ≡ 65536 →
@@ -304,6 +317,9 @@ module _ {X : Type 0} (first : List X) (others : List (List X)) (count : ℕ) (w
   pub others-kept : drop count first ++ joined others ≡ drop count (joined (first ∷ others))
   others-kept = sym (drop-append-le count first (joined others) within)
 
+  pub only-first : take count (joined (first ∷ others)) ≡ take count first
+  only-first = take-append-le count first (joined others) within
+
 pub others-apart : (first : List MountBody) (others : List (List MountBody)) (count : ℕ) → count ≤ length first →
     AreDistinct (joined (first ∷ others)) → AreDistinct (drop count first ++ joined others)
 others-apart first others count within distinct =
@@ -482,6 +498,15 @@ module _ {A X : Type 0} (f : A → List X) (p : X → Bool) (pieces : List A) wh
     one-more-seen : joined kept ++ rest ≡ filter p (joined (map f (take i pieces)) ++ f piece)
     one-more-seen =
         (λ j. sifted.same j ++ passes j) ∙ sym (filter-append p (joined (map f (take i pieces))) (f piece))
+
+    pub sifted-next : (new : List (List X)) → joined new ≡ joined kept ++ rest → ArePacked 256 new →
+        AreSifted p (map f (take (i + 1) pieces)) new (count + length rest)
+    sifted-next new made packed = record {
+      same = made ∙ one-more-seen ∙ ap (filter p) (sym (next-joined f pieces i piece within at));
+      packed = packed;
+      counted =
+          ap (λ n. n + length rest) sifted.counted ∙ sym (length-append (joined kept) rest) ∙ sym (ap length made);
+    }
 
     -- where all differ, those that are kept differ from those that come
     pub sifted-apart : (same : X → X → Bool) → IsDistinct same (joined (map f pieces)) →

@@ -7,7 +7,7 @@ use Rattle.nfs_objects.proofs.SeenLemmas.{writes-append}
 use Rattle.nfs_objects.specs.Bits.{has}
 use Rattle.nfs_objects.specs.FileMaps.{IsContent}
 use Rattle.nfs_objects.specs.Stands.{IsMapped, IsStored, StoreMeaning, bytes_at, map_of}
-use Rattle.nfs_objects.specs.Stands.{pages_of, stored_in}
+use Rattle.nfs_objects.specs.Stands.{filed_in, pages_of}
 use Rattle.nfs_objects.specs.Store.{Store, with_write, with_writes}
 use Rattle.nfs_objects.specs.Unfiled.{Enters, Lays, RepresentsBut}
 use Rattle.nfs_objects.specs.Values.{DraftValue, with_written}
@@ -77,7 +77,7 @@ module _ (number : ℕ) (s : Store) (k : StoreMeaning) (but : RepresentsBut numb
           };
       bytes = λ n i map other there is.
           subst (λ (f : ℕ → List ℕ). IsContent map.size f (bytes_at k.state n))
-          (λ p b. stored_in (sym (same n other b) p)) (but.files.bytes n i map other there is);
+          (λ p b. filed_in map b (sym (same n other b) p)) (but.files.bytes n i map other there is);
     };
     directories = block-but number s k but.directories index o;
     usages = record { usage = but.usages.usage };

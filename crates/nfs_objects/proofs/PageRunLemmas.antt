@@ -188,6 +188,25 @@ module _ (runs : List PageRun) (page place : ℕ) (before : EndBefore page (take
           by (inr (inl less)) = absurd (omega (arith, most.2 run.last reaches.0 less, rising.0))
           by (inr (inr more)) = omega (arith, more)
 
+-- ---- where the run of a page ends
+module _ (runs : List PageRun) (page place : ℕ) where
+  pub ends-last : length runs ≤ place → EndsRun page (drop place runs) page (drop place runs)
+  ends-last past = subst (λ (l : List PageRun). EndsRun page l page l) (sym (drop-past place runs past))
+      (inr (tt, refl, refl))
+
+  pub ends-apart : (run : PageRun) → place < length runs → run ≡ get_or runs place run → (run.first ≡ page + 1 → ⊥) →
+      EndsRun page (drop place runs) page (drop place runs)
+  ends-apart run within is apart =
+      subst (λ (l : List PageRun). EndsRun page l page l)
+      (sym (drop-cons runs place run within ∙ ap (λ (r : PageRun). r ∷ drop (suc place) runs) (sym is)))
+      (inr (apart, refl, refl))
+
+  pub ends-joined : (run : PageRun) → place < length runs → run ≡ get_or runs place run → run.first ≡ page + 1 →
+      EndsRun page (drop place runs) run.last (drop (place + 1) runs)
+  ends-joined run within is next =
+      let same : suc place ≡ place + 1 = omega arith in
+      inl (run, drop-cons runs place run within ∙ (λ i. sym is i ∷ drop (same i) runs), next, refl)
+
 -- ---- a page more, and a page less
 -- others in the place of the last runs rise, where they rise, and begin where those did
 pub rise-in : (P : PageRun → Type 0) (front old new : List PageRun) → AllByRecursion P front

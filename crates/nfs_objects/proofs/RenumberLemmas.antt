@@ -3,7 +3,7 @@ use Rattle.std.proofs.Common.{◌≡◌, ◌==◌, ℕ, suc, ◌+◌, ◌<◌, �
 use Rattle.std.proofs.Common.{get_or, length, map, max, drop, Option, Some, None, option_map, is_none, slice_get, take}
 use Rattle.std.proofs.Common.{refl, sym, ◌∙◌, ap, subst, arith}
 use Rattle.std.proofs.lemmas.List.{append-nil, append_assoc, drop_all}
-use Rattle.std.proofs.lemmas.List.Sums.{count_by_more_no, count_by_more_yes}
+use Rattle.std.proofs.lemmas.List.Sums.{count_by-le-length, count_by_more_no, count_by_more_yes}
 use Rattle.std.proofs.lemmas.Option.{get_or_from_slice_get, slice_get_within}
 use Rattle.std.specs.List.{AllByRecursion, count_by}
 use Rattle.nfs_machine.proofs.MapChangeLemmas.{apart}
@@ -140,6 +140,9 @@ pub record IsSoFar (t : ExportTableValue) (root : ℕ → ℕ) (es : List Export
   pub above : t.last ≤ last
 
 module _ (t : ExportTableValue) (root : ℕ → ℕ) (es : List ExportValue) where
+  pub none-yet : IsSoFar t root es 0 t.last []
+  none-yet = record { listed = refl; counted = refl; above = omega arith }
+
   -- at the end these are all
   pub all-listed : (i last : ℕ) (list : List LivingExport) → IsSoFar t root es i last list → length es ≤ i →
       list ≡ renumbered t.exports root t.last es
@@ -228,6 +231,12 @@ module _ (t : ExportTableValue) (root : ℕ → ℕ) (es : List ExportValue) whe
             }
 
 -- ---- how many are new
+pub few-new : (living : List LivingExport) (es : List ExportValue) → AreFaultless es → new_count living es ≤ 64
+few-new living es faultless =
+    let less = count_by-le-length (is_new living) es in
+    let all = few es faultless in
+    omega (arith, less, all)
+
 -- with one export more
 module _ (living : List LivingExport) (es : List ExportValue) (i : ℕ) (e : ExportValue) (at : slice_get es i ≡ Some e)
     (count : ℕ) (so : count ≡ new_count living (take i es)) where

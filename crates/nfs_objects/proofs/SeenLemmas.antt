@@ -9,10 +9,13 @@ use Rattle.std.specs.List.{AllByRecursion}
 use Rattle.nfs_objects.specs.declared.address.Addr.{Addr}
 use Rattle.nfs_objects.specs.declared.address.Addr.TheVariants.{Exports, Inode, Map, Block, Page, Part, Mounts, Usage}
 use Rattle.nfs_objects.specs.declared.address.Addr.TheVariants.{Locks}
+use Rattle.nfs_objects.specs.declared.object.Inode as stored
 use Rattle.nfs_objects.specs.declared.object.Object.{Object}
+use Rattle.nfs_objects.specs.declared.object.Object.TheVariants as objects
 use Rattle.nfs_objects.specs.declared.view.Reserved.{Reserved}
 use Rattle.nfs_machine.proofs.MapChangeLemmas.{apart}
 use Rattle.nfs_objects.specs.Fits.{Fits, HoldsReserved, IsView, NumbersApart, vacant}
+use Rattle.nfs_objects.specs.Stands.{inode_of}
 use Rattle.nfs_objects.specs.Store.{Store, with_write, with_writes}
 use Rattle.nfs_objects.specs.Values.{DraftValue, Seen, ViewValue, is_addr, known_at, seen_at, shown_at, written_at}
 
@@ -307,3 +310,16 @@ pub known-stands : (d : DraftValue) (s : Store) (a : Addr) (o : Option Object) �
 known-stands d s a o fits is =
     written-stands d.writes s (shown_at d.view.entries a) a o
     (λ x e. shown-stands d.view.entries s.at a x fits.entries e) is
+
+-- where an inode stands, it stands
+pub is_inode : (k : Option Object) (o : stored.Inode) → Some o ≡ inode_of k → k ≡ Some (objects.Inode o)
+is_inode None o e = cc
+is_inode (Some (objects.Exports table)) o e = cc
+is_inode (Some (objects.Inode j)) o e = let same : o ≡ j = cc in ap (λ x. Some (objects.Inode x)) (sym same)
+is_inode (Some (objects.Map bits)) o e = cc
+is_inode (Some (objects.Block bytes)) o e = cc
+is_inode (Some (objects.Page page)) o e = cc
+is_inode (Some (objects.Part part)) o e = cc
+is_inode (Some (objects.Mounts table)) o e = cc
+is_inode (Some (objects.Usage u)) o e = cc
+is_inode (Some (objects.Locks bucket)) o e = cc

@@ -1,6 +1,6 @@
 -- What one write of an inode does to what the store stands for.
 use Rattle.std.proofs.Common.{◌≡◌, ◌==◌, ℕ, ◌<◌, ◌≤◌, ◌/◌, ◌%◌, Bool, true, false, cond, option_map, [], replicate}
-use Rattle.std.proofs.Common.{◌||◌, ◌&&◌, ◌⊎◌, max}
+use Rattle.std.proofs.Common.{◌||◌, ◌&&◌, ◌⊎◌, ◌^◌, max}
 use Rattle.std.proofs.Common.{nat_le, List, Option, Some, None, IsSome, inl, inr, refl, sym, ◌∙◌, ap, subst, arith}
 use Rattle.std.specs.Prelude.{IfSome}
 use Rattle.std.proofs.Math.Bool.{or-false}
@@ -14,7 +14,9 @@ use Rattle.side_wire.specs.declared.mount.lists.MountBody.{MountBody}
 use Rattle.nfs_machine.proofs.MapChangeLemmas.{differs-remove}
 use Rattle.nfs_machine.proofs.MapSumLemmas.{get-inserted}
 use Rattle.nfs_machine.specs.Exports.{LivingExport}
+use Rattle.nfs_machine.specs.Attributes.{size_of}
 use Rattle.nfs_machine.specs.State.{Living, Lock, PendingGrant, Request, Share, State}
+use Rattle.nfs_machine.specs.State as machine
 use Rattle.nlm_ranges.specs.Buckets.{bucket_count, file_in}
 use Rattle.nfs_objects.proofs.StandsInExportLemmas.{inode-lives}
 use Rattle.nfs_objects.proofs.SeenLemmas.{known-stands, writes-append}
@@ -25,6 +27,7 @@ use Rattle.nfs_objects.proofs.FileStoreLemmas.{HasContent, HasListing, alone-is,
 use Rattle.nfs_objects.proofs.FileStoreLemmas.{files-stay}
 use Rattle.nfs_objects.proofs.FileStoreLemmas.{living-own, living_beside, living_bytes, living_entries, stands-but}
 use Rattle.nfs_objects.proofs.LocksStandLemmas.{KeepsFile, files-same, keeps-put, keeps-same, locks-gone, locks-stay}
+use Rattle.nfs_objects.proofs.LocksStandLemmas.{none-listed}
 use Rattle.nfs_objects.specs.Bits.{has, no_bits}
 use Rattle.nfs_objects.specs.Directories.{no_entries}
 use Rattle.nfs_objects.specs.FileMaps.{FileMapValue, IsContent}
@@ -39,8 +42,8 @@ use Rattle.nfs_objects.specs.Knows.{ShowsExport, Turns, TurnsWhere}
 use Rattle.nfs_objects.specs.Stands.{IsFitting, StoreMeaning, Represents, counts, inode_in, inode_there, links_kept}
 use Rattle.nfs_objects.specs.Stands.{lives_in}
 use Rattle.nfs_objects.specs.Stands.{HasBlocks, IsMapped, IsStored, StandFiles, bytes_at, file_bytes, content_of}
-use Rattle.nfs_objects.specs.Stands.{living_in}
-use Rattle.nfs_objects.specs.Stands.{map_in, map_of, living_alone, pages_of, stored_in}
+use Rattle.nfs_objects.specs.Stands.{file_of, living_in}
+use Rattle.nfs_objects.specs.Stands.{filed_in, map_in, map_of, living_alone, pages_of, stored_in}
 use Rattle.nfs_objects.specs.Stands.{StandLocks, StandObjects, StandTables, bucket_there, export_table_of, exports_of}
 use Rattle.nfs_objects.specs.Stands.{living_of_inode}
 use Rattle.nfs_objects.specs.Stands.{mounts_of, parent_in, parent_kept}
@@ -234,7 +237,7 @@ put-files s k n i beside last stands filed content lives l exports living =
     let same : i ≡ j = one (sym (inode-lives l.state.exports i (ap (λ es. lives_in es i.export) exports ∙ lives))
     ∙ there) in
     let was : map_in i.content ≡ Some map = ap (λ (x : Inode). map_in x.content) same ∙ is in
-    subst (IsContent map.size (λ b. stored_in (s.at (addresses.Block n b))))
+    subst (IsContent map.size (λ b. filed_in map b (s.at (addresses.Block n b))))
     (sym (ap (λ m. living_bytes (get m n)) living ∙ bytes-here k.state.objects n new
     ∙ bytes-own beside i.content map was))
     (content map was))
@@ -300,6 +303,94 @@ put-stands s k n i beside stands filed content listing within fits lives keeps =
       (keeps-put s n i (give s.last (addresses.Inode n) (Some (objects.Inode i))) keeps)
       stands.locks;
 }
+
+-- what an inode tells at each number, where another one is put that tells the same at one
+told-same : {X : Type 0} (f : Option Object → ℕ → X) (at : Addr → Option Object) (n : ℕ) (i j : Inode)
+    → at (addresses.Inode n) ≡ Some (objects.Inode i) → f (Some (objects.Inode i)) n ≡ f (Some (objects.Inode j)) n
+    → (q : ℕ) → f (at (addresses.Inode q)) q
+    ≡ f (put_at at (addresses.Inode n) (Some (objects.Inode j)) (addresses.Inode q)) q
+told-same f at n i j stands same q =
+    elim (n == q) as (λ b. (n == q) ≡ b → f (at (addresses.Inode q)) q
+    ≡ f (cond b (Some (objects.Inode j)) (at (addresses.Inode q))) q) [
+      | true ↦ λ here. subst (λ x. f (at (addresses.Inode x)) x ≡ f (Some (objects.Inode j)) x)
+          ((unsigned_Decides n q).0 here) (ap (λ o. f o n) stands ∙ same)
+      | false ↦ λ there. refl
+    ] refl
+
+-- a living file's inode is put that tells of other map pages, with which it has the same bytes: what the store stands
+-- for stays
+pub refiled : (s : Store) (k : StoreMeaning) (n : ℕ) (i : Inode) (map left : FileMapValue) → RepresentsBut n s k
+    → s.at (addresses.Inode n) ≡ Some (objects.Inode i) → i.content ≡ contents.Regular map → left.size ≡ map.size
+    → lives_in k.state.exports i.export ≡ true → HasBlocks s n left.pages
+    → IsContent left.size (λ b. filed_in left b (s.at (addresses.Block n b))) (bytes_at k.state n)
+    → HoldsEntries s n None (entries_at k.state n)
+    → Represents (with_write s (addresses.Inode n)
+    (Some (objects.Inode (record i { content = contents.Regular left }))))
+    k
+refiled s k n i map left stands at regular sized lives filed content bare = record {
+  tables = tables-stay s _ k.state k.state refl stands.tables;
+  objects = record {
+    objects = λ q. stands.objects.objects q
+        ∙ told-same (λ o x. living_in k.state.exports (beside_at k.state x) o) s.at n i j at
+        alive q;
+    links = λ q. stands.objects.links q
+        ∙ told-same (λ o x. links_kept (inode_in k.state.exports o)) s.at n i j at
+        (ap links_kept (inode-lives k.state.exports i lives)
+        ∙ sym (ap links_kept (inode-lives k.state.exports j lives))) q;
+    parents = λ q. stands.objects.parents q
+        ∙ told-same (λ o x. parent_kept (inode_in k.state.exports o)) s.at n i j at
+        (ap parent_kept (inode-lives k.state.exports i lives) ∙ ap parent_in regular
+        ∙ sym (ap parent_kept (inode-lives k.state.exports j lives))) q;
+    given = given-put s n j last stands.objects.given (λ q. (let e = last-same q in omega (arith, e)))
+        (let e = last-same n in let w : i.generation ≤ last n = omega (arith, e, within) in w);
+    fits = fits-put s.at n j stands.objects.fits fitting;
+    numbered = numbered-put k.state s.at n j stands.objects.numbered lives;
+    spent = λ q g.
+        stands.objects.spent q g ∙ ap (λ l. nat_le g l) (sym (last-same q));
+  };
+  files = files-put s k n (Some (objects.Inode j)) last stands.files filed k refl (λ q other. refl)
+      (λ x there m is.
+      let same : j ≡ x = one (sym (inode-lives k.state.exports j lives) ∙ there) in
+      let own : Some left ≡ Some m = ap (λ (y : Inode). map_in y.content) same ∙ is in
+      subst (λ (y : FileMapValue). IsContent y.size (λ b. filed_in y b (s.at (addresses.Block n b)))
+      (bytes_at k.state n)) (let e : left ≡ m = cc in e) content);
+  directories = directories-put s k n (Some (objects.Inode j)) last stands.directories (entries_at k.state n)
+      bare k refl
+      (λ q other. refl) (λ there. refl);
+  usages = record { usage = stands.usages.usage };
+  locks = locks-stay s _ k.state k.state refl (keeps-put s n j last (keeps-same s n i j at refl (λ some. refl)))
+      stands.locks;
+}
+  where
+    j : Inode
+    j = record i { content = contents.Regular left }
+
+    last : ℕ → ℕ
+    last = give s.last (addresses.Inode n) (Some (objects.Inode j))
+
+    within : i.generation ≤ s.last n
+    within = stands.objects.given n i at
+
+    last-same : (q : ℕ) → last q ≡ s.last q
+    last-same q = last-kept s.last n i.generation q within
+
+    one : {a b : Inode} → Some a ≡ Some b → a ≡ b
+    one e = cc
+
+    -- the same lives there
+    alive : living_in k.state.exports (beside_at k.state n) (Some (objects.Inode i)) ≡
+        living_in k.state.exports (beside_at k.state n) (Some (objects.Inode j))
+    alive = ap (option_map (living_of_inode (beside_at k.state n))) (inode-lives k.state.exports i lives)
+        ∙ (λ p. Some (record (living_of_inode (beside_at k.state n) i)
+        { content = ap (λ c. filled (beside_at k.state n) (content_of c)) regular p }))
+        ∙ sym (ap (option_map (living_of_inode (beside_at k.state n))) (inode-lives k.state.exports j lives))
+
+    fitting : IsFitting n j
+    fitting =
+        let was = stands.objects.fits n i at in
+        let small : size_of (content_of (contents.Regular map)) < 2 ^ 63 =
+        subst (λ c. size_of (content_of c) < 2 ^ 63) regular was.1 in
+        (was.0, subst (λ z. size_of (machine.Regular (replicate z 0)) < 2 ^ 63) (sym sized) small)
 
 get-removed : (living : FinMap nat_cmp Living) (number n : ℕ) →
     get (remove living number) n ≡ cond (number == n) None (get living n)
@@ -371,18 +462,24 @@ nothing-stored s k n stands vacant i =
     ∙ has-none (i % 512)) ((stands.files.blocks n).blocks i) in
     ap stored_in none
 
+-- a file has nothing of a block that has none
+pub filed-none : (map : FileMapValue) (b : ℕ) (o : Option Object) → stored_in o ≡ [] → filed_in map b o ≡ []
+filed-none map b o none = elim (has map.remains (b / 512)) as (λ t. cond t [] (stored_in o) ≡ [])
+    [ true ↦ refl | false ↦ none ]
+
 -- the bytes of a new file
 new-content : (s : Store) (n : ℕ) (i : Inode) → ((b : ℕ) → stored_in (s.at (addresses.Block n b)) ≡ []) →
     HasContent s n (file_bytes (content_of i.content)) i
 new-content s n i none map is = by i.content is
   where
     by : (c : Content) → map_in c ≡ Some map →
-        IsContent map.size (λ b. stored_in (s.at (addresses.Block n b))) (file_bytes (content_of c))
+        IsContent map.size (λ b. filed_in map b (s.at (addresses.Block n b))) (file_bytes (content_of c))
     by (contents.Regular own) is =
         let same : own ≡ map = cc in
-        subst (λ (m : FileMapValue). IsContent m.size (λ b. stored_in (s.at (addresses.Block n b)))
+        subst (λ (m : FileMapValue). IsContent m.size (λ b. filed_in m b (s.at (addresses.Block n b)))
         (replicate own.size 0))
-        same (content-new own.size (λ b. stored_in (s.at (addresses.Block n b))) none)
+        same (content-new own.size (λ b. filed_in own b (s.at (addresses.Block n b)))
+        (λ b. filed-none own b (s.at (addresses.Block n b)) (none b)))
     by (contents.Directory directory) is = cc
     by (contents.Link text) is = cc
     by (contents.BlockDevice device) is = cc
@@ -770,3 +867,47 @@ module _ (d : DraftValue) (n : ℕ) where
       (λ (x : StoreMeaning). Represents (with_write (with_writes s d.writes) (addresses.Inode n)
       (Some (objects.Inode j)))
       x) (sym same) put)
+
+  -- what is no file and no directory goes
+  pub free-turns : (i : Option Object) → known_at d (addresses.Inode n) ≡ Some i → file_of i ≡ None →
+      entry_map_of i ≡ None → Turns d (next None) (λ k. freed k n)
+  free-turns i known other unlisted = turns-next None (λ k. freed k n) (λ s k fits stands.
+      let at : (with_writes s d.writes).at (addresses.Inode n) ≡ i = known-stands d s (addresses.Inode n) i fits
+      known in
+      free-stands (with_writes s d.writes) k n (stands-but n (with_writes s d.writes) k stands) (record {
+        maps = λ page. subst (λ b. IsMapped (has b page) ((with_writes s d.writes).at (addresses.Map n page)))
+            (ap pages_of at ∙ no-pages i other) ((stands.files.blocks n).maps page);
+        blocks = (stands.files.blocks n).blocks;
+      }) (emptied (with_writes s d.writes) k (ap entry_map_of at ∙ unlisted) (stands.directories n))
+      (none-listed (with_writes s d.writes) k.state n i stands.locks at other))
+    where
+      emptied : (t : Store) (k : StoreMeaning) → entry_map_of (t.at (addresses.Inode n)) ≡ None → StandEntries t k n →
+          HoldsEntries t n None []
+      emptied t k none stand =
+          let holds : HoldsEntries t n None stand.entries =
+          subst (λ m. HoldsEntries t n m stand.entries) none stand.holds in
+          holds
+
+      no-pages : (o : Option Object) → file_of o ≡ None → pages_of o ≡ no_bits
+      no-pages o is = ap (λ f. elim f [ None ↦ no_bits | Some map ↦ map.pages ]) is
+
+  -- a new inode, once the draft was changed so; the exports stayed, and its own lived before
+  pub new-turns : (old : DraftValue) (f : StoreMeaning → StoreMeaning) → Turns old d f → ((k : StoreMeaning) →
+      (f k).state.exports ≡ k.state.exports) → (i : Inode) → known_at d (addresses.Inode n) ≡ Some None
+      → pages_of (Some (objects.Inode i)) ≡ no_bits → IfSome (entry_map_in i.content) (λ m. m ≡ no_entries m.key)
+      → IsFitting n i → ShowsExport old i.export
+      → Turns old (next (Some (objects.Inode i)))
+      (λ k. with_new (f k) n (living_alone i) i.links (parent_in i.content))
+  new-turns old f turns stay i vacant none bare fitting live = record {
+    ctx = turns.ctx;
+    view = turns.view;
+    modes = turns.modes;
+    messages = turns.messages;
+    turns = λ s k fits stands.
+        subst (λ (x : Store). Represents x (with_new (f k) n (living_alone i) i.links (parent_in i.content)))
+        (sym (writes-append d.writes s (addresses.Inode n) (Some (objects.Inode i))))
+        (new-stands (with_writes s d.writes) (f k) n i (turns.turns s k fits stands)
+        (known-stands d s (addresses.Inode n) None (subst (λ v. Fits v s) (sym turns.view) fits) vacant) none bare
+        fitting
+        (ap (λ es. lives_in es i.export) (stay k) ∙ live s k fits stands));
+  }

@@ -1,13 +1,19 @@
 -- How the bytes of a file are kept: of each 4,096 a block, which may be absent, and may have fewer; what it lacks is
 -- zeros.
-use Rattle.std.specs.Prelude.{◌≡◌, ℕ, ◌*◌, ◌≤◌, List, length, take, drop}
+use Rattle.std.specs.Prelude.{◌≡◌, ℕ, ◌*◌, ◌≤◌, ◌&&◌, Bool, List, length, take, drop, not}
 use Rattle.nfs_machine.specs.Data.{resized}
+use Rattle.nfs_objects.specs.Bits.{has}
 use Rattle.nfs_objects.specs.declared.bits.Bits.{Bits}
 
--- how many bytes a file has, and which of its map pages are there
+-- how many bytes a file has, which of its map pages are there, and whose blocks are remains
 pub record FileMapValue : Type 0 where
   pub size : ℕ
   pub pages : Bits
+  pub remains : Bits
+
+-- whether a map page is there, and its blocks are no remains
+abbrev pub counts : FileMapValue → (page : ℕ) → Bool
+counts map page = has map.pages page && not (has map.remains page)
 
 -- how many bytes a block has at most
 abbrev pub block_size : ℕ

@@ -55,7 +55,7 @@ same_directory a b =
     a.parent == b.parent && (a.last_cookie == b.last_cookie && same_entry_map a.entries b.entries)
 
 abbrev pub same_file_map : FileMapValue → FileMapValue → Bool
-same_file_map a b = a.size == b.size && same_bits a.pages b.pages
+same_file_map a b = a.size == b.size && (same_bits a.pages b.pages && same_bits a.remains b.remains)
 
 abbrev pub same_content : Content → Content → Bool
 same_content (contents.Regular a) (contents.Regular b) = same_file_map a b

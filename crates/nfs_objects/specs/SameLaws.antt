@@ -153,12 +153,16 @@ bits_decides = from_self same_bits
 file_map_same : (a b : FileMapValue) → same_file_map a b ≡ true → a ≡ b
 file_map_same a b e = λ i. record {
   size = (unsigned_Decides a.size b.size).0 (first_so (a.size == b.size) _ e) i;
-  pages = (bits_decides a.pages b.pages).0 (second_so (a.size == b.size) _ e) i;
+  pages = (bits_decides a.pages b.pages).0
+      (first_so (same_bits a.pages b.pages) _ (second_so (a.size == b.size) _ e)) i;
+  remains = (bits_decides a.remains b.remains).0
+      (second_so (same_bits a.pages b.pages) _ (second_so (a.size == b.size) _ e)) i;
 }
 
 pub file_map_decides : (a b : FileMapValue) → Decides (same_file_map a b) (a ≡ b)
 file_map_decides = from_self same_file_map file_map_same
-    (λ a. both _ _ (nat_own a.size) ((bits_decides a.pages a.pages).1 refl))
+    (λ a. both _ _ (nat_own a.size)
+    (both _ _ ((bits_decides a.pages a.pages).1 refl) ((bits_decides a.remains a.remains).1 refl)))
 
 content_same : (a b : Content) → same_content a b ≡ true → a ≡ b
 content_same (contents.Regular a) (contents.Regular b) e = ap contents.Regular ((file_map_decides a b).0 e)

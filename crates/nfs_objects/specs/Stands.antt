@@ -63,6 +63,10 @@ pub record Beside : Type 0 where
   pub bytes : List ℕ
   pub entries : List machine.Entry
 
+-- nothing does
+abbrev pub nothing_beside : Beside
+nothing_beside = record { bytes = []; entries = [] }
+
 -- the content, where a file has these bytes and a directory these entries
 abbrev pub filled : Beside → machine.Content → machine.Content
 filled beside (machine.Regular zeros) = machine.Regular beside.bytes
@@ -137,6 +141,10 @@ block_of o = None
 -- the bytes that a block has; none where it is absent
 abbrev pub stored_in : Option Object → List ℕ
 stored_in o = unwrap_or (block_of o) []
+
+-- what a file with this map has of a block where this stands: remains count as zeros
+abbrev pub filed_in : FileMapValue → (block : ℕ) → Option Object → List ℕ
+filed_in map b o = if has map.remains (b / 512) then [] else stored_in o
 
 -- the bytes of the file at a number
 abbrev pub bytes_at : State → ℕ → List ℕ
@@ -279,7 +287,7 @@ pub record StandFiles (s : Store) (k : StoreMeaning) : Type 0 where
   pub blocks : (n : ℕ) → HasBlocks s n (pages_of (s.at (addresses.Inode n)))
   pub bytes : (n : ℕ) (i : Inode) (map : FileMapValue) → inode_there s k.state.exports n ≡ Some i →
       map_in i.content ≡ Some map →
-      IsContent map.size (λ b. stored_in (s.at (addresses.Block n b))) (bytes_at k.state n)
+      IsContent map.size (λ b. filed_in map b (s.at (addresses.Block n b))) (bytes_at k.state n)
 
 -- a part of a directory's names stands there, in which each leads to this entry; or nothing
 abbrev pub IsPart : (there : Bool) → (leads : List ℕ → Option machine.Entry) → Option Object → Type 0

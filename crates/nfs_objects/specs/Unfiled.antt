@@ -7,7 +7,7 @@ use Rattle.nfs_objects.specs.FileMaps.{FileMapValue, IsContent}
 use Rattle.nfs_objects.specs.Stands.{HasBlocks, HasEntries, StoreMeaning, StandEntries, StandLocks, StandObjects}
 use Rattle.nfs_objects.specs.Stands.{StandTables}
 use Rattle.nfs_objects.specs.Stands.{StandUsages}
-use Rattle.nfs_objects.specs.Stands.{bytes_at, inode_there, map_in, pages_of, stored_in}
+use Rattle.nfs_objects.specs.Stands.{bytes_at, filed_in, inode_there, map_in, pages_of}
 use Rattle.nfs_objects.specs.Store.{Store, with_writes}
 use Rattle.nfs_objects.specs.Values.{DraftValue}
 use Rattle.nfs_objects.specs.declared.address.Addr.TheVariants as addresses
@@ -19,7 +19,7 @@ pub record StandFilesBut (number : ℕ) (s : Store) (k : StoreMeaning) : Type 0 
   pub blocks : (n : ℕ) → (number == n) ≡ false → HasBlocks s n (pages_of (s.at (addresses.Inode n)))
   pub bytes : (n : ℕ) (i : Inode) (map : FileMapValue) → (number == n) ≡ false →
       inode_there s k.state.exports n ≡ Some i → map_in i.content ≡ Some map →
-      IsContent map.size (λ b. stored_in (s.at (addresses.Block n b))) (bytes_at k.state n)
+      IsContent map.size (λ b. filed_in map b (s.at (addresses.Block n b))) (bytes_at k.state n)
 
 -- what `StandDirectories` says, of the directories at other numbers than this one
 abbrev pub StandDirectoriesBut : (number : ℕ) → Store → StoreMeaning → Type 0

@@ -1,6 +1,6 @@
 //! Sets of numbers below 512.
 
-ghost use Rattle.std.specs.Prelude.{◌≡◌, ◌<◌, ◌≤◌, ◌==◌, ◌&&◌, ◌||◌, ℕ, nat_lt};
+ghost use Rattle.std.specs.Prelude.{◌≡◌, ◌<◌, ◌≤◌, ◌==◌, ◌&&◌, ◌||◌, ℕ, nat_lt, not};
 ghost use Rattle.nfs_objects.specs.Bits.{IsEnd, IsMask, IsWordBelow, has, no_bits, same_bits};
 
 /// How many numbers a set of bits may have.
@@ -59,6 +59,34 @@ impl Bits {
         let mut words = self.words;
         words[(number / WORD) as usize] |= 1 << (number % WORD);
         Bits { words }
+    }
+
+    /// The same without this number.
+    pub fn without(self, number: u64) -> Bits
+        requires { number < 512 }
+        ensures { (n : ℕ) → has result n ≡ (has self n && not (number == n)) }
+    {
+        let mut words = self.words;
+        words[(number / WORD) as usize] &= !(1 << (number % WORD));
+        Bits { words }
+    }
+
+    /// Those numbers that are in both.
+    pub fn both(self, other: Bits) -> Bits
+        ensures { (n : ℕ) → has result n ≡ (has self n && has other n) }
+    {
+        Bits {
+            words: [
+                self.words[0] & other.words[0],
+                self.words[1] & other.words[1],
+                self.words[2] & other.words[2],
+                self.words[3] & other.words[3],
+                self.words[4] & other.words[4],
+                self.words[5] & other.words[5],
+                self.words[6] & other.words[6],
+                self.words[7] & other.words[7],
+            ],
+        }
     }
 
     /// Those numbers of it that are below this one.

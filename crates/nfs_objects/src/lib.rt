@@ -8,7 +8,7 @@
 #![tactic(auto)]
 
 mod address;
-mod bits;
+pub mod bits;
 pub mod block;
 mod change;
 mod counts;

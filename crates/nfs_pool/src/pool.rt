@@ -127,7 +127,7 @@ impl<L: Ledger + Naming> Steps<L> for Pool<L> {
         alloc: Global,
         arrival: Arrival,
     ) -> Result<Admission, Unadmitted> {
-        match arrival.prepare(alloc, self.key) {
+        match arrival.prepare(self.key) {
             Ok(Prepared::Call(candidate)) => {
                 let mut guard = lock_spinning(rt, &self.desk);
                 let desk = &mut *guard;

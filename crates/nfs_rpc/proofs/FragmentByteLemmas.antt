@@ -1,13 +1,13 @@
 -- Each byte that is taken leads from one place in a fragment to the next: digits make a header's number, the number
 -- makes a body that is all missing, and a body that misses nothing is an earlier fragment or ends the record.
-use Rattle.std.proofs.Common.{◌≡◌, ◌≢◌, ℕ, zero, suc, ◌+◌, ◌*◌, ◌/◌, ◌%◌, ◌^◌, ◌<◌, ◌≤◌, Bool, true, false, List, []}
+use Rattle.std.proofs.Common.{◌≡◌, ◌≢◌, ℕ, zero, suc, ◌+◌, ◌*◌, ◌^◌, ◌<◌, ◌≤◌, Bool, false, List, []}
 use Rattle.std.proofs.Common.{◌∷◌, ◌++◌, length, Option, Some, None, IfSome, refl, ap, sym, ◌∙◌, subst, arith}
 use Rattle.std.proofs.Common.{append_assoc, length-append, append-nil}
-use Rattle.std.specs.Int.{w32, to_be_bytes, bytes_high_first}
+use Rattle.std.specs.Int.{w32, to_be_bytes}
 use Rattle.std.specs.List.{concat, flat_map}
 use Rattle.std.proofs.lemmas.List.Folds.{concat-append}
 use Rattle.std.proofs.lemmas.List.Concat.{flat_map-append}
-use Rattle.nfs_rpc.specs.Records.{mark, fragment, IsMarked, BeginsTooLarge, IsTooLarge, IsStream, EndsInHeader}
+use Rattle.nfs_rpc.specs.Records.{mark, fragment, IsTooLarge, IsStream, EndsInHeader}
 use Rattle.nfs_rpc.specs.Records.{EndsInBody, LeadTo, Holds}
 use Rattle.std.specs.Option.{option_to_list}
 use Rattle.nfs_rpc.specs.Held.{IsPlace, LeadToNext, LeadsOn, Adds}
@@ -20,42 +20,12 @@ use Rattle.nfs_rpc.specs.declared.marking.TheConstants.{RECORD_LIMIT}
 nothing_missing : (last : Bool) (body : List ℕ) → mark last + (length body + 0) ≡ mark last + length body
 nothing_missing last body = omega arith
 
--- a header's number stays below the power of its bytes
-pub number_more : (count number byte : ℕ) → byte < 256 → count < 4 → number < 256 ^ count
-    → number * 256 + byte < 256 ^ (count + 1)
-number_more zero number byte small few below = omega arith
-number_more (suc zero) number byte small few below = omega arith
-number_more (suc (suc zero)) number byte small few below = omega arith
-number_more (suc (suc (suc zero))) number byte small few below = omega arith
-number_more (suc (suc (suc (suc count)))) number byte small few below = absurd (omega arith)
-
 pub number_fits : (count number byte : ℕ) → byte < 256 → count < 4 → number < 256 ^ count → number * 256 + byte < 2 ^ 32
 number_fits zero number byte small few below = omega arith
 number_fits (suc zero) number byte small few below = omega arith
 number_fits (suc (suc zero)) number byte small few below = omega arith
 number_fits (suc (suc (suc zero))) number byte small few below = omega arith
 number_fits (suc (suc (suc (suc count)))) number byte small few below = absurd (omega arith)
-
--- one more digit
-digits_more : (count number byte : ℕ) → byte < 256 → count < 4
-    → bytes_high_first count number ++ byte ∷ [] ≡ bytes_high_first (count + 1) (number * 256 + byte)
-digits_more zero number byte small few = let d0 : byte ≡ (number * 256 + byte) % 256 = omega arith in cc
-digits_more (suc zero) number byte small few =
-    let d0 : byte ≡ (number * 256 + byte) % 256 = omega arith in
-    let d1 : number % 256 ≡ (number * 256 + byte) / 256 % 256 = omega arith in
-    cc
-digits_more (suc (suc zero)) number byte small few =
-    let d0 : byte ≡ (number * 256 + byte) % 256 = omega arith in
-    let d1 : number % 256 ≡ (number * 256 + byte) / 256 % 256 = omega arith in
-    let d2 : number / 256 % 256 ≡ (number * 256 + byte) / 65536 % 256 = omega arith in
-    cc
-digits_more (suc (suc (suc zero))) number byte small few =
-    let d0 : byte ≡ (number * 256 + byte) % 256 = omega arith in
-    let d1 : number % 256 ≡ (number * 256 + byte) / 256 % 256 = omega arith in
-    let d2 : number / 256 % 256 ≡ (number * 256 + byte) / 65536 % 256 = omega arith in
-    let d3 : number / 65536 % 256 ≡ (number * 256 + byte) / 16777216 % 256 = omega arith in
-    cc
-digits_more (suc (suc (suc (suc count)))) number byte small few = absurd (omega arith)
 
 -- a fragment that is not the last is an earlier one
 pub body_ends : (content bytes : List ℕ) → EndsInBody false 0 content bytes → EndsInHeader 0 0 content bytes
@@ -67,41 +37,6 @@ body_ends content bytes b = record {
       ∙ sym (append-nil (flat_map (fragment false) (b.earlier ++ b.body ∷ []))
       ∙ flat_map-append (fragment false) b.earlier (b.body ∷ [])
       ∙ ap (λ l. flat_map (fragment false) b.earlier ++ l) (append-nil (fragment false b.body)));
-}
-
--- the last one makes a record
-pub body_ends_record : (content bytes : List ℕ) → length content ≤ RECORD_LIMIT → EndsInBody true 0 content bytes
-    → IsMarked content bytes
-body_ends_record content bytes within b = record {
-  earlier = b.earlier;
-  last = b.body;
-  joined = b.joined;
-  marked = b.whole ∙ ap (λ n. flat_map (fragment false) b.earlier ++ (to_be_bytes w32 n ++ b.body))
-      (nothing_missing true b.body);
-  within = within;
-}
-
--- a header's number, where it stays within the limit, leaves all of the body missing
-pub header_opens : (last : Bool) (number missing : ℕ) (content bytes : List ℕ) → number ≡ mark last + missing
-    → EndsInHeader 4 number content bytes → EndsInBody last missing content bytes
-header_opens last number missing content bytes is h = record {
-  earlier = h.earlier;
-  body = [];
-  joined = h.joined ∙ sym (append-nil (concat h.earlier));
-  whole = h.whole ∙ ap (λ n. flat_map (fragment false) h.earlier ++ to_be_bytes w32 n) (omega (arith, is));
-}
-
--- and else is too large
-pub header_exceeds : (number : ℕ) (content bytes : List ℕ) → number < 2 ^ 32 → length content ≤ RECORD_LIMIT
-    → RECORD_LIMIT < length content + number % 2 ^ 31 → EndsInHeader 4 number content bytes → BeginsTooLarge bytes
-header_exceeds number content bytes word within above h = record {
-  earlier = h.earlier;
-  number = number;
-  back = [];
-  is_word = word;
-  whole = h.whole;
-  within = omega (arith, ap length h.joined);
-  above = omega (arith, ap length h.joined);
 }
 
 -- a body takes bytes
@@ -118,18 +53,6 @@ body_takes last missing missing' content bytes taken is b = record {
       (append_assoc (to_be_bytes w32 (mark last + (length b.body + missing))) b.body taken)
       ∙ ap (λ n. flat_map (fragment false) b.earlier ++ (to_be_bytes w32 n ++ (b.body ++ taken)))
       (omega (arith, length-append b.body taken));
-}
-
--- a header takes a byte
-pub header_takes : (count number byte : ℕ) (content bytes : List ℕ) → byte < 256 → count < 4
-    → EndsInHeader count number content bytes → EndsInHeader (count + 1) (number * 256 + byte) content
-    (bytes ++ byte ∷ [])
-header_takes count number byte content bytes small few h = record {
-  earlier = h.earlier;
-  joined = h.joined;
-  whole = ap (λ l. l ++ byte ∷ []) h.whole
-      ∙ append_assoc (flat_map (fragment false) h.earlier) (bytes_high_first count number) (byte ∷ [])
-      ∙ ap (λ l. flat_map (fragment false) h.earlier ++ l) (digits_more count number byte small few);
 }
 
 -- a byte of a header

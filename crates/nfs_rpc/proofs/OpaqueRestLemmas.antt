@@ -59,10 +59,6 @@ abbrev pub with_front : List ℕ → Result (List ℕ × List ℕ) XdrError → 
 with_front front (Ok x) = Ok (front ++ x.0, x.1)
 with_front front (Err e) = Err e
 
-pub with_front-nil : (found : Result (List ℕ × List ℕ) XdrError) → with_front [] found ≡ found
-with_front-nil (Ok x) = refl
-with_front-nil (Err e) = refl
-
 with_front-cons : (front : List ℕ) (number : ℕ) (found : Result (List ℕ × List ℕ) XdrError)
     → with_front front (found >>= (λ xs. Ok (number ∷ xs.0, xs.1))) ≡ with_front (front ++ number ∷ []) found
 with_front-cons front number (Ok x) = ap (λ l. Ok (l, x.1)) (sym (append_assoc front (number ∷ []) x.0))

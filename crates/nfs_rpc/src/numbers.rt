@@ -3,32 +3,40 @@
 /// The version of RPC.
 pub const RPC_VERSION: u32 = 2;
 
-// msg_type
+/// The msg_type of a call.
 pub const CALL: u32 = 0;
 
+/// The msg_type of a reply.
 pub const REPLY: u32 = 1;
 
-// reply_stat
+/// The reply_stat where a call was accepted, which says nothing of how it went.
 pub const MSG_ACCEPTED: u32 = 0;
 
+/// The reply_stat where a call was denied.
 pub const MSG_DENIED: u32 = 1;
 
-// accept_stat
+/// The accept_stat of a call that was executed.
 pub const SUCCESS: u32 = 0;
 
+/// The accept_stat where there is no such program.
 pub const PROG_UNAVAIL: u32 = 1;
 
+/// The accept_stat where the program has no such version.
 pub const PROG_MISMATCH: u32 = 2;
 
+/// The accept_stat where the program has no such procedure.
 pub const PROC_UNAVAIL: u32 = 3;
 
+/// The accept_stat where the arguments can't be read.
 pub const GARBAGE_ARGS: u32 = 4;
 
+/// The accept_stat where the server failed, as for want of memory.
 pub const SYSTEM_ERR: u32 = 5;
 
-// reject_stat
+/// The reject_stat of a call in another version of RPC.
 pub const RPC_MISMATCH: u32 = 0;
 
+/// The reject_stat of a call whose credential or verifier is refused.
 pub const AUTH_ERROR: u32 = 1;
 
 /// The auth_stat of a bad credential.

@@ -37,7 +37,7 @@ pub use crate::network::listening::Sockets;
 use crate::network::listening::{DATAGRAM_SIZE, Service, let_in, take_datagrams};
 use crate::network::mailbox::Mailbox;
 pub use crate::network::operating::{Nobody, Operator};
-use crate::network::permits::{EraThread, Gathering, Permits, hand_out};
+use crate::network::permits::{EraThread, Gathering, KeptReplies, Permits, hand_out};
 use crate::network::reporting::Reporter;
 pub(crate) use crate::network::reporting::tell;
 use crate::network::sending::CallbackThread;
@@ -68,7 +68,7 @@ struct PoolParts {
     /// How many seats it has.
     count: usize,
     /// How many replies are kept of each host, where somebody is told of them.
-    kept: Option<usize>,
+    kept: Option<KeptReplies>,
 }
 
 /// What a service is made of.
@@ -187,7 +187,7 @@ fn serve_from<R: NetworkRuntime, O: Operator + Drop + Send + 'static>(
 {
     let network = &service.network;
     let count = network.workers + network.connections.min(OWN_PERMITS);
-    let kept = kept_told(network, config.capacity);
+    let kept = kept_told(network, &config);
     let engine = open(rt.alloc(), config)?;
     let pool = PoolParts {
         blank: Blank::new(count),
@@ -199,12 +199,15 @@ fn serve_from<R: NetworkRuntime, O: Operator + Drop + Send + 'static>(
     serve_pool::<Brand, R, O>(rt, pool, service)
 }
 
-/// How many replies are kept of each host, where somebody is told of them.
-fn kept_told(network: &Network, capacity: u64) -> Option<usize> {
+/// What the replies that are kept are counted by, where somebody is told of them.
+fn kept_told(network: &Network, config: &Config) -> Option<KeptReplies> {
     if network.stats == 0 {
         return None;
     }
-    Some(capacity as usize)
+    Some(KeptReplies {
+        capacity: config.capacity as usize,
+        key: config.limits.name_key,
+    })
 }
 
 /// Serves with a pool. Threads of their own serve those who come; this one ends eras.
@@ -275,7 +278,7 @@ fn open_permits<L: Ledger + Naming, R: Wait, O>(
     pool: Pool<L>,
     seats: Vec<Seat<L>>,
     count: usize,
-    kept: Option<usize>,
+    kept: Option<KeptReplies>,
     service: &ServiceParts<O>,
 ) -> Result<(Permits<L>, EraThread<L>, Vec<Seat<L>>, EraRoom), AllocError> {
     let (back, free) = bounded(alloc, count)?;

@@ -115,7 +115,7 @@ fn answer_arrival(
     ensures owed { OnErr result (IsDropped (bytes_in arrival.received) → ⊥) }
 {
     // It brings that this is what the record asks.
-    arrival.reading();
+    arrival.show_read();
     match execute(alloc, engine, arrival) {
         Answer::Refused(declined) => told(declined),
         answer => Ok(Some(answer)),

@@ -129,11 +129,6 @@ module _ {K V : Type 0} (eq : K → K → Bool) where
           by true same = ap (λ o. option_or o (lookup (eq q) ys)) (sym (lookup-equal k q same xs ∙ last-was))
           by false other = refl
 
-      pub moved-apart : Apart eq xs ys → Apart eq fewer more
-      moved-apart apart q there =
-          let was = left (eq k q) (lookup (eq q) xs) (subst (λ o. IsSome o) (gone q) there) in
-          came q ∙ ap (λ t. cond t (Some v) (lookup (eq q) ys)) was.0 ∙ apart q was.1
-
     -- each key stands once
     keys-apart : (test : K → Bool) (ys : List (K × V)) → NonePasses test ys →
         AllByRecursion (λ y. test y ≡ false) (keys_of ys)

@@ -64,9 +64,6 @@ unfolding appended with_padded with_word
 adds-opaque max bytes n h old = simp (length-append, length-replicate) (let p : padding (length bytes) ≤ 3 = omega arith
     in omega (arith, h, p))
 
-adds-time : (seconds nanoseconds : ℕ) → Adds (Pair Word Word) (seconds, nanoseconds) 8
-adds-time seconds nanoseconds = adds-pair Word Word seconds nanoseconds 4 4 (adds-word seconds) (adds-word nanoseconds)
-
 pub adds-fixed : (size : ℕ) (bytes : List ℕ) (n : ℕ) → length bytes ≤ n → Adds (Fixed size) bytes (n + 3)
 unfolding appended with_padded
 adds-fixed size bytes n h old = simp (length-append, length-replicate) (let p : padding (length bytes) ≤ 3 = omega arith

@@ -1,16 +1,19 @@
-//! How often a call is attempted in a store at rest. Its plan goes through what it reads, so the count does not grow
-//! with directories, paths, listings and files.
+//! How often a call is attempted in a store at rest, and what it reads. Its plan goes through that, so the count does
+//! not grow with directories, paths, listings and files.
 
 mod courses;
 mod messages;
+mod procedures;
 mod rows;
+mod standing;
 mod stocks;
 
 use super::openings::{close, resting};
-use crate::tests::attempts::courses::attempts;
+use crate::tests::attempts::courses::cost;
 use crate::tests::attempts::messages::{COUNTED_XID, Store, message};
 use crate::tests::attempts::rows::{
-    IN_THE_DEEPEST, OF_THIN_PAGES, ON_A_FILE, ON_ITS_LOCKS, ON_NAMES, ON_THE_ROOT, Row,
+    IN_THE_DEEPEST, INTO_ANOTHER, INTO_REMAINS, OF_HOSTS, OF_THIN_PAGES, ON_A_FILE, ON_A_LINK,
+    ON_ITS_LOCKS, ON_NAMES, ON_NEW_NAMES, ON_THE_ROOT, Row,
 };
 use crate::tests::attempts::stocks::{Stock, stock_up};
 use nfs_engine::Engine;
@@ -18,18 +21,26 @@ use std::alloc::AllocError;
 use std::process::Abort;
 use std::test::Fail;
 
-/// The call of a row makes no more attempts than it may.
+/// The call of a row makes no more attempts than it may, and reads no more.
 fn count(
     rt: &(impl Abort + AllocGlobal),
     engine: &mut Engine,
     store: &Store,
     row: Row<'_>,
 ) -> Result<(), AllocError> {
-    let (procedure, words, most) = row;
+    let (procedure, words, attempts, addresses) = row;
     let message = message(rt.alloc(), COUNTED_XID, procedure, words, store)?;
-    let count = attempts(rt, engine, &message)?;
+    let cost = cost(rt, engine, &message)?;
     let (program, _, number) = procedure;
-    assert!(rt; count <= most, "procedure {number} of {program}: {count}");
+    let (tried, read) = (cost.attempts, cost.addresses);
+    assert!(rt;
+        tried <= attempts,
+        "procedure {number} of {program}: {tried} attempts"
+    );
+    assert!(rt;
+        read <= addresses,
+        "procedure {number} of {program}: {read} addresses"
+    );
     Ok(())
 }
 
@@ -40,11 +51,7 @@ fn count_all(
     stock: Stock,
     rows: &[Row<'static>],
 ) -> Result<(), AllocError> {
-    let mut store = Store {
-        files: 0,
-        fours: 0,
-        made: Vec::new(rt.alloc()),
-    };
+    let mut store = Store::new(rt.alloc());
     stock_up(rt, engine, &mut store, stock)?;
     for row in rows {
         count(rt, engine, &store, *row)?;
@@ -70,7 +77,10 @@ const FILES: [u32; 7] = [0, 1, 8, 9, 64, 65, 1000];
 #[test]
 fn names_of_a_large_directory_are_called_on_in_one_attempt(rt: HostRuntime) -> Result<(), Fail> {
     for files in FILES {
-        count_in(&rt, Stock::Files(files), ON_NAMES)?;
+        count_in(&rt, Stock::Files(files), ON_NEW_NAMES)?;
+        if files > 0 {
+            count_in(&rt, Stock::Files(files), ON_NAMES)?;
+        }
     }
     Ok(())
 }
@@ -109,7 +119,37 @@ fn a_large_file_is_called_on_in_as_many_attempts(rt: HostRuntime) -> Result<(), 
 }
 
 #[test]
+fn remains_are_written_over_in_one_attempt(rt: HostRuntime) -> Result<(), Fail> {
+    for pages in [2, 16] {
+        count_in(&rt, Stock::Remains(pages), INTO_REMAINS)?;
+    }
+    Ok(())
+}
+
+#[test]
+fn a_link_is_called_on_in_one_attempt(rt: HostRuntime) -> Result<(), Fail> {
+    count_in(&rt, Stock::Link, ON_A_LINK)?;
+    Ok(())
+}
+
+#[test]
+fn a_file_is_replaced_from_another_directory_in_one_attempt(rt: HostRuntime) -> Result<(), Fail> {
+    for blocks in [0, 1, 16] {
+        count_in(&rt, Stock::Pair(blocks), INTO_ANOTHER)?;
+    }
+    Ok(())
+}
+
+#[test]
 fn locks_are_called_on_in_one_attempt(rt: HostRuntime) -> Result<(), Fail> {
-    count_in(&rt, Stock::Blocks(0), ON_ITS_LOCKS)?;
+    for stock in [
+        Stock::Blocks(0),
+        Stock::Held,
+        Stock::Awaited,
+        Stock::Granted,
+    ] {
+        count_in(&rt, stock, ON_ITS_LOCKS)?;
+        count_in(&rt, stock, OF_HOSTS)?;
+    }
     Ok(())
 }

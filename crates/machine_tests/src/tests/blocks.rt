@@ -88,6 +88,30 @@ fn are_ended() -> bool {
         && Bits::none().with(511).with(0).end() == 512
 }
 
+/// Whether one number is gone, and the others are still there.
+fn are_without() -> bool {
+    let bits = Bits::none().with(0).with(63).with(64).with(511);
+    bits.without(64) == Bits::none().with(0).with(63).with(511)
+        && bits.without(511) == Bits::none().with(0).with(63).with(64)
+        && bits.without(1) == bits
+}
+
+/// Whether those are told that two sets have.
+fn are_in_both() -> bool {
+    let bits = Bits::none().with(0).with(63).with(64).with(511);
+    bits.both(Bits::none().with(1).with(63).with(511)) == Bits::none().with(63).with(511)
+        && bits.both(Bits::none()).is_none()
+}
+
+/// Whether a file tells which of its map pages count, and the last one that is there and doesn't.
+fn has_remains() -> Result<bool, AllocError> {
+    let pages = Bits::none().with(0).with(3).with(5);
+    let map = FileMap::new(9, pages)?.with_remains(Bits::none().with(3).with(4));
+    let counts = map.counts(0) && map.counts(5);
+    let counts_others = map.counts(3) || map.counts(4) || map.counts(6);
+    Ok(counts && !counts_others && map.last_remains() == Some(3))
+}
+
 #[test]
 fn blocks_are_written_and_cut(rt: HostRuntime) -> Result<(), AllocError> {
     assert_eq!(rt; first_wrong_write(rt.alloc())?, None);
@@ -102,4 +126,12 @@ fn bits_are_set_and_told(rt: HostRuntime) {
     assert!(rt; are_in());
     assert!(rt; are_below());
     assert!(rt; are_ended());
+    assert!(rt; are_without());
+    assert!(rt; are_in_both());
+}
+
+#[test]
+fn remains_are_told_of_files(rt: HostRuntime) -> Result<(), AllocError> {
+    assert!(rt; has_remains()?);
+    Ok(())
 }

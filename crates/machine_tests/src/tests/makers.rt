@@ -110,7 +110,8 @@ fn resized(draft: &mut Draft<'_>, size: u64) -> Result<bool, Missing>
 
 /// Writes at most 100 bytes, and at least one.
 fn written(draft: &mut Draft<'_>, offset: u8, bytes: &[u8]) -> Result<bool, Missing>
-    requires { draft.old.modes ≡ changing }
+    requires none { draft.old.writes ≡ [] }
+    requires alone { draft.old.modes ≡ changing }
 {
     if bytes.is_empty() || bytes.len() > 100 {
         return Ok(false);

@@ -9,6 +9,9 @@ ghost use Rattle.nfs_inodes.specs.Stops.{StopsAt};
 use nfs_objects::{Addr, Draft, Missing, Wish};
 use std::alloc::{AllocError, Global};
 
+/// For so many addresses room is made with the first one: a READ of 64 KiB has as many blocks.
+const ROOM: usize = 16;
+
 /// What is asked for so far, each address once.
 #[derive(Drop)]
 pub struct Asking {
@@ -35,8 +38,22 @@ impl Asking {
         ensures err { OnErr result (self.new.asked.items ≡ self.old.asked.items) }
     {
         match draft.missing(address) {
-            Some(wish) => Ok(self.asked.push(wish)?),
+            Some(wish) => {
+                self.make_room()?;
+                Ok(self.asked.push(wish)?)
+            }
             None => Ok(()),
+        }
+    }
+
+    /// Makes room for some, where nothing is asked for so far. It changes nothing.
+    fn make_room(&mut self) -> Result<(), AllocError>
+        ensures { self.new.asked.items ≡ self.old.asked.items }
+    {
+        if self.asked.is_empty() {
+            self.asked.reserve(ROOM)
+        } else {
+            Ok(())
         }
     }
 

@@ -1,13 +1,14 @@
 //! The blocks that files are kept in: those of a range, and what is read there and written.
 
 ghost use Rattle.std.specs.Prelude.{◌≡◌, ◌+◌, ◌-◌, ◌*◌, ◌/◌, ◌<◌, ◌≤◌, ◌^◌};
-ghost use Rattle.std.specs.Prelude.{◌||◌, ◌&&◌, [], ◌∷◌, IfOk, IfSome};
+ghost use Rattle.std.specs.Prelude.{◌||◌, ◌&&◌, [], ◌∷◌, IfErr, IfOk, IfSome};
 ghost use Rattle.std.specs.Prelude.{IsSome, MatchResult, OnOk, drop, length, nat_le, nat_lt, option_copied, take, true};
 ghost use Rattle.std.specs.Prelude.{unwrap_or, ℕ};
 ghost use Rattle.nfs_machine.specs.Data.{size_limit};
 ghost use Rattle.nfs_objects.specs.Bits.{has};
 ghost use Rattle.nfs_objects.specs.Calls.{blocks_at, maps_at};
 ghost use Rattle.nfs_objects.specs.Drafts.{MayChange};
+ghost use Rattle.nfs_objects.specs.FileMaps.{counts};
 ghost use Rattle.nfs_objects.specs.Knows.{Knows};
 ghost use Rattle.nfs_objects.specs.Stands.{bytes_at};
 ghost use Rattle.nfs_objects.specs.Values.{known_at};
@@ -62,14 +63,14 @@ impl Range {
     }
 
     /// The map page of the first block.
-    fn first_page(self) -> u64
+    pub(crate) fn first_page(self) -> u64
         ensures { result ≡ first_of self.offset / 512 }
     {
         self.first() / MAP_BLOCKS
     }
 
     /// The map page of the last one.
-    fn last_page(self) -> u64
+    pub(crate) fn last_page(self) -> u64
         ensures { result ≡ (end_of self.offset self.count - 1) / 512 }
     {
         (self.end() - 1) / MAP_BLOCKS
@@ -84,20 +85,21 @@ impl Range {
     }
 }
 
-/// What a block of a file has; None where it is absent, as all blocks are whose map page is.
+/// What a block of a file has; None where it is absent, as all blocks are whose map page is, or counts as such.
 fn stored<'d>(
     draft: &'d Draft<'_>,
     file: Mapped<'_>,
     index: u64,
 ) -> Result<Option<&'d Bytes>, Missing>
     requires mapped { HasMap draft.now file.number file.map.now }
-    requires known { has file.map.now.pages (index / 512) ≡ true →
+    requires known { counts file.map.now (index / 512) ≡ true →
         IsSome (known_at draft.now (Addr.Block file.number index)) }
     ensures { MatchResult result
-        (λ block. ShowsBlock draft.now file.entry.number index (unwrap_or (option_copied block) []))
+        (λ block. ShowsBlock draft.now file.entry.number file.entry.map.now index
+        (unwrap_or (option_copied block) []))
         (StopsAt draft.now []) }
 {
-    if !file.map.pages().has(index / MAP_BLOCKS) {
+    if !file.map.counts(index / MAP_BLOCKS) {
         return Ok(None);
     }
     draft.block(file.number, index)
@@ -134,16 +136,15 @@ pub(crate) fn read_range(
     gathered(draft, file, range)
 }
 
-/// Asks for the blocks of a range, as far as its map pages are there.
+/// Asks for the blocks of a range, as far as its map pages are there and count.
 fn ask_range(draft: &Draft<'_>, file: Mapped<'_>, range: Range) -> Result<(), Missing>
     ensures { MatchResult result
-        (λ _. KnowsMapped draft.now file.entry.number file.entry.map.now.pages range.offset range.count)
+        (λ _. KnowsMapped draft.now file.entry.number file.entry.map.now range.offset range.count)
         (StopsAt draft.now (blocks_at file.entry.number range.offset)) }
 {
-    let pages = file.map.pages();
     let mut asking = Asking::new(draft.alloc());
     for index in range.first()..range.end() {
-        if pages.has(index / MAP_BLOCKS) {
+        if file.map.counts(index / MAP_BLOCKS) {
             asking.add(draft, block_at(file.number, index))?;
         }
     }
@@ -154,7 +155,7 @@ fn ask_range(draft: &Draft<'_>, file: Mapped<'_>, range: Range) -> Result<(), Mi
 fn gathered(draft: &Draft<'_>, file: Mapped<'_>, range: Range) -> Result<Pieces, Missing>
     requires mapped { HasMap draft.now file.number file.map.now }
     requires within { range.offset + range.count ≤ file.map.now.size }
-    requires known { KnowsMapped draft.now file.number file.map.now.pages range.offset range.count }
+    requires known { KnowsMapped draft.now file.number file.map.now range.offset range.count }
     ensures { MatchResult result
         (λ found. Knows draft.now (λ k.
         found ≡ take range.count (drop range.offset (bytes_at k.state file.entry.number))))
@@ -228,6 +229,37 @@ fn gets_blocks(map: &FileMap, range: Range, page: u64) -> bool
 {
     let last = range.end().min((page + 1) * MAP_BLOCKS) - 1;
     !map.pages().has(page) || last * BLOCK >= map.size()
+}
+
+/// Asks at once for the map pages of a range that get other blocks where it is written, as far as the draft shows which
+/// are absent.
+///
+/// # Errors
+///
+/// `Need` of those that it lacks, and `Memory`.
+pub(crate) fn ask_hole_maps(draft: &Draft<'_>, number: u64, range: Range) -> Result<(), Missing>
+    ensures { IfErr result (StopsAt draft.now (maps_at number range.offset)) }
+{
+    let mut asking = Asking::new(draft.alloc());
+    for page in range.first_page()..range.last_page() + 1 {
+        if has_hole(draft, number, range, page) {
+            asking.add(draft, map_at(number, page))?;
+        }
+    }
+    asking.ask()
+}
+
+/// Whether the draft shows that a block of a range is absent, of those that a map page is for.
+fn has_hole(draft: &Draft<'_>, number: u64, range: Range, page: u64) -> bool
+    requires { page * 512 < 2 ^ 63 }
+{
+    let begin = page * MAP_BLOCKS;
+    for index in range.first().max(begin)..range.end().min(begin + MAP_BLOCKS) {
+        if let Ok(None) = draft.block(number, index) {
+            return true;
+        }
+    }
+    false
 }
 
 /// Writes bytes over a range of a file that has as many: its blocks, and those map pages that get other ones. Which map
@@ -361,7 +393,7 @@ fn are_there(draft: &Draft<'_>, number: u64, first: u64, end: u64) -> Result<boo
 }
 
 /// The set with these numbers.
-fn with_places(bits: Bits, first: u64, end: u64) -> Bits
+pub(crate) fn with_places(bits: Bits, first: u64, end: u64) -> Bits
     requires order { first ≤ end }
     requires small { end ≤ 512 }
     ensures { (n : ℕ) → has result n ≡ (has bits n || (nat_le first n && nat_lt n end)) }

@@ -8,17 +8,23 @@ ghost use Rattle.nfs_objects.specs.Values.{known_at};
 ghost use Rattle.nfs_inodes.specs.Asking.{AsksFor};
 ghost use Rattle.nfs_inodes.specs.Blocks.{HasPages};
 ghost use Rattle.nfs_inodes.specs.Cuts.{CutsBlock, CutsBlocks, CutsNext, CutsPage, IsCutAt, IsPageIn, IsResized};
+ghost use Rattle.nfs_inodes.specs.Remains.{IsCutIn, IsCutLast};
 ghost use Rattle.nfs_inodes.specs.Cuts.{IsTold};
 ghost use Rattle.nfs_inodes.specs.Cuts.{KnowsMaps, KnowsTold, ShowsMap, ShowsMaps, told_at};
 ghost use Rattle.nfs_inodes.specs.Stops.{StillStands, StopsAt};
 
+use crate::burying::has_two;
 use crate::content::asking::Asking;
-use crate::content::blocks::BLOCK;
+use crate::content::blocks::{BLOCK, with_places};
+use nfs_objects::bits::BITS;
 use nfs_objects::block::cut;
 use nfs_objects::{Addr, Bits, Draft, FileMap, MAP_BLOCKS, Missing};
 use std::alloc::AllocError;
 
-/// Cuts a file off that gets smaller. Which map pages are there then.
+/// How many bytes the blocks of a map page have at most.
+pub(crate) const PAGE: u64 = BLOCK * MAP_BLOCKS;
+
+/// Cuts a file off that gets smaller. What its inode tells of its bytes then.
 ///
 /// # Errors
 ///
@@ -26,20 +32,120 @@ use std::alloc::AllocError;
 pub(crate) fn cut_to(
     draft: &mut Draft<'_>,
     number: u64,
+    map: &FileMap,
+    size: u64,
+) -> Result<FileMap, Missing>
+    requires alone { MayChange draft.old (Addr.Inode number) }
+    requires pages { HasPages draft.old number map.now.pages }
+    requires stands { StillStands draft.old }
+    ensures { MatchResult result (IsResized draft.old draft.new number map.now size) (StopsAt draft.old []) }
+{
+    if size < map.size() {
+        cut_smaller(draft, number, map, size)
+    } else {
+        Ok(FileMap::new(size, map.pages())?.with_remains(map.remains()))
+    }
+}
+
+/// Cuts a file off that gets smaller: a large one in a time that doesn't grow with it.
+fn cut_smaller(
+    draft: &mut Draft<'_>,
+    number: u64,
+    map: &FileMap,
+    size: u64,
+) -> Result<FileMap, Missing>
+    requires alone { MayChange draft.old (Addr.Inode number) }
+    requires pages { HasPages draft.old number map.now.pages }
+    requires stands { StillStands draft.old }
+    ensures { MatchResult result (IsResized draft.old draft.new number map.now size) (StopsAt draft.old []) }
+{
+    if has_two(map.pages()) {
+        cut_large(draft, number, map, size)
+    } else {
+        cut_small(draft, number, map, size)
+    }
+}
+
+/// Cuts off a large file: the map pages that are wholly behind its end are remains from then on.
+fn cut_large(
+    draft: &mut Draft<'_>,
+    number: u64,
+    map: &FileMap,
+    size: u64,
+) -> Result<FileMap, Missing>
+    requires alone { MayChange draft.old (Addr.Inode number) }
+    requires pages { HasPages draft.old number map.now.pages }
+    requires stands { StillStands draft.old }
+    ensures { MatchResult result (IsResized draft.old draft.new number map.now size) (StopsAt draft.old []) }
+{
+    let all = map.pages();
+    let remains = map.remains();
+    let first = size.div_ceil(PAGE).min(BITS);
+    let pages = cut_last(draft, number, all, size)?;
+    let behind = with_places(remains, first, BITS);
+    Ok(FileMap::new(size, pages)?.with_remains(behind))
+}
+
+/// Cuts off a file of which all goes that is behind its end.
+fn cut_small(
+    draft: &mut Draft<'_>,
+    number: u64,
+    map: &FileMap,
+    size: u64,
+) -> Result<FileMap, Missing>
+    requires alone { MayChange draft.old (Addr.Inode number) }
+    requires pages { HasPages draft.old number map.now.pages }
+    requires stands { StillStands draft.old }
+    ensures { MatchResult result (IsResized draft.old draft.new number map.now size) (StopsAt draft.old []) }
+{
+    let all = map.pages();
+    let remains = map.remains();
+    let pages = cut_off(draft, number, all, size)?;
+    Ok(FileMap::new(size, pages)?.with_remains(remains))
+}
+
+/// Cuts off the map page in which a file of this size ends; those behind it stay. Which map pages are there then.
+///
+/// # Errors
+///
+/// As `cut_one`.
+fn cut_last(draft: &mut Draft<'_>, number: u64, pages: Bits, size: u64) -> Result<Bits, Missing>
+    requires alone { MayChange draft.old (Addr.Inode number) }
+    requires pages { HasPages draft.old number pages }
+    requires stands { StillStands draft.old }
+    ensures { MatchResult result (IsCutLast draft.old draft.new number size) (StopsAt draft.old []) }
+{
+    if size % PAGE == 0 {
+        Ok(pages)
+    } else {
+        cut_one(draft, number, pages, size / PAGE, size)
+    }
+}
+
+/// Frees what a map page of a file has behind a place. Which map pages are there then.
+///
+/// # Errors
+///
+/// `Need` of what has to be held for it, the map page and then all blocks of which it tells; and `Memory`. The draft is
+/// of no use then.
+pub(crate) fn cut_one(
+    draft: &mut Draft<'_>,
+    number: u64,
     pages: Bits,
-    old_size: u64,
+    page: u64,
     size: u64,
 ) -> Result<Bits, Missing>
     requires alone { MayChange draft.old (Addr.Inode number) }
     requires pages { HasPages draft.old number pages }
     requires stands { StillStands draft.old }
-    ensures { MatchResult result (IsResized draft.old draft.new number old_size size) (StopsAt draft.old []) }
+    ensures { MatchResult result (IsCutIn draft.old draft.new number page size) (StopsAt draft.old []) }
 {
-    if size < old_size {
-        cut_off(draft, number, pages, size)
-    } else {
-        Ok(pages)
+    if !pages.has(page) {
+        return Ok(pages);
     }
+    let maps = read_maps(draft, number, pages, page, page + 1)?;
+    ask_blocks(draft, number, &maps, page, page + 1, size / BLOCK)?;
+    cut_next(draft, number, page, maps[0], size, pages.without(page))
 }
 
 /// Frees what a file has behind a place, which is its end from then on. Which map pages are there then.
@@ -102,7 +208,7 @@ fn cut_next(
 }
 
 /// Asks for what cutting off a file with these map pages has to hold: for all map pages at once, and then for all
-/// blocks.
+/// blocks. Of a large file those are of one map page at most.
 ///
 /// # Errors
 ///
@@ -113,9 +219,22 @@ pub(crate) fn ask_cut(draft: &Draft<'_>, number: u64, pages: Bits, size: u64) ->
     ensures { IfErr result (StopsAt draft.now []) }
 {
     let first = size / BLOCK / MAP_BLOCKS;
-    let end = pages.end();
+    let end = cut_end(pages, size);
     let maps = read_maps(draft, number, pages, first, end)?;
     ask_blocks(draft, number, &maps, first, end, size / BLOCK)
+}
+
+/// The map page behind the last one that is cut off where a file with these map pages gets this size: of a large file
+/// those stay that are wholly behind its end.
+fn cut_end(pages: Bits, size: u64) -> u64
+    ensures { result ≤ 512 }
+{
+    let end = pages.end();
+    if has_two(pages) {
+        end.min(size.div_ceil(PAGE))
+    } else {
+        end
+    }
 }
 
 /// What the map pages from one on tell, up to another; of one that is not there, of no block.
@@ -181,7 +300,7 @@ pub(crate) fn add_cut_maps(
         number,
         pages,
         size / BLOCK / MAP_BLOCKS,
-        pages.end(),
+        cut_end(pages, size),
         asking,
     )
 }

@@ -1,6 +1,6 @@
 //! The bytes of files and the texts of links (RFC 1813, 3.3.5 to 3.3.7).
 
-ghost use Rattle.std.specs.Prelude.{◌≡◌, ◌+◌, ◌<◌, ◌≤◌, ℕ, [], IfErr, IfOk, MatchResult, None};
+ghost use Rattle.std.specs.Prelude.{◌≡◌, ◌+◌, ◌-◌, ◌/◌, ◌<◌, ◌≤◌, ℕ, [], IfErr, IfOk, MatchResult, None};
 ghost use Rattle.std.specs.Prelude.{Some};
 ghost use Rattle.std.specs.Prelude.{length};
 ghost use Rattle.std.specs.Prelude.{option_copied};
@@ -8,22 +8,24 @@ ghost use Rattle.nfs_machine.specs.Checks.{text_in};
 ghost use Rattle.nfs_machine.specs.Data.{read_at, resized, size_limit, transfer_limit, written};
 ghost use Rattle.nfs_machine.specs.Times.{time_of};
 ghost use Rattle.nfs_objects.specs.Bits.{no_bits};
-ghost use Rattle.nfs_objects.specs.Calls.{addresses_of, blocks_at};
+ghost use Rattle.nfs_objects.specs.Calls.{addresses_of, blocks_at, maps_at};
 ghost use Rattle.nfs_objects.specs.Knows.{Knows, Turns};
 ghost use Rattle.nfs_objects.specs.Modes.{changing};
 ghost use Rattle.nfs_objects.specs.Stands.{bytes_at, content_of, map_in};
 ghost use Rattle.nfs_objects.specs.Drafts.{MayChange};
 ghost use Rattle.nfs_objects.specs.declared.address.Addr.TheVariants as Addr;
-ghost use Rattle.nfs_inodes.specs.Blocks.{HasMap, HasPages, read_from, written_from};
+ghost use Rattle.nfs_inodes.specs.Blocks.{HasMap, HasPages, end_of, first_of, read_from, written_from};
 ghost use Rattle.nfs_inodes.specs.Cuts.{IsCleared};
 ghost use Rattle.nfs_inodes.specs.Kinds.{HasFile, IsShown};
 ghost use Rattle.nfs_inodes.specs.Known.{bytes_of, content_at};
 ghost use Rattle.nfs_inodes.specs.Makes.{bytes_changed};
+ghost use Rattle.nfs_inodes.specs.Remains.{HasCleared};
 ghost use Rattle.nfs_inodes.specs.Stops.{StillStands, StopsAt, counted_at};
 
 use crate::content::asking::Asking;
-use crate::content::blocks::{Mapped, Range, ask_written, read_range, write_range};
-use crate::content::cut::{add_cut_maps, ask_cut, cut_off, cut_to};
+use crate::content::blocks::{Mapped, Range, ask_hole_maps, ask_written, read_range, write_range};
+use crate::content::cut::{PAGE, add_cut_maps, ask_cut, cut_off, cut_to};
+use crate::content::remains::clear_range;
 use crate::content::{KeptFile, file_at, with_content};
 use crate::data::TRANSFER_LIMIT;
 use crate::found::{Known, inode};
@@ -140,6 +142,7 @@ pub fn write(
     offset: u64,
     bytes: &[u8],
 ) -> Result<(), Missing>
+    requires none { draft.old.writes ≡ [] }
     requires alone { draft.old.modes ≡ changing }
     requires shown { IsShown draft.old file.now.known }
     requires some { 0 < length bytes.now }
@@ -150,14 +153,38 @@ pub fn write(
         (λ old. written old offset bytes.now)))
         (StopsAt draft.old (written_from draft.old file.now.known.number offset)) }
 {
-    let number = file.known.number;
     let range = Range {
         offset,
         count: bytes.len(),
     };
+    clear_range(draft, file, range)?;
+    write_over(draft, file, range, bytes)
+}
+
+/// The same where no remains are in the map pages of its range.
+fn write_over(
+    draft: &mut Draft<'_>,
+    file: &KnownFile,
+    range: Range,
+    bytes: &[u8],
+) -> Result<(), Missing>
+    requires alone { draft.old.modes ≡ changing }
+    requires shown { IsShown draft.old file.now.known }
+    requires some { 0 < length bytes.now }
+    requires few { length bytes.now ≤ transfer_limit }
+    requires room { range.offset + length bytes.now ≤ size_limit }
+    requires whole { range.count ≡ length bytes.now }
+    requires cleared { HasCleared draft.old file.now.known.number (first_of range.offset / 512)
+        ((end_of range.offset range.count - 1) / 512) }
+    ensures { MatchResult result
+        (λ _. Turns draft.old draft.new (bytes_changed (time_of draft.old.ctx.moment) file.now.known.number
+        (λ old. written old range.offset bytes.now)))
+        (StopsAt draft.old (written_from draft.old file.now.known.number range.offset)) }
+{
+    let number = file.known.number;
     let kept = file_at(draft, file)?;
     let share = share_of(kept.inode);
-    let size = kept.map.size().max(offset + bytes.len() as u64);
+    let size = kept.map.size().max(range.offset + bytes.len() as u64);
     let after = Usage::of_one(size);
     let mapped = Mapped {
         number,
@@ -169,12 +196,49 @@ pub fn write(
     asking.ask()?;
     let usage = counted(draft, number, share, after)?;
     let pages = kept.map.pages();
+    let remains = kept.map.remains();
     let inode = kept.inode.clone()?;
     count(draft, share.export, number, usage)?;
     let pages = write_range(draft, number, pages, range, bytes)?;
-    let content = Content::Regular(FileMap::new(size, pages)?);
+    let content = Content::Regular(FileMap::new(size, pages)?.with_remains(remains));
     let new = with_content(&inode, now(draft.ctx()), content);
     Ok(draft.put(number, new)?)
+}
+
+/// Asks for the map pages that get other blocks where so many bytes, at least one, are written at an offset of a file,
+/// as far as the draft shows which blocks are absent.
+///
+/// # Errors
+///
+/// `Need` of those that it lacks, and `Memory`.
+pub fn ask_holes(
+    draft: &Draft<'_>,
+    file: &KnownFile,
+    offset: u64,
+    count: usize,
+) -> Result<(), Missing>
+    requires some { 0 < count }
+    requires few { count ≤ transfer_limit }
+    requires room { offset + count ≤ size_limit }
+    ensures { IfErr result (StopsAt draft.now (maps_at file.now.known.number offset)) }
+{
+    ask_hole_maps(draft, file.known.number, Range { offset, count })
+}
+
+/// Whether the draft shows remains in the map page of the first or the last one of so many bytes, at least one, at an
+/// offset of the file at a number: they go before these bytes are written.
+pub fn has_remains(draft: &Draft<'_>, number: u64, offset: u64, count: usize) -> bool
+    requires { 0 < count }
+{
+    let Ok(Some(inode)) = inode(draft, number) else {
+        return false;
+    };
+    let Content::Regular(map) = &inode.content else {
+        return false;
+    };
+    let last = offset.saturating_add(count as u64 - 1);
+    let remains = map.pages().both(map.remains());
+    remains.has(offset / PAGE) || remains.has(last / PAGE)
 }
 
 /// Cuts a file off, or fills it up with zeros, to this size in bytes.
@@ -196,13 +260,11 @@ pub fn resize(draft: &mut Draft<'_>, file: &KnownFile, size: u64) -> Result<(), 
     ask_sized(draft, number, kept, size)?;
     let share = share_of(kept.inode);
     let usage = counted(draft, number, share, Usage::of_one(size))?;
-    let pages = kept.map.pages();
-    let old_size = kept.map.size();
+    let map = kept.map.copy();
     let inode = kept.inode.clone()?;
     count(draft, share.export, number, usage)?;
-    let pages = cut_to(draft, number, pages, old_size, size)?;
-    let content = Content::Regular(FileMap::new(size, pages)?);
-    let new = with_content(&inode, now(draft.ctx()), content);
+    let left = cut_to(draft, number, &map, size)?;
+    let new = with_content(&inode, now(draft.ctx()), Content::Regular(left));
     Ok(draft.put(number, new)?)
 }
 

@@ -74,7 +74,7 @@ fn happen(
     answers.reserve(1)?;
     match event {
         Event::Arrive(received) => arrive(alloc, world, received)?,
-        Event::Replace(exports, moment) => replace(world, exports, *moment)?,
+        Event::Replace(exports, moment) => replace(alloc, world, exports, *moment)?,
         Event::Turn(worker) => note(answers, world.turn(alloc, *worker)),
         Event::Stop(worker) => note(answers, world.stop(*worker)),
         Event::TakeMessage => world.take_message()?,
@@ -95,19 +95,24 @@ fn arrive(alloc: Global, world: &mut World, received: &Received) -> Result<(), A
     } = received.share()?;
     let arrival = Arrival::read(alloc, host, message, moment)?;
     // It brings that this is what the record asks.
-    arrival.reading();
+    arrival.show_read();
     world.arrive(arrival)?;
     Ok(())
 }
 
 /// Puts exports that came in last in the queue. An error changes nothing.
-fn replace(world: &mut World, exports: &Exports, moment: Moment) -> Result<(), AllocError>
+fn replace(
+    alloc: Global,
+    world: &mut World,
+    exports: &Exports,
+    moment: Moment,
+) -> Result<(), AllocError>
     ensures ok { OnOk result (Arrives world.old world.new (NewExports exports.now moment)) }
     ensures err { OnErr result (world.new ≡ world.old) }
 {
-    let came = Arrival::exports(exports.clone()?, moment)?;
+    let came = Arrival::exports(alloc, exports.clone()?, moment)?;
     // It brings that this is what they ask.
-    came.reading();
+    came.show_read();
     world.arrive(came)?;
     Ok(())
 }

@@ -227,7 +227,7 @@ impl<L: Ledger + Naming, C: Clock> Dispatcher<L, C> {
     /// Puts exports in the place of those before. The permit is given back before that is told.
     pub(crate) fn replace<R: Wait>(&mut self, rt: &R, alloc: Global, exports: Exports) -> Applied {
         let moment = self.clock.moment();
-        let Ok(arrival) = Arrival::exports(exports, moment) else {
+        let Ok(arrival) = Arrival::exports(alloc, exports, moment) else {
             return Applied::Refused;
         };
         let permit = self.permits.take(rt);
@@ -363,7 +363,7 @@ fn submit<R: Wait, L: Ledger + Naming>(
     ensures turns { permit.new.turns ≡ permit.old.turns }
 {
     // It brings that what came in is read so.
-    arrival.reading();
+    arrival.show_read();
     let Permit { pool, seat, .. } = permit;
     seat.go_above(last);
     match pool.submit(rt, alloc, &Open, seat, arrival)? {
@@ -434,7 +434,7 @@ fn again(alloc: Global, received: &Incoming) -> Result<Arrival, AllocError>
 {
     match received.share()? {
         Incoming::Record(received) => read_again(alloc, received),
-        Incoming::Exports(exports, moment) => Arrival::exports(exports, moment),
+        Incoming::Exports(exports, moment) => Arrival::exports(alloc, exports, moment),
     }
 }
 

@@ -9,6 +9,7 @@ use crate::exit::Exit;
 use crate::network::counters::{CountedEvent, Counters, Gauge};
 use crate::network::tally::Tally;
 use crossbeam_channel::{Receiver, RecvTimeoutError, Sender};
+use nfs_machine::NameKey;
 use nfs_pool::{Ended, EraRoom, Naming, Pool, Seat};
 use std::alloc::{AllocError, Global};
 use std::rt::Clock;
@@ -187,8 +188,17 @@ pub(crate) struct EraThread<L: Ledger + Naming> {
     /// For how many seconds the next permit is waited for.
     pub(crate) patience: u64,
     pub(crate) counters: Arc<Counters>,
-    /// How many replies are kept of each host; None where nobody is told of them.
-    pub(crate) kept: Option<usize>,
+    /// None where nobody is told of the replies that are kept.
+    pub(crate) kept: Option<KeptReplies>,
+}
+
+/// What the replies that are kept are counted by.
+#[derive(Clone, Copy)]
+pub(crate) struct KeptReplies {
+    /// How many are kept of each host.
+    pub(crate) capacity: usize,
+    /// The server's own bytes, by which hosts are placed.
+    pub(crate) key: NameKey,
 }
 
 impl<L: Ledger + Naming> EraThread<L> {
@@ -205,7 +215,10 @@ impl<L: Ledger + Naming> EraThread<L> {
         seats: Vec<Seat<L>>,
         room: EraRoom,
     ) -> Result<(), Exit> {
-        let mut tally = Tally::new(alloc, self.kept.unwrap_or(0));
+        let mut tally = match &self.kept {
+            Some(kept) => Tally::new(alloc, kept.capacity, &kept.key),
+            None => Tally::new(alloc, 0, &[0; 16]),
+        };
         let ended = self.end_eras(rt, alloc, seats, room, &mut tally);
         drop(tally);
         ended

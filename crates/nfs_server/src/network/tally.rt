@@ -4,7 +4,9 @@ use crate::network::counters::{Counters, Gauge};
 use bytes::Bytes;
 use indexmap::IndexMap;
 use nfs_engine::{Incoming, Receipt, read_record};
+use nfs_machine::NameKey;
 use nfs_rpc::Record;
+use nfs_tables::Placing;
 use std::alloc::{AllocError, Global};
 use std::collections::VecDeque;
 
@@ -24,17 +26,17 @@ struct Change<'a> {
 pub struct Tally {
     /// How many replies are kept of each host.
     capacity: usize,
-    hosts: IndexMap<Bytes, VecDeque<u64>>,
+    hosts: IndexMap<Bytes, VecDeque<u64>, Placing>,
     replies: u64,
     bytes: u64,
 }
 
 impl Tally {
-    /// No reply is kept. It takes no memory.
-    pub fn new(alloc: Global, capacity: usize) -> Tally {
+    /// No reply is kept. Hosts are placed by the server's own bytes. It takes no memory.
+    pub fn new(alloc: Global, capacity: usize, key: &NameKey) -> Tally {
         Tally {
             capacity,
-            hosts: IndexMap::new(alloc),
+            hosts: IndexMap::with_hasher(alloc, Placing::new(key)),
             replies: 0,
             bytes: 0,
         }

@@ -247,7 +247,7 @@ fn zeros(alloc: Global, count: u64) -> Result<Bytes, AllocError> {
 /// What is told of an era in which these receipts were given, where so many replies are kept of each host.
 fn told(alloc: Global, capacity: usize, seats: &[Vec<Receipt>]) -> Result<String, AllocError> {
     let counters = Counters::new(alloc)?;
-    let mut tally = Tally::new(alloc, capacity);
+    let mut tally = Tally::new(alloc, capacity, &[7; 16]);
     tally.add_era(alloc, seats);
     tally.tell(&counters);
     drop(tally);

@@ -1,4 +1,4 @@
-//! A call from its beginning to its end, with its attempts counted.
+//! A call from its beginning to its end, with its attempts and what it reads counted.
 
 ghost use Rattle.std.specs.Prelude.{◌≡◌, [], IfOk, None, OnOk};
 ghost use Rattle.nfs_objects.specs.Bound.{view_after};
@@ -73,8 +73,17 @@ fn make(
     }
 }
 
-/// How many attempts a call makes until it is done.
-fn play(alloc: Global, engine: &mut Engine, txn: &mut Txn) -> Result<usize, AllocError>
+/// What a call takes until it is done.
+#[derive(Clone, Copy)]
+pub(super) struct Cost {
+    /// How often it is attempted.
+    pub(super) attempts: usize,
+    /// How many addresses it reads, the numbers that it gets among them.
+    pub(super) addresses: usize,
+}
+
+/// A call is made until it is done.
+fn play(alloc: Global, engine: &mut Engine, txn: &mut Txn) -> Result<Cost, AllocError>
     requires lives { Lives engine.old txn.old }
     requires unread { txn.old.view ≡ view_after [] }
     ensures { Lives engine.new txn.new }
@@ -92,7 +101,10 @@ fn play(alloc: Global, engine: &mut Engine, txn: &mut Txn) -> Result<usize, Allo
                     Considered::Reads(step) => course = make(alloc, engine, txn, step)?,
                     Considered::Done(change) => {
                         drop(change);
-                        return Ok(attempts);
+                        return Ok(Cost {
+                            attempts,
+                            addresses: txn.view().len(),
+                        });
                     }
                     Considered::Fails => return Err(AllocError),
                 }
@@ -144,14 +156,14 @@ fn give_up(rt: &impl Abort, engine: &mut Engine, txn: Txn)
     }
 }
 
-/// How many attempts the call of a message makes. It is given up then, so the store stays.
-pub(super) fn attempts(
+/// What the call of a message takes. It is given up then, so the store stays.
+pub(super) fn cost(
     rt: &(impl Abort + AllocGlobal),
     engine: &mut Engine,
     message: &[u8],
-) -> Result<usize, AllocError> {
+) -> Result<Cost, AllocError> {
     let mut txn = begin(rt, engine, message)?;
-    let attempts = play(rt.alloc(), engine, &mut txn);
+    let cost = play(rt.alloc(), engine, &mut txn);
     give_up(rt, engine, txn);
-    attempts
+    cost
 }

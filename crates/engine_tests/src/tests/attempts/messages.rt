@@ -1,6 +1,7 @@
 //! The messages of calls on a store.
 
-use super::rows::{Procedure, Word};
+use super::procedures::Procedure;
+use super::rows::Word;
 use std::alloc::{AllocError, Global};
 
 /// The root's handle: export 1, start 7, fileid 1, generation 1.
@@ -21,6 +22,20 @@ pub(super) struct Store {
     pub(super) fours: u8,
     /// The handle of what was made last; at first none.
     pub(super) made: Vec<u8>,
+    /// The cookie of what was granted last; at first none.
+    pub(super) grant: Vec<u8>,
+}
+
+impl Store {
+    /// Nothing.
+    pub(super) fn new(alloc: Global) -> Store {
+        Store {
+            files: 0,
+            fours: 0,
+            made: Vec::new(alloc),
+            grant: Vec::new(alloc),
+        }
+    }
 }
 
 /// Four bytes more.
@@ -50,18 +65,29 @@ fn put_path(bytes: &mut Vec<u8>, fours: u8) -> Result<(), AllocError> {
     bytes.extend_from_slice(b"\0\0\0")
 }
 
-/// Four letters.
-fn put_owner(bytes: &mut Vec<u8>) -> Result<(), AllocError> {
+/// The bytes of an owner, or of a host's name: four letters.
+const OWNER: &[u8] = b"aaaa";
+
+const OTHER_OWNER: &[u8] = b"bbbb";
+
+/// These four bytes.
+fn put_owner(bytes: &mut Vec<u8>, owner: &[u8]) -> Result<(), AllocError> {
     put(bytes, 4)?;
-    bytes.extend_from_slice(b"aaaa")
+    bytes.extend_from_slice(owner)
 }
 
 /// An owner's lock of a whole file.
-fn put_lock(bytes: &mut Vec<u8>, file: &[u8]) -> Result<(), AllocError> {
-    put_owner(bytes)?;
+fn put_lock(bytes: &mut Vec<u8>, file: &[u8], owner: &[u8]) -> Result<(), AllocError> {
+    put_owner(bytes, OWNER)?;
     put_handle(bytes, file)?;
-    put_owner(bytes)?;
+    put_owner(bytes, owner)?;
     put_zeros(bytes, 5)
+}
+
+/// A cookie, which is empty or has 8 bytes.
+fn put_cookie(bytes: &mut Vec<u8>, cookie: &[u8]) -> Result<(), AllocError> {
+    put(bytes, if cookie.is_empty() { 0 } else { 8 })?;
+    bytes.extend_from_slice(cookie)
 }
 
 /// So many words of zero.
@@ -92,8 +118,10 @@ fn put_word(bytes: &mut Vec<u8>, word: Word, store: &Store) -> Result<(), AllocE
         Word::Last => put_name(bytes, store.files.saturating_sub(1)),
         Word::Absent => put_name(bytes, store.files),
         Word::Path => put_path(bytes, store.fours),
-        Word::Owner => put_owner(bytes),
-        Word::Lock => put_lock(bytes, &store.made),
+        Word::Owner => put_owner(bytes, OWNER),
+        Word::Lock => put_lock(bytes, &store.made, OWNER),
+        Word::OtherLock => put_lock(bytes, &store.made, OTHER_OWNER),
+        Word::Grant => put_cookie(bytes, &store.grant),
         Word::Blocks(blocks) => put_blocks(bytes, blocks),
     }
 }

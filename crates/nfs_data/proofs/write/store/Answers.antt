@@ -39,6 +39,9 @@ turned d new a x y more same is turns =
     (subst (λ (z : Known). Turns d new
     (bytes_changed (time_of d.ctx.moment) z.number (λ old. written old a.offset more))) same turns)
 
+pub write-requires-clause-none : goal.write-requires-clause-none
+write-requires-clause-none c = c.requires.begins.none
+
 pub returns-in_err-exports : goal.returns-in_err-exports
 returns-in_err-exports c =
     let p = err_from_is_err_and c.from_residual.result c.from_residual.ensures.1 in

@@ -1,4 +1,4 @@
-use Rattle.std.proofs.Common.{◌≡◌, ◌∙◌, ◌+◌, ◌<◌, ◌≤◌, Bool, None, Option, Some, arith, cond, option_map, subst, sym}
+use Rattle.std.proofs.Common.{◌≡◌, ◌∙◌, ◌+◌, ◌<◌, ◌≤◌, Bool, None, Some, arith, cond, option_map, subst, sym}
 use Rattle.std.specs.Arc.{arc_value}
 use Rattle.nfs_tables.specs.Tables as tables
 use Rattle.nfs_objects.proofs.ViewLookupLemmas.{same_address, so-ok}

@@ -1,12 +1,11 @@
 use Rattle.std.proofs.Common.{◌≡◌, Err, IfSome, ap, sym, subst, ◌∙◌}
 use Rattle.nfs_machine.specs.Run.{Setting}
 use Rattle.nfs_engine.proofs.BookLemmas.{begun, idle_of}
-use Rattle.nfs_engine.proofs.AdmitErrorLemmas.{entered, known_of, turned}
+use Rattle.nfs_engine.proofs.AdmitErrorLemmas.{begun_asked, entered, known_of, turned}
 use Rattle.nfs_engine.specs.Arrivals.{ArrivalValue, incoming_value}
 use Rattle.nfs_engine.specs.Book.{Admits, BookValue, IsNoRepeat, IsUnknown, book_value}
 use Rattle.nfs_engine.specs.Calls.{TxnValue}
 use Rattle.nfs_engine.specs.Candidates.{candidate_value}
-use Rattle.nfs_engine.specs.declared.arrival.Reading.TheVariants as readings
 use Rattle.nfs_engine.specs.declared.request.Request.{Request}
 use Rattle.nfs_engine.proofs.book.Book.enter.Goals as goal
 use Rattle.nfs_engine.proofs.book.Book.enter.Goals.{in-Ok, in-Err}
@@ -40,6 +39,10 @@ under c = c.begin_under.ensures ∙ ap (λ (r : Request). let s : Request = reco
     { ctx = record (r.ctx) { start = c.self.inside.start; limits = c.self.inside.limits } } in s)
     c.deref_mut.ensures.value
 
+pub asking-requires : goal.asking-requires
+asking-requires c =
+    begun_asked _ _ _ _ c.candidate.invariant _ _ c.deref_mut.ensures.value c.begin_under.ensures
+
 pub invariant_of-self : goal.invariant_of-self
 invariant_of-self c =
     let book = c.self.inside in
@@ -61,10 +64,8 @@ returns c = elim c.match-begin.branch [
         view = w.new.ensures i;
       } in t))
   | in-Err w ↦ rw (w.result-is, ← c.self.view_is, ← c.candidate.view_is)
-      (let back : w.asking.result ≡ candidate_value (asks c) = w.asking.ensures ∙ (λ i. record {
-        received = incoming_value (w.into_parts-received.ensures.received i);
-        reading = readings.Asks (w.into_parts-received.ensures.asked i);
-      }) ∙ ap candidate_value (w.into_inner.ensures ∙ under c) in
+      (let back : w.asking.result ≡ candidate_value (asks c) =
+      w.asking.ensures ∙ ap candidate_value (under c) in
       subst (λ (a : ArrivalValue). Admits (old c) (book_value c.self.inside.journal c.self.inside.replies
       c.begin.new.self (setting c) c.self.inside.era_records) (candidate_value (asks c)) (Err (w.in-Err.error, a)))
       (sym back) (turned c.self.inside.journal c.self.inside.replies c.self.inside.calls (setting c)

@@ -1,4 +1,4 @@
-use Rattle.std.proofs.Common.{List, [], ap, refl, subst, sym}
+use Rattle.std.proofs.Common.{List, refl, subst, sym}
 use Rattle.nfs_objects.specs.declared.address.Addr.{Addr}
 use Rattle.nfs_engine.proofs.StandingCountLemmas.{no-objects}
 use Rattle.nfs_engine.specs.Standing.{HasObjects}

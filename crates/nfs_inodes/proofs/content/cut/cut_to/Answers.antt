@@ -1,14 +1,14 @@
-use Rattle.std.proofs.Common.{arith}
-use Rattle.nfs_inodes.proofs.CutFileLemmas.{larger, smaller-result}
+use Rattle.std.proofs.Common.{ap, arith, ◌∙◌}
+use Rattle.nfs_objects.specs.declared.bits.Bits.{Bits}
+use Rattle.nfs_inodes.proofs.CutFileLemmas.{larger, sized, sized-so}
 use Rattle.nfs_inodes.proofs.content.cut.cut_to.Goals as goal
 
-pub returns-then-size-old_size : goal.returns-then-size-old_size
-returns-then-size-old_size c =
-    smaller-result c.args.draft.now c.cut_off.new.draft c.args.number c.args.old_size c.args.size c.cut_off.result
-    c.cut_off.ensures
-
-pub returns-else-size-old_size : goal.returns-else-size-old_size
-returns-else-size-old_size c =
-    larger c.args.draft.now c.args.number c.args.old_size c.args.size c.args.pages
-    (omega (arith, c.if-size-old_size.false))
-    c.requires.pages
+pub returns-in_ok-new : goal.returns-in_ok-new
+returns-in_ok-new c =
+    let d = c.args.draft.now in
+    let map = c.args.map.now in
+    sized-so d d c.args.number map c.args.size map.pages map.remains c.with_remains.result
+    (c.with_remains.ensures
+    ∙ (λ p. record (c.in_ok-new.ensures.value p) { remains = c.remains.ensures p })
+    ∙ ap (λ (b : Bits). sized c.args.size b map.remains) c.pages.ensures)
+    (larger d c.args.number map c.args.size (omega arith) c.requires.pages)

@@ -1,9 +1,11 @@
-use Rattle.std.proofs.Common.{[], ap, ◌∙◌}
+use Rattle.std.proofs.Common.{[], ◌+◌, ◌*◌, ◌/◌, ap, refl, sym, ◌∙◌}
 use Rattle.std.proofs.lemmas.Result.{err_from_is_err_and}
+use Rattle.nfs_machine.specs.Attributes.{block}
 use Rattle.nfs_machine.specs.Data.{resized}
 use Rattle.nfs_machine.specs.Times.{time_of}
 use Rattle.nfs_machine.specs.declared.context.Ctx.{Ctx}
 use Rattle.nfs_objects.proofs.ModesSuitLemmas.{change-each}
+use Rattle.nfs_objects.specs.Sums.{one_using}
 use Rattle.nfs_objects.specs.declared.address.Addr.TheVariants as addresses
 use Rattle.nfs_objects.specs.declared.object.Inode.{Inode}
 use Rattle.nfs_inodes.proofs.UsageChangeLemmas.{count-known, stands-first, stands-on}
@@ -46,7 +48,7 @@ cut_to-requires-clause-alone c = change-each c.count.new.draft c.args.file.now.k
 
 pub cut_to-requires-clause-pages : goal.cut_to-requires-clause-pages
 cut_to-requires-clause-pages c =
-    rw c.pages-pages.ensures (has-pages c.count.new.draft c.args.file.now.known.number c.in_ok-kept.kept.map.now
+    rw c.copy-map.ensures (has-pages c.count.new.draft c.args.file.now.known.number c.in_ok-kept.kept.map.now
     (file-map c.args.draft.now c.count.new.draft c.args.file.now.known.number c.in_ok-kept.kept.inode.now
     c.in_ok-kept.kept.map.now c.in_ok-kept.ensures c.in_ok-count.ensures.keeps))
 
@@ -56,17 +58,17 @@ cut_to-requires-clause-stands c =
     (c.in_ok-count.ensures.turns c.share_of-share.result.usage c.of_one.result c.in_ok-usage.ensures)
     (stands-first c.args.draft.now c.requires.none)
 
-pub returns-in_err-pages : goal.returns-in_err-pages
-returns-in_err-pages c =
-    let p = err_from_is_err_and c.from_residual-in_err-pages.result c.from_residual-in_err-pages.ensures.1 in
+pub returns-in_err-left : goal.returns-in_err-left
+returns-in_err-left c =
+    let p = err_from_is_err_and c.from_residual-in_err-left.result c.from_residual-in_err-left.ensures.1 in
     rw (p.1, p.2) (any-stops c.args.draft.now (counted_at c.args.draft.now c.args.file.now.known.number) _
     (stops-before c.args.draft.now c.count.new.draft _ (λ v. []) _
     (c.in_ok-count.ensures.turns c.share_of-share.result.usage c.of_one.result c.in_ok-usage.ensures)
-    c.in_err-pages.ensures))
+    c.in_err-left.ensures))
 
 pub put-requires-clause-alone : goal.put-requires-clause-alone
 put-requires-clause-alone c =
-    laid-change c.args.file.now.known.number c.count.new.draft c.cut_to.new.draft c.in_ok-pages.ensures.lays
+    laid-change c.args.file.now.known.number c.count.new.draft c.cut_to.new.draft c.in_ok-left.ensures.lays
     (addresses.Inode c.args.file.now.known.number) (change-each c.count.new.draft c.args.file.now.known.number
     ((c.in_ok-count.ensures.turns c.share_of-share.result.usage c.of_one.result c.in_ok-usage.ensures).modes
     ∙ c.requires.alone))
@@ -75,13 +77,13 @@ pub put-requires-clause-known : goal.put-requires-clause-known
 put-requires-clause-known c =
     laid-known c.args.draft.now c.count.new.draft c.cut_to.new.draft c.args.file.now.known.number
     c.in_ok-kept.kept.inode.now c.in_ok-kept.ensures.inode c.in_ok-count.ensures.keeps
-    (c.in_ok-pages.ensures.inodes c.args.file.now.known.number)
+    (c.in_ok-left.ensures.inodes c.args.file.now.known.number)
 
 pub put-requires-clause-given : goal.put-requires-clause-given
 put-requires-clause-given c =
     laid-generation c.args.draft.now c.count.new.draft c.cut_to.new.draft c.args.file.now.known.number
     c.in_ok-kept.kept.inode.now _ c.in_ok-kept.ensures.inode c.in_ok-count.ensures.keeps
-    (c.in_ok-pages.ensures.inodes c.args.file.now.known.number)
+    (c.in_ok-left.ensures.inodes c.args.file.now.known.number)
     (ap (λ (x : Inode). x.generation) c.with_content-new.ensures
     ∙ ap (λ (x : Inode). x.generation) c.in_ok-inode.ensures.cases)
 
@@ -93,18 +95,19 @@ returns c =
     let has = c.in_ok-kept.ensures in
     let old = c.in_ok-kept.kept.map.now in
     written-turns d mid c.cut_to.new.draft n c.in_ok-kept.kept.inode.now old
-    (record { size = c.args.size; pages = c.in_ok-pages.pages }) (time_of d.ctx.moment) (λ x. resized x c.args.size)
+    c.in_ok-left.left (time_of d.ctx.moment) (λ x. resized x c.args.size)
     c.share_of-share.result c.of_one.result c.put.new.self c.with_content-new.result has.inode has.content
-    c.in_ok-pages.ensures.lays c.in_ok-pages.ensures.maps
-    (λ s k fits stands. c.in_ok-pages.ensures.content s k _ fits stands
-    (rw c.size-old_size.ensures.value (content-there mid n old
+    c.in_ok-left.ensures.lays c.in_ok-left.ensures.maps
+    (λ s k fits stands. c.in_ok-left.ensures.content s k _ fits stands
+    (rw c.copy-map.ensures (content-there mid n old
     (file-map d mid n c.in_ok-kept.kept.inode.now old has c.in_ok-count.ensures.keeps) s k fits stands)))
     (put-made c.in_ok-kept.kept.inode.now c.in_ok-inode.inode c.with_content-new.result c.now.result
     (time_of d.ctx.moment) _ _
     c.with_content-new.ensures (c.now.ensures ∙ ap (λ (x : Ctx). time_of x.moment) (c.ctx.ensures
-    ∙ c.in_ok-pages.ensures.lays.ctx
+    ∙ c.in_ok-left.ensures.lays.ctx
     ∙ (c.in_ok-count.ensures.turns c.share_of-share.result.usage c.of_one.result c.in_ok-usage.ensures).ctx))
-    c.in_ok-inode.ensures.cases c.in_ok-new.ensures.value)
-    c.share_of-share.ensures c.of_one.ensures
+    c.in_ok-inode.ensures.cases refl)
+    c.share_of-share.ensures
+    (c.of_one.ensures ∙ ap (λ z. one_using ((z + 4095) / block * block)) (sym c.in_ok-left.ensures.sized))
     (c.in_ok-count.ensures.turns c.share_of-share.result.usage c.of_one.result c.in_ok-usage.ensures)
     c.in_ok-count.ensures.keeps c.in_ok-put.ensures.ok c.in_ok-put.ensures.fits

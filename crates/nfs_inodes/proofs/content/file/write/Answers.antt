@@ -1,134 +1,28 @@
-use Rattle.std.proofs.Common.{◌+◌, length, max, ap, subst, ◌∙◌}
+use Rattle.std.proofs.Common.{◌∙◌}
 use Rattle.std.proofs.lemmas.Result.{err_from_is_err_and}
-use Rattle.nfs_machine.specs.Data.{written}
-use Rattle.nfs_machine.specs.Times.{time_of}
-use Rattle.nfs_machine.specs.declared.context.Ctx.{Ctx}
-use Rattle.nfs_objects.proofs.ModesSuitLemmas.{change-each}
-use Rattle.nfs_objects.specs.Calls.{maps_at}
-use Rattle.nfs_objects.specs.declared.address.Addr.TheVariants as addresses
-use Rattle.nfs_objects.specs.declared.object.Inode.{Inode}
-use Rattle.nfs_inodes.proofs.UsageChangeLemmas.{count-known}
-use Rattle.nfs_inodes.proofs.FilePutLemmas.{file-map, laid-change, laid-generation, laid-known, put-made, range-content}
-use Rattle.nfs_inodes.proofs.FilePutLemmas.{written-turns}
-use Rattle.nfs_inodes.proofs.ReaderHaltLemmas.{stops-before}
-use Rattle.nfs_inodes.proofs.PutObjectLemmas.{object-stops, usage-stops}
-use Rattle.nfs_inodes.proofs.ReadBlocksLemmas.{has-pages}
-use Rattle.nfs_inodes.proofs.WriteAsksLemmas.{range-kept, write-asking, write-known, written-counts, written-maps}
-use Rattle.nfs_objects.specs.Sums.{is_same_usage}
-use Rattle.nfs_inodes.specs.Asking.{AsksFor}
-use Rattle.nfs_inodes.specs.Blocks.{IsBlockIn, IsInRange, end_of, first_of, written_from}
-use Rattle.nfs_inodes.specs.declared.usage.Share.{Share}
+use Rattle.nfs_inodes.proofs.PutObjectLemmas.{object-stops}
+use Rattle.nfs_inodes.proofs.RemainsGoLemmas.{written-after}
+use Rattle.nfs_inodes.proofs.UsageChangeLemmas.{stands-first}
+use Rattle.nfs_inodes.proofs.WriteAsksLemmas.{written-counts}
 use Rattle.nfs_inodes.proofs.content.file.write.Goals as goal
 
-pub returns-in_err-kept : goal.returns-in_err-kept
-returns-in_err-kept c =
+pub clear_range-requires-clause-stands : goal.clear_range-requires-clause-stands
+clear_range-requires-clause-stands c = stands-first c.args.draft.now c.requires.none
+
+pub returns-in_err-clear_range : goal.returns-in_err-clear_range
+returns-in_err-clear_range c =
     let p = err_from_is_err_and c.from_residual.result c.from_residual.ensures.1 in
     rw (p.1, p.2) (written-counts c.args.draft.now c.args.file.now.known.number c.args.offset _
-    (object-stops c.args.draft.now c.args.file.now.known.number _ c.in_err-kept.ensures))
+    (object-stops c.args.draft.now c.args.file.now.known.number _ c.in_err-clear_range.ensures))
 
-pub returns-in_err-usage : goal.returns-in_err-usage
-returns-in_err-usage c =
-    let p = err_from_is_err_and c.from_residual-in_err-usage.result c.from_residual-in_err-usage.ensures.1 in
-    rw (p.1, p.2) (written-counts c.args.draft.now c.args.file.now.known.number c.args.offset _
-    (usage-stops c.args.draft.now c.args.file.now.known.number c.in_ok-kept.kept.inode.now
-    c.share_of-share.result _ c.in_ok-kept.ensures.inode c.share_of-share.ensures c.in_err-usage.ensures))
+pub write_over-requires-clause-alone : goal.write_over-requires-clause-alone
+write_over-requires-clause-alone c = c.in_ok-clear_range.ensures.turns.modes ∙ c.requires.alone
 
-pub count-requires-clause-known : goal.count-requires-clause-known
-count-requires-clause-known c = count-known c.args.draft.now c.share_of-share.result.export c.args.file.now.known.number
-    c.share_of-share.result.usage c.of_one-after.result _ c.in_ok-usage.ensures
-
-pub returns-in_err-ask : goal.returns-in_err-ask
-returns-in_err-ask c =
-    let p = err_from_is_err_and c.from_residual-in_err-ask.result c.from_residual-in_err-ask.ensures.1 in
-    rw (p.1, p.2) (c.in_err-ask.ensures.stops c.args.draft.now
-    (written_from c.args.draft.now c.args.file.now.known.number c.args.offset)
-    (write-asking c.args.draft.now c.args.file.now.known.number c.args.offset (length c.args.bytes.now)
-    c.share_of-share.result.export c.requires.some c.requires.few
-    (is_same_usage c.share_of-share.result.usage c.of_one-after.result) c.ask_written.new.asking.asked.items
-    c.ask_counted.new.asking.asked.items
-    (subst (λ l. AsksFor c.args.draft.now
-    (IsInRange c.args.file.now.known.number c.args.offset (length c.args.bytes.now))
-    (IsBlockIn c.args.file.now.known.number (first_of c.args.offset) (end_of c.args.offset (length c.args.bytes.now))) l
-    c.ask_written.new.asking.asked.items) c.new-asking.ensures c.in_ok-ask_written.ensures)
-    c.in_ok-ask_counted.ensures c.in_ok-kept.kept.inode.now c.in_ok-kept.ensures.inode
-    (ap (λ (x : Share). x.export) c.share_of-share.ensures)))
-
-pub write_range-requires-clause-alone : goal.write_range-requires-clause-alone
-write_range-requires-clause-alone c = change-each c.count.new.draft c.args.file.now.known.number
-    ((c.in_ok-count.ensures.turns c.share_of-share.result.usage c.of_one-after.result c.in_ok-usage.ensures).modes
-    ∙ c.requires.alone)
-
-pub write_range-requires-clause-pages : goal.write_range-requires-clause-pages
-write_range-requires-clause-pages c =
-    rw c.pages-pages.ensures (has-pages c.count.new.draft c.args.file.now.known.number c.in_ok-kept.kept.map.now
-    (file-map c.args.draft.now c.count.new.draft c.args.file.now.known.number c.in_ok-kept.kept.inode.now
-    c.in_ok-kept.kept.map.now c.in_ok-kept.ensures c.in_ok-count.ensures.keeps))
-
-pub write_range-requires-clause-known : goal.write_range-requires-clause-known
-write_range-requires-clause-known c = range-kept c.args.draft.now c.count.new.draft c.args.file.now.known.number
-    c.args.offset (length c.args.bytes.now) c.in_ok-count.ensures.keeps
-    (write-known c.args.draft.now c.args.file.now.known.number c.args.offset (length c.args.bytes.now)
-    c.share_of-share.result.export c.requires.some c.requires.few
-    (is_same_usage c.share_of-share.result.usage c.of_one-after.result) c.ask_written.new.asking.asked.items
-    c.ask_counted.new.asking.asked.items
-    (subst (λ l. AsksFor c.args.draft.now
-    (IsInRange c.args.file.now.known.number c.args.offset (length c.args.bytes.now))
-    (IsBlockIn c.args.file.now.known.number (first_of c.args.offset) (end_of c.args.offset (length c.args.bytes.now))) l
-    c.ask_written.new.asking.asked.items) c.new-asking.ensures c.in_ok-ask_written.ensures)
-    c.in_ok-ask_counted.ensures c.in_ok-ask.ensures.nothing)
-
-pub returns-in_err-pages : goal.returns-in_err-pages
-returns-in_err-pages c =
-    let p = err_from_is_err_and c.from_residual-in_err-pages.result c.from_residual-in_err-pages.ensures.1 in
-    rw (p.1, p.2) (written-maps c.args.draft.now c.args.file.now.known.number c.args.offset _
-    (stops-before c.args.draft.now c.count.new.draft _ (λ v. maps_at c.args.file.now.known.number c.args.offset) _
-    (c.in_ok-count.ensures.turns c.share_of-share.result.usage c.of_one-after.result c.in_ok-usage.ensures)
-    c.in_err-pages.ensures))
-
-pub put-requires-clause-alone : goal.put-requires-clause-alone
-put-requires-clause-alone c =
-    laid-change c.args.file.now.known.number c.count.new.draft c.write_range.new.draft c.in_ok-pages.ensures.lays
-    (addresses.Inode c.args.file.now.known.number) (change-each c.count.new.draft c.args.file.now.known.number
-    ((c.in_ok-count.ensures.turns c.share_of-share.result.usage c.of_one-after.result c.in_ok-usage.ensures).modes
-    ∙ c.requires.alone))
-
-pub put-requires-clause-known : goal.put-requires-clause-known
-put-requires-clause-known c =
-    laid-known c.args.draft.now c.count.new.draft c.write_range.new.draft c.args.file.now.known.number
-    c.in_ok-kept.kept.inode.now c.in_ok-kept.ensures.inode c.in_ok-count.ensures.keeps
-    (c.in_ok-pages.ensures.inodes c.args.file.now.known.number)
-
-pub put-requires-clause-given : goal.put-requires-clause-given
-put-requires-clause-given c =
-    laid-generation c.args.draft.now c.count.new.draft c.write_range.new.draft c.args.file.now.known.number
-    c.in_ok-kept.kept.inode.now _ c.in_ok-kept.ensures.inode c.in_ok-count.ensures.keeps
-    (c.in_ok-pages.ensures.inodes c.args.file.now.known.number)
-    (ap (λ (x : Inode). x.generation) c.with_content-new.ensures
-    ∙ ap (λ (x : Inode). x.generation) c.in_ok-inode.ensures.cases)
+pub write_over-requires-clause-shown : goal.write_over-requires-clause-shown
+write_over-requires-clause-shown c =
+    c.in_ok-clear_range.ensures.kinds c.args.file.now.known.number ∙ c.requires.shown
 
 pub returns : goal.returns
 returns c =
-    let d = c.args.draft.now in
-    let mid = c.count.new.draft in
-    let n = c.args.file.now.known.number in
-    let has = c.in_ok-kept.ensures in
-    let old = c.in_ok-kept.kept.map.now in
-    written-turns d mid c.write_range.new.draft n c.in_ok-kept.kept.inode.now old
-    (record { size = c.max-size.result; pages = c.in_ok-pages.pages }) (time_of d.ctx.moment)
-    (λ x. written x c.args.offset c.args.bytes.now)
-    c.share_of-share.result c.of_one-after.result c.put.new.self c.with_content-new.result has.inode has.content
-    c.in_ok-pages.ensures.lays c.in_ok-pages.ensures.maps
-    (range-content mid c.write_range.new.draft n old c.args.offset c.max-size.result c.args.bytes.now
-    c.in_ok-pages.pages
-    (file-map d mid n c.in_ok-kept.kept.inode.now old has c.in_ok-count.ensures.keeps) c.in_ok-pages.ensures
-    c.requires.some
-    (c.max-size.ensures ∙ ap (λ s. max s (c.args.offset + length c.args.bytes.now)) c.size.ensures.value))
-    (put-made c.in_ok-kept.kept.inode.now c.in_ok-inode.inode c.with_content-new.result c.now.result
-    (time_of d.ctx.moment) _ _
-    c.with_content-new.ensures (c.now.ensures ∙ ap (λ (x : Ctx). time_of x.moment) (c.ctx.ensures
-    ∙ c.in_ok-pages.ensures.lays.ctx
-    ∙ (c.in_ok-count.ensures.turns c.share_of-share.result.usage c.of_one-after.result c.in_ok-usage.ensures).ctx))
-    c.in_ok-inode.ensures.cases c.in_ok-new.ensures.value)
-    c.share_of-share.ensures c.of_one-after.ensures
-    (c.in_ok-count.ensures.turns c.share_of-share.result.usage c.of_one-after.result c.in_ok-usage.ensures)
-    c.in_ok-count.ensures.keeps c.in_ok-put.ensures.ok c.in_ok-put.ensures.fits
+    written-after c.args.draft.now c.clear_range.new.draft c.write_over.new.draft c.args.file.now.known.number _ _
+    c.args.offset c.args.bytes.now c.write_over.result c.in_ok-clear_range.ensures c.write_over.ensures

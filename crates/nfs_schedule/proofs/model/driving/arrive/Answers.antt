@@ -5,6 +5,6 @@ pub returns-clause-ok : goal.returns-clause-ok
 returns-clause-ok c = record {
   arrival = c.in_ok-arrival.arrival;
   received = search rules;
-  reading = c.reading.ensures.arrival;
+  reading = c.show_read.ensures;
   rest = c.in_ok-arrive.ensures.ok;
 }
