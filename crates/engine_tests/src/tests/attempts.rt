@@ -9,7 +9,7 @@ mod standing;
 mod stocks;
 
 use super::openings::{close, resting};
-use crate::tests::attempts::courses::cost;
+use crate::tests::attempts::courses::cost_of;
 use crate::tests::attempts::messages::{COUNTED_XID, Store, message};
 use crate::tests::attempts::rows::{
     IN_THE_DEEPEST, INTO_ANOTHER, INTO_REMAINS, OF_HOSTS, OF_THIN_PAGES, ON_A_FILE, ON_A_LINK,
@@ -30,7 +30,7 @@ fn count(
 ) -> Result<(), AllocError> {
     let (procedure, words, attempts, addresses) = row;
     let message = message(rt.alloc(), COUNTED_XID, procedure, words, store)?;
-    let cost = cost(rt, engine, &message)?;
+    let cost = cost_of(rt, engine, &message)?;
     let (program, _, number) = procedure;
     let (tried, read) = (cost.attempts, cost.addresses);
     assert!(rt;

@@ -157,7 +157,7 @@ fn give_up(rt: &impl Abort, engine: &mut Engine, txn: Txn)
 }
 
 /// What the call of a message takes. It is given up then, so the store stays.
-pub(super) fn cost(
+pub(super) fn cost_of(
     rt: &(impl Abort + AllocGlobal),
     engine: &mut Engine,
     message: &[u8],
