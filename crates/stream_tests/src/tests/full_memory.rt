@@ -13,8 +13,13 @@ use std::time::Duration;
 /// a call needs besides there is memory.
 const LEFT_BELOW_A_TABLE: usize = 33 << 19;
 
-/// How many bytes are left to it, so that names take them to the brim.
+/// The least that is left to it so that names take it to the brim, how far apart such fills are, and how many are tried:
+/// how memory lies then tells whether there is some for a smaller call.
 const LEFT_TO_THE_BRIM: usize = 24 << 20;
+
+const BETWEEN_BRIMS: usize = 1 << 20;
+
+const BRIMS: usize = 3;
 
 /// The least that is left to it where it is filled in steps, and how far apart these are, so that in some of them a
 /// table is just full: an address that is asked for and at which nothing stands would make it grow.
@@ -348,7 +353,7 @@ fn is_before(clock: &impl Clock, until: Duration) -> bool {
 
 /// Names were made, removed and made again, and before they went other calls were answered: first a few of the names
 /// where memory was there, so that the stack was as deep as it gets before the address space was taken; then where it
-/// was full. Each name was removed, so many tenths came again, and where some had to, some of those calls were refused.
+/// was full. Each name was removed, and so many tenths came again.
 fn is_emptied(rt: &impl Abort, few: Progress, full: Progress, tenths: u32) -> Result<(), Fail> {
     assert_eq!(rt; (few.made, few.removed, few.made_again), (FEW, FEW, FEW));
     assert_eq!(rt; (few.added as usize, few.refused), (ADDING.len(), 0));
@@ -358,10 +363,6 @@ fn is_emptied(rt: &impl Abort, few: Progress, full: Progress, tenths: u32) -> Re
         full.made
     );
     assert_eq!(rt; full.added as usize, ADDING.len());
-    assert!(rt;
-        tenths == 0 || full.refused > 0,
-        "no other call was refused"
-    );
     assert!(rt;
         full.removed == full.made,
         "{} of {} removed",

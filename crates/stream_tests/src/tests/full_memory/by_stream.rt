@@ -77,25 +77,34 @@ fn played_in_full_memory(
 }
 
 /// No REMOVE and no RMDIR is refused, and at least so many tenths of the names come again: what is free then lies in
-/// pieces, so a table that grows anew may be refused.
+/// pieces, so a table that grows anew may be refused. How many of the calls that may add something were refused.
 fn is_emptied_of(
     rt: &(impl Abort + Clock + AllocGlobal),
     bytes: usize,
     tenths: u32,
-) -> Result<(), Fail> {
+) -> Result<u32, Fail> {
     let few = played(rt.alloc(), FEW);
     let full = played_in_full_memory(rt, rt.alloc(), bytes)?;
-    is_emptied(rt, few, full, tenths)
+    is_emptied(rt, few, full, tenths)?;
+    Ok(full.refused)
 }
 
 #[test]
 fn a_memory_in_which_no_table_grows_is_emptied(rt: HostRuntime) -> Result<(), Fail> {
-    is_emptied_of(&rt, LEFT_BELOW_A_TABLE, 5)
+    let refused = is_emptied_of(&rt, LEFT_BELOW_A_TABLE, 5)?;
+    assert!(rt; refused > 0, "no other call was refused");
+    Ok(())
 }
 
 #[test]
 fn a_memory_that_is_full_to_the_brim_is_emptied(rt: HostRuntime) -> Result<(), Fail> {
-    is_emptied_of(&rt, LEFT_TO_THE_BRIM, 5)
+    let mut refused = 0u32;
+    for step in 0..BRIMS {
+        let more = is_emptied_of(&rt, LEFT_TO_THE_BRIM + step * BETWEEN_BRIMS, 5)?;
+        refused = refused.saturating_add(more);
+    }
+    assert!(rt; refused > 0, "no other call was refused");
+    Ok(())
 }
 
 #[test]
