@@ -13,8 +13,8 @@ use std::time::Duration;
 /// a call needs besides there is memory.
 const LEFT_BELOW_A_TABLE: usize = 33 << 19;
 
-/// The least that is left to it so that names take it to the brim, how far apart such fills are, and how many are tried:
-/// how memory lies then tells whether there is some for a smaller call.
+/// The least that is left to it so that names take it to the brim, how far apart such fills are, and how many are
+/// tried: how memory lies then tells whether there is some for a smaller call.
 const LEFT_TO_THE_BRIM: usize = 24 << 20;
 
 const BETWEEN_BRIMS: usize = 1 << 20;
