@@ -2,14 +2,14 @@
 """Tries contrib/lockd between nfsd and a client that is made up, all on this machine: what its port mapper answers,
 calls back to the client's lock manager, also once this has moved, and the client's start anew.
 
-Ports are such as need no right. With --rpcbind it starts Debian's rpcbind too, which needs root and that none runs, and
-looks at what lockd tells it and takes back. That rpcbind listens to others too for some seconds: this keeps it apart:
+Ports are such as need no right. With --root, as root, it does all this in a network of its own (unshare), with the
+ports that lockd has by itself, and tries more: another user of the machine, and Debian's rpcinfo and rpcbind, which
+lockd tells of the programs, and takes that back, or is killed and tells it anew. Wants Debian's rpcbind and iproute2.
 
-    unshare -n sh -c 'ip link set lo up; bench/lockd.py --rpcbind'
-
-usage: bench/lockd.py [--rpcbind] [PROGRAM]
+usage: bench/lockd.py [--root] [PROGRAM]
 """
 import contextlib
+import os
 import pathlib
 import signal
 import socket
@@ -27,6 +27,7 @@ from nfsd import NFS
 
 LOCKD = pathlib.Path(__file__).resolve().parent.parent / "contrib/lockd"
 HERE, CLIENT, STRANGER = "127.0.0.1", "127.0.0.2", "127.0.0.3"
+CALLED = "127.110.0.1"  # where nfsd calls the client back
 MAPPER, MOUNT, STATUS = 100000, 100005, 100024
 GETPORT, DUMP, NOTIFY = 3, 4, 6
 TCP, UDP = 6, 17
@@ -95,6 +96,10 @@ class Lockd:
         self.process = subprocess.Popen([LOCKD, *map(str, words)], stderr=subprocess.PIPE, text=True)
         self.hear(" clients are called back")
 
+    def kill(self):
+        self.process.kill()
+        self.process.wait()
+
     def hear(self, text):
         """The next line that it says with this in it."""
         while line := self.process.stderr.readline():
@@ -123,7 +128,7 @@ def names(port, server, notices):
         assert named(STATUS, 1, UDP) == named(STATUS, 1, TCP) == notices
         assert named(NLM, 3, TCP) == named(NLM, 4, UDP) == named(1, 1, TCP) == 0
         listed = ask(call(MAPPER, 2, DUMP), port)
-        assert len(listed) == 24 + 5 * 20 + 4 and listed[24:44] == struct.pack(">5I", 1, NFS, 3, TCP, server)
+        assert len(listed) == 24 + 7 * 20 + 4 and struct.pack(">5I", 1, NFS, 3, TCP, server) in listed
         assert ask(call(MAPPER, 2, 0), port)[20:] == bytes(4)
         assert ask(call(MAPPER, 3, GETPORT), port)[20:] == struct.pack(">3I", 2, 2, 2), "PROG_MISMATCH"
         assert ask(call(NFS, 3, 0), port)[20:] == struct.pack(">I", 1), "PROG_UNAVAIL"
@@ -196,8 +201,60 @@ def starts_anew(clients, host, notices):
     print("starts anew: a client's notice frees its locks, over UDP and TCP; a repeat's or a stranger's does not")
 
 
+def lets_in(mapper, notices, client, stranger):
+    """One peer has eight connections to a port, and others beside it; at the port of notices clients alone have any."""
+    asked = call(MAPPER, 2, 0)
+    marked = struct.pack(">I", 0x80000000 | len(asked)) + asked
+    with contextlib.ExitStack() as stack:
+        held = [network.Connection(mapper, stranger, TAKEN) for _ in range(9)]
+        for connection in held:
+            stack.enter_context(connection.socket)
+        for connection in held[:8]:
+            assert connection.ask(marked)[20:] == bytes(4)
+        assert is_closed(held[8], marked), "the ninth is closed"
+        assert by_stream(asked, mapper, client)[20:] == bytes(4), "another peer is let in"
+        assert is_closed(network.Connection(notices, stranger, TAKEN), marked), "a stranger sends no notice"
+        assert by_stream(call(STATUS, 1, 0), notices, client)[20:] == bytes(4)
+    print("lets in: eight connections of one peer, others beside it, and no stranger's where notices are taken")
+
+
+def is_closed(connection, record):
+    """Whether the connection has been closed for what was sent, or before."""
+    with connection.socket, contextlib.suppress(ConnectionError):
+        connection.ask(record)
+        return False
+    return True
+
+
+def other_users(place, mapper, lockd):
+    """What another user of the machine sends goes on to no client's lock manager."""
+    asked = len(mapper.asked)
+    if os.fork() == 0:
+        os.setuid(65534)
+        connection = socket.create_connection(place, TAKEN)
+        connection.sendall(bytes(64))
+        with contextlib.suppress(ConnectionError):
+            os._exit(connection.recv(1) != b"")
+        os._exit(0)
+    _, status = os.wait()
+    assert "a user of this machine who is not nfsd's" in lockd.hear("is not called back")
+    assert status == 0 and len(mapper.asked) == asked
+    print("other users: what they send goes on to no lock manager")
+
+
+def is_shown_by_rpcinfo(server):
+    """Debian's rpcinfo lists what the port mapper names, as users look at it."""
+    said = subprocess.run(["rpcinfo", "-p", HERE], stdout=subprocess.PIPE, text=True, check=True).stdout
+    listed = {tuple(line.split()[:4]) for line in said.splitlines()[1:]}
+    served = {(str(NFS), "3"), (str(MOUNT), "3"), (str(NLM), "4")}
+    assert {(*each, "tcp", str(server)) for each in served} <= listed
+    assert {(str(MAPPER), "2", transport, "111") for transport in ("tcp", "udp")} <= listed
+    print("rpcinfo: it lists the programs and the port mapper itself")
+
+
 def tells_rpcbind(words, server):
-    """It tells rpcbind, takes another's place only when it is told to, and takes back what it told."""
+    """It tells rpcbind, takes another's place only when it is told to, and takes back what it told. One that was killed
+    comes back."""
 
     def named(program, version):
         reply = by_datagram(call(MAPPER, 2, GETPORT, struct.pack(">4I", program, version, TCP, 0)), 111)
@@ -206,40 +263,64 @@ def tells_rpcbind(words, server):
     rpcbind = subprocess.Popen(["rpcbind", "-f"])
     try:
         time.sleep(1)
-        with Lockd(*words, "--mapper", "rpcbind"):
+        with Lockd(*words):
             assert [named(*each) for each in ((NFS, 3), (MOUNT, 3), (NLM, 4))] == [server] * 3 and named(STATUS, 1)
         assert named(NFS, 3) == named(NLM, 4) == named(STATUS, 1) == 0, "it takes back what it told"
-        with Lockd(*words, "--mapper", "rpcbind"):
-            others = [*words, "--first-port", free_ports(1)]
-            refused = subprocess.run([LOCKD, *map(str, others)], stderr=subprocess.PIPE, text=True, timeout=10)
-            assert refused.returncode == 1 and "names NFS version 3 over TCP at" in refused.stderr
-            assert named(NFS, 3) == server, "what another told stays"
+        with Lockd(*words):
+            notices = named(STATUS, 1)
+            others = [*words, "--callback-port", free_ports(1)]
+            refused = subprocess.run([LOCKD, *map(str, others)], stderr=subprocess.PIPE, text=True, timeout=20)
+            assert refused.returncode == 1 and "names NSM version 1 over UDP at" in refused.stderr
+            assert named(STATUS, 1) == notices, "what another told stays"
             with Lockd(*others, "--replace"):
-                assert named(NFS, 3) == server
+                assert named(NFS, 3) == server and named(STATUS, 1) != notices
+        killed = Lockd(*words)
+        notices = named(STATUS, 1)
+        killed.kill()
+        assert named(NFS, 3) == server and named(STATUS, 1) == notices, "what it told stays behind"
+        with Lockd(*words):
+            assert named(NFS, 3) == server and named(STATUS, 1) not in (0, notices)
+        assert named(NFS, 3) == named(STATUS, 1) == 0
     finally:
         rpcbind.terminate()
         rpcbind.wait()
-    print("rpcbind: it knows the programs while lockd runs")
+    print("rpcbind: it knows the programs while lockd runs, and anew once it was killed")
+
+
+def tries(program, mine, mapper_port, notices):
+    """What needs no right, and as root what does."""
+    told = subprocess.run([LOCKD, *map(str, mine), "--words"], stdout=subprocess.PIPE, text=True, check=True).stdout
+    mapper = Mapper()
+    with network.Server(program, *told.split()) as server:
+        mine += ["--server", f"{HERE}:{server.port}", "--listen", HERE, "--client-mapper", mapper.port]
+        with Lockd(*mine, "--mapper", "own", "--mapper-port", mapper_port, "--notices-port", notices) as lockd:
+            names(mapper_port, server.port, notices)
+            clients = Clients(server.port)
+            host = calls_back(clients, mapper, lockd)
+            starts_anew(clients, host, notices)
+            lets_in(mapper_port, notices, CLIENT, STRANGER)
+            if mapper_port == 111:
+                other_users((CALLED, 290), mapper, lockd)
+                is_shown_by_rpcinfo(server.port)
+        if mapper_port == 111:
+            tells_rpcbind(mine, server.port)
 
 
 def main():
     words = nfsd.parser(__doc__)
-    words.add_argument("--rpcbind", action="store_true", help="try Debian's rpcbind too, as root")
+    words.add_argument("--root", action="store_true", help="do all in a network of its own, and more, as root")
     words.add_argument("program", metavar="PROGRAM", nargs="?", default=nfsd.PROGRAM, help="the program (this one)")
     given = words.parse_args()
-    first = free_ports(3)
-    mine = ["--clients", CLIENT, "--first-port", first]
-    told = subprocess.run([LOCKD, *map(str, mine), "--words"], stdout=subprocess.PIPE, text=True, check=True).stdout
-    mapper = Mapper()
-    with network.Server(given.program, *told.split()) as server:
-        mine += ["--server", f"{HERE}:{server.port}", "--listen", HERE, "--client-mapper", mapper.port]
-        with Lockd(*mine, "--mapper", "own", "--mapper-port", first + 1, "--notices-port", first + 2) as lockd:
-            names(first + 1, server.port, first + 2)
-            clients = Clients(server.port)
-            host = calls_back(clients, mapper, lockd)
-            starts_anew(clients, host, first + 2)
-        if given.rpcbind:
-            tells_rpcbind(mine, server.port)
+    mine = ["--clients", CLIENT]
+    if not given.root:
+        first = free_ports(3)
+        tries(given.program, [*mine, "--callback-port", first], first + 1, first + 2)
+    elif os.environ.get("IN_ITS_NETWORK"):
+        tries(given.program, mine, 111, free_ports(1))
+    else:
+        apart = "mount -t tmpfs run /run && mkdir /run/rpcbind && ip link set lo up && exec \"$@\""
+        os.environ["IN_ITS_NETWORK"] = "1"
+        os.execvp("unshare", ["unshare", "-nm", "sh", "-c", apart, "sh", *sys.argv])
 
 
 if __name__ == "__main__":
