@@ -18,8 +18,8 @@ BODY = 116  # where that of READ and READDIR goes on, behind the attributes
 class Server:
     """A run of nfsd that listens; where it is operated, with the pipes of `--control`."""
 
-    def __init__(self, program, *options, export="/data,rw,*", operated=False):
-        words = [program, "--tcp", "127.0.0.1:0", "--export", export, "--start", "7", *options]
+    def __init__(self, program, *options, export="/data,rw,*", operated=False, at="127.0.0.1"):
+        words = [program, "--tcp", f"{at}:0", "--export", export, "--start", "7", *options]
         pipe = subprocess.PIPE if operated else None
         self.process = subprocess.Popen(words, stdin=pipe, stdout=pipe, stderr=subprocess.PIPE)
         self.operator, self.answers = self.process.stdin, self.process.stdout
@@ -50,10 +50,10 @@ class Server:
 
 
 class Connection:
-    """A connection to a port of this machine, from this address."""
+    """A connection to a port of this machine, from this address, or of another."""
 
-    def __init__(self, port, address="127.0.0.1", patience=60):
-        self.socket = socket.create_connection(("127.0.0.1", port), patience, (address, 0))
+    def __init__(self, port, address="127.0.0.1", patience=60, to="127.0.0.1"):
+        self.socket = socket.create_connection((to, port), patience, (address, 0))
         self.socket.setsockopt(socket.IPPROTO_TCP, socket.TCP_NODELAY, 1)
         self.came = bytearray()
 
