@@ -18,7 +18,7 @@ import time
 HERE = pathlib.Path(__file__).resolve().parent
 SERVER = "10.9.0.1"
 AGENT = 7000  # the port of guest_agent.py
-PATIENCE = 60  # seconds for a machine to start, and for a command, on a busy processor
+PATIENCE = 600  # seconds for a machine to start, and for a command, on a busy processor
 MOST = 4
 NETWORK = f"""
 set -e
@@ -75,7 +75,7 @@ class Guest:
     """A machine, which is switched on and off. What its status monitor keeps stays."""
 
     def __init__(self, folder, number, memory=256, init="guest_init.sh"):
-        self.name, self.number, self.address = f"guest{number}", number, f"10.9.0.{10 + number}"
+        self.folder, self.name, self.address = folder, f"guest{number}", f"10.9.0.{10 + number}"
         self.state = folder / self.name
         for name in ("sm", "sm.bak"):
             (self.state / name).mkdir(parents=True)

@@ -1,14 +1,14 @@
-/* What locks in the machine that bench/linux_locks.py starts, which compiles this: processes that take and give POSIX
- * locks of a file as they are told, each over a connection of its own to 10.0.2.2, the machine that runs QEMU.
+/* What locks in the machines that bench/linux_locks.py starts, which compiles this: processes that take and give POSIX
+ * locks of a file as they are told, each over a connection of its own to that place.
  *
- * usage: linux_locks FILE PORT PROCESSES
+ * usage: linux_locks FILE ADDRESS PORT PROCESSES
  *
  * A process tells its number. Then it is told a line at a time:
  *   try KIND START LENGTH    to lock, or unlock; it says "done" or "denied" (F_SETLK; KIND is r, w or u)
  *   wait KIND START LENGTH   the same, however long it takes (F_SETLKW)
  *   test KIND START LENGTH   it says "free", or "KIND START LENGTH" of a lock that stands in the way (F_GETLK)
  *   flock KIND 0 0           as try, of the whole file (flock)
- *   where NUMBER             it says in which function of the kernel that process sleeps
+ *   blocked NUMBER           it says "yes" where that process sleeps in the kernel for a lock of NLM, or "no"
  *   kill NUMBER              to kill that process
  * and ends with its connection. What the system refuses otherwise it says in the system's words. */
 #include <arpa/inet.h>
@@ -29,15 +29,15 @@ static const char *result(int status)
     return errno == EAGAIN || errno == EACCES ? "denied" : strerror(errno);
 }
 
-static void tell_where(FILE *out, int process)
+static void tell_blocked(FILE *out, int process)
 {
-    char path[64], name[64] = "";
-    snprintf(path, sizeof path, "/proc/%d/wchan", process);
+    char path[64], stack[4096] = "";
+    snprintf(path, sizeof path, "/proc/%d/stack", process);
     int file = open(path, O_RDONLY);
-    if (file < 0 || read(file, name, sizeof name - 1) < 0)
-        strcpy(name, "nowhere");
+    if (file < 0 || read(file, stack, sizeof stack - 1) < 0)
+        stack[0] = '\0';
     close(file);
-    fprintf(out, "%s\n", name);
+    fprintf(out, "%s\n", strstr(stack, "nlmclnt_block") ? "yes" : "no");
 }
 
 static void lock(FILE *out, int file, const char *way, char kind, long long start, long long length)
@@ -64,8 +64,8 @@ static void obey(FILE *out, int file, const char *line)
     char way[8], kind;
     long long start, length;
     int process;
-    if (sscanf(line, "where %d", &process) == 1)
-        tell_where(out, process);
+    if (sscanf(line, "blocked %d", &process) == 1)
+        tell_blocked(out, process);
     else if (sscanf(line, "kill %d", &process) == 1)
         fprintf(out, "%s\n", result(kill(process, SIGKILL)));
     else if (sscanf(line, "%7s %c %lld %lld", way, &kind, &start, &length) == 4)
@@ -74,11 +74,11 @@ static void obey(FILE *out, int file, const char *line)
         fprintf(out, "what?\n");
 }
 
-static void work(const char *name, int port)
+static void work(const char *name, const char *address, int port)
 {
     char line[128];
     struct sockaddr_in place = {.sin_family = AF_INET, .sin_port = htons(port)};
-    inet_pton(AF_INET, "10.0.2.2", &place.sin_addr);
+    inet_pton(AF_INET, address, &place.sin_addr);
     int connection = socket(AF_INET, SOCK_STREAM, 0);
     int file = open(name, O_RDWR);
     if (file < 0 || connect(connection, (struct sockaddr *)&place, sizeof place) < 0) {
@@ -95,11 +95,11 @@ static void work(const char *name, int port)
 
 int main(int count, char **words)
 {
-    if (count != 4)
+    if (count != 5)
         return 2;
-    for (int left = atoi(words[3]); left > 0; left--)
+    for (int left = atoi(words[4]); left > 0; left--)
         if (fork() == 0)
-            work(words[1], atoi(words[2]));
+            work(words[1], words[2], atoi(words[3]));
     while (wait(NULL) > 0)
         ;
     return 0;

@@ -1,7 +1,7 @@
 #!/usr/bin/env python3
-"""Tries locks with Linux' own client, whose programs are as they are, and contrib/lockd: in a virtual machine its
-kernel mounts the export with `lock`, and processes of it (linux_locks.c) lock ranges of a file, as do two other hosts,
-which are this machine at 127.0.0.2 and 127.0.0.3.
+"""Tries locks with Linux' own client, whose programs are as they are, and contrib/lockd: in a machine of User Mode
+Linux (guests.py) its kernel mounts the export with `lock`, and processes of it (linux_locks.c) lock ranges of a file,
+as do two other hosts, which are this machine at 127.0.0.2 and 127.0.0.3.
 
 Locks are exclusive and shared, beside each other and not, and become the one and the other; who waits for one gets it
 by a call within a second, and not when the client asks again, which is after 30; nothing is left of a process that is
@@ -9,42 +9,33 @@ killed as it waits. A GRANTED that is kept back on its way comes when the client
 the client's until this gives it back. At last the client is switched off, and its locks are free once it comes back and
 its sm-notify tells so.
 
-It fetches Debian's kernel, mount.nfs, rpcbind and rpc.statd (apt-get download), as bench/linux.py does. lockd is the
-port mapper of 127.0.0.1, at port 111, so this has to be root's, and no port mapper may run. QEMU hides the client
-behind this machine's address, so the port of its lock manager is fixed, and handed on, as is that of its port mapper.
-
-Wanted are Debian's qemu-system-x86, busybox-static and cpio (apt-get install --no-install-recommends), and gcc.
+lockd is the port mapper there, at port 111. Wanted are what guests.py wants, and gcc.
 
 usage: bench/linux_locks.py [PROGRAM]
 """
 import contextlib
-import pathlib
-import re
-import shutil
 import socket
 import struct
 import subprocess
 import sys
-import tempfile
 import time
 
-import linux
-import lockd
+import guests
 import locking
 import network
 import nfsd
 from locking import IS_BLOCKED, IS_DENIED, IS_GRANTED
+from lockd import Lockd
 
-HERE, OTHER, THIRD = "127.0.0.1", "127.0.0.2", "127.0.0.3"  # the client, and the other hosts
+HERE, OTHER, THIRD = "127.0.0.1", "127.0.0.2", "127.0.0.3"  # this machine, and the other hosts that it is
+CALLED, CALLBACK = "127.110.0.1", 290  # where lockd takes calls for the first client
 PROCESSES = 4
-PATIENCE = 600  # seconds for the machine to start, on a busy processor
+PATIENCE = guests.PATIENCE
 SOON = 1  # seconds in which a client is called back
 ASKS_AGAIN = 30  # seconds after which Linux asks again for a lock that it waits for
 BEFORE = 2  # so many seconds before that the lock is given back
 KEPT_BACK = 4  # seconds for which the GRANTED is kept back then; the server waits 5 for an answer
 LATE = 10  # seconds in which it comes
-PROGRAMS = ("sbin/rpcbind", "sbin/rpc.statd", "sbin/sm-notify")
-USERS = "root:x:0:0:root:/:/bin/sh\n_rpc:x:100:100::/run/rpcbind:/bin/false\nstatd:x:101:100::/var/lib/nfs:/bin/false\n"
 
 
 class Process:
@@ -75,57 +66,32 @@ class Process:
         """It waits for this lock, as another process of the client sees. When that began."""
         self.tell("wait", kind, start, length)
         begin = time.monotonic()
-        while beside.ask("where", self.number) != "nlmclnt_block":
+        while beside.ask("blocked", self.number) != "yes":
             assert time.monotonic() < begin + ASKS_AGAIN, "it waits"
             time.sleep(0.05)
         return time.monotonic()
 
 
-class Client:
-    """The machine, which is switched on and off, with its processes."""
+class Client(guests.Guest):
+    """A machine that mounts the export, with its processes."""
 
-    def __init__(self, folder, port, mapper, manager):
-        self.listener = socket.create_server((HERE, 0))
-        self.listener.settimeout(1)
-        told = {"nlm_port": manager, "told_port": self.listener.getsockname()[1], "processes": PROCESSES}
-        handed_on = f",hostfwd=tcp:{HERE}:{mapper}-:111,hostfwd=tcp:{HERE}:{manager}-:{manager}"
-        self.words = [*linux.machine(folder, port, handed_on, **told)]
-        self.words += ["-drive", f"file={folder}/disk,if=virtio,format=raw"]
-        self.said = open(folder / "said", "w+")
-        self.machine = None
+    def __init__(self, folder, number):
+        super().__init__(folder, number)
+        self.listener = socket.create_server((guests.SERVER, 0))
+        self.listener.settimeout(PATIENCE)
 
     def switch_on(self):
-        self.machine = subprocess.Popen(self.words, stdin=subprocess.DEVNULL, stdout=self.said)
-        end = time.monotonic() + PATIENCE
-        self.processes = [self.next_process(end) for _ in range(PROCESSES)]
-
-    def next_process(self, end):
-        while self.machine.poll() is None and time.monotonic() < end:
-            with contextlib.suppress(TimeoutError):
-                return Process(self.listener.accept()[0])
-        raise AssertionError("the client runs and mounts the export")
-
-    def switch_off(self):
-        self.machine.kill()
-        self.machine.wait()
+        super().switch_on()
+        self.mount(",noac")
+        words = f"{self.folder}/linux_locks /mnt/file {guests.SERVER} {self.listener.getsockname()[1]} {PROCESSES}"
+        self.run(f"touch /mnt/file && {{ setsid {words} > /run/said 2>&1 & }}")
+        self.processes = [Process(self.listener.accept()[0]) for _ in range(PROCESSES)]
 
     def shut_down(self):
-        """Its processes end, and it ends by itself."""
+        """Its processes end, and it lets the export go."""
         for process in self.processes:
             process.connection.shutdown(socket.SHUT_RDWR)
-        self.machine.wait(PATIENCE)
-
-    def __enter__(self):
-        return self
-
-    def __exit__(self, *error):
-        if self.machine:
-            self.switch_off()
-        self.said.seek(0)
-        said = self.said.read()
-        lines = re.findall(r"linux: .*\w", said)
-        print("\n".join(lines))
-        assert lines and lines[-1] == "linux: the end" or error[0], f"the client comes to its end: {said[-1000:]}"
+        self.run("while pidof linux_locks > /dev/null; do sleep 0.1; done; umount /mnt")
 
 
 class Owner:
@@ -135,6 +101,8 @@ class Owner:
         self.connection, self.number = network.Connection(port, address), number
         self.file = file or self.connection.make(b"file")
         self.xid = 0
+        # (the server closes a connection that brings no record in its first 30 seconds)
+        assert self.may_lock()
 
     def ask(self, make, start, length, **ways):
         self.xid += 1
@@ -158,14 +126,16 @@ class Relay(locking.Host):
     """Hands its calls on to a port, after so many seconds, and keeps when each came there and with which status it was
     answered."""
 
-    def __init__(self, to_port):
-        self.to_port, self.answers, self.delay = to_port, [], 0
+    def __init__(self, place, port):
+        self.place, self.to_port, self.answers, self.delay = place, port, [], 0
         super().__init__()
 
     def answer(self, record):
         time.sleep(self.delay)
         came = time.monotonic()
-        reply = network.Connection(self.to_port).ask(struct.pack(">I", 0x80000000 | len(record)) + record)
+        connection = network.Connection(self.to_port, to=self.place)
+        with connection.socket:
+            reply = connection.ask(struct.pack(">I", 0x80000000 | len(record)) + record)
         self.answers.append((came, *struct.unpack(">I", reply[-4:])))
         return reply
 
@@ -312,50 +282,42 @@ def comes_back(client, other, lockd_run):
     client.switch_off()
     assert not other.may_lock(), "nobody has told that it is gone"
     client.switch_on()
-    assert "the locks of guest are freed" in lockd_run.hear("has started anew")
+    assert f"the locks of {client.name} are freed" in lockd_run.hear("has started anew")
     other.unlocks()
     assert other.may_lock(), "neither what it had nor what it waited for is its own"
     assert client.processes[0].locks("w", 0, 100) and not other.locks(99, 1), "it locks anew"
     print("locks: switched off: the client's locks were free once it came back and told so")
 
 
-def prepare(folder):
-    """The machine's root file system, with what a client that locks has, and its disk."""
-    linux.fetch(folder, "rpcbind", "libwrap0")
-    root = folder / "root"
-    linux.build(folder, root, "linux_locks.sh", PROGRAMS)
-    words = ["gcc", "-std=gnu11", "-O2", "-static", "-o", root / "bin/linux_locks", linux.HERE / "linux_locks.c"]
+def compile_processes(folder):
+    """Makes linux_locks.c a program of the machines."""
+    words = ["gcc", "-std=gnu11", "-O2", "-static", "-o", folder / "linux_locks", guests.HERE / "linux_locks.c"]
     if subprocess.run(words).returncode != 0:
-        sys.exit("linux_locks: gcc does not compile linux_locks.c")
-    for name in ("run/rpcbind", "var/lib/nfs", "etc"):
-        (root / name).mkdir(parents=True, exist_ok=True)
-    (root / "etc/passwd").write_text(USERS)
-    (root / "etc/group").write_text("root:x:0:\n_rpc:x:100:\n")
-    (root / "etc/services").write_text("sunrpc 111/tcp portmapper\nsunrpc 111/udp portmapper\n")
-    (root / "etc/hosts").write_text("127.0.0.1 localhost\n10.0.2.15 guest\n")
-    (root / "etc/nsswitch.conf").write_text("passwd: files\ngroup: files\nhosts: files\n")
-    linux.archive(root, folder / "root.cpio")
-    linux.run("mke2fs", "-q", "-t", "ext4", folder / "disk", "8M")
+        sys.exit(f"{sys.argv[0]}: gcc does not compile linux_locks.c")
+
+
+@contextlib.contextmanager
+def served(program, clients, *options):
+    """The server, with lockd for these clients."""
+    with network.Server(program, *options, at="0.0.0.0") as server:
+        place = f"{guests.SERVER}:{server.port}"
+        with Lockd("--clients", ",".join(clients), "--server", place, "--mapper", "own") as lockd:
+            yield server, lockd
 
 
 def main():
     words = nfsd.parser(__doc__)
     words.add_argument("program", metavar="PROGRAM", nargs="?", default=nfsd.PROGRAM, help="the program (this one)")
     program = words.parse_args().program
-    first = lockd.free_ports(3)
-    mapper, manager = first + 1, first + 2
-    called, relay = locking.Host(IS_GRANTED), Relay(first)
-    places = ((HERE, relay), (OTHER, called))
-    callbacks = [f"--callback={address}={HERE}:{place.port}" for address, place in places]
-    with tempfile.TemporaryDirectory() as folder, network.Server(program, *callbacks) as server:
-        folder = pathlib.Path(folder)
-        prepare(folder)
-        mine = ["--clients", HERE, "--first-port", first, "--server", f"{HERE}:{server.port}", "--listen", HERE]
-        mine += ["--client-mapper", mapper, "--mapper", "own"]
-        with lockd.Lockd(*mine) as lockd_run, Client(folder, server.port, mapper, manager) as client:
+    with guests.apart() as folder, Client(folder, 1) as client:
+        compile_processes(folder)
+        called, relay = locking.Host(IS_GRANTED), Relay(CALLED, CALLBACK)
+        places = ((client.address, relay), (OTHER, called))
+        callbacks = [f"--callback={address}={HERE}:{place.port}" for address, place in places]
+        with served(program, [client.address], *callbacks) as (server, lockd):
+            client.switch_on()
             other = Owner(server.port, OTHER, 1)
             third = Owner(server.port, THIRD, 2, other.file)
-            client.switch_on()
             excludes(client, other)
             shares(client, other)
             divides(client, other)
@@ -364,7 +326,7 @@ def main():
             waits(client, other, called, relay)
             is_killed(client, other, third)
             is_late(client, other, relay)
-            comes_back(client, other, lockd_run)
+            comes_back(client, other, lockd)
             client.shut_down()
 
 

@@ -151,7 +151,7 @@ def is_full(unit):
     assert network.status(unit.connection().ask(nfsd.remove(1, b"large"))) == full.OK
     unit.runs_on()
     size = made * len(full.DATA) >> 20
-    print(f"full: {size} MiB were written in {time.monotonic() - begin:.0f} s, then refused; nothing is lost at {held >> 20} MiB")
+    print(f"full: {size} MiB were written in {time.monotonic() - begin:.0f} s, and more refused at {held >> 20} MiB")
 
 
 def ends(unit):

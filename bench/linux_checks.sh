@@ -1,18 +1,10 @@
-#!/bin/busybox sh
-# The first process of the machine that bench/linux.py starts: mounts the export at $nfs_port and makes checks.
-export PATH=/sbin:/bin
-/bin/busybox --install -s /bin
-/bin/busybox mount -t proc proc /proc
-/bin/busybox mount -t sysfs sys /sys
-/bin/busybox mount -t devtmpfs dev /dev
-while read -r module; do insmod "/modules/$module"; done < /modules/order
-ifconfig eth0 10.0.2.15 netmask 255.255.255.0 up
-sleep 1
+#!/bin/sh
+# What bench/linux.py has a machine run: mounts the export of the server at that address and port, and makes checks.
+address=$1
+nfs_port=$2
 
-# (10.0.2.2 is the loopback address of the machine that runs QEMU)
 enter() {
-    mount.linux -t nfs -o vers=3,proto=tcp,port="$nfs_port",mountport="$nfs_port",mountproto=tcp,nolock \
-        10.0.2.2:/data /mnt
+    mount -t nfs -o vers=3,proto=tcp,port="$nfs_port",mountport="$nfs_port",mountproto=tcp,nolock "$address:/data" /mnt
 }
 passed=0
 failed=0
@@ -37,7 +29,7 @@ check "grow" 'truncate -s 100 c && [ "$(stat -c %s c)" = 100 ]'
 check "fifo" 'mkfifo p && [ -p p ]'
 check "remove" 'rm c && [ ! -e c ] && [ -e d/e/b ]'
 check "rmdir of what holds names" '! rmdir d 2> /dev/null'
-check "40 MiB" 'dd if=/dev/urandom of=/tmp/big bs=1048576 count=40 2> /dev/null; cp /tmp/big big; cmp /tmp/big big'
+check "40 MiB" 'dd if=/dev/urandom of=/run/big bs=1048576 count=40 2> /dev/null; cp /run/big big; cmp /run/big big'
 check "both ends of 1 GiB" 'printf a > ends; printf z | dd of=ends bs=1 seek=1073741823 conv=notrunc 2> /dev/null;
     [ "$(stat -c %s ends)" = 1073741824 ] && [ "$(dd if=ends bs=1 skip=1073741822 2> /dev/null | tr "\0" -)" = -z ]'
 check "no byte behind them" '! printf z | dd of=ends bs=1 seek=1073741824 conv=notrunc 2> /dev/null'
@@ -45,13 +37,12 @@ check "a cut in between" 'truncate -s 536870912 ends && truncate -s 1073741824 e
     [ "$(dd if=ends bs=1 skip=1073741823 2> /dev/null | tr "\0" -)" = - ]'
 check "200 files" 'mkdir many; for i in $(seq 200); do echo $i > many/$i; done; [ "$(ls many | wc -l)" = 200 ]'
 check "each of them" 'for i in $(seq 200); do [ "$(cat many/$i)" = $i ] || break; done; [ $i = 200 ]'
-check "tar" 'tar cf /tmp/tar many && mkdir out && tar xf /tmp/tar -C out && diff -r many out/many'
+check "tar" 'tar cf /run/tar many && mkdir out && tar xf /run/tar -C out && diff -r many out/many'
 check "df" 'df /mnt | grep -q 1073741824'
 cd /
-check "umount" 'umount.linux /mnt'
+check "umount" 'umount /mnt'
 check "mount again" enter
-check "what was written" 'cmp /tmp/big /mnt/big && [ "$(head -c 3 /mnt/d/e/b)" = hel ]'
+check "what was written" 'cmp /run/big /mnt/big && [ "$(head -c 3 /mnt/d/e/b)" = hel ]'
 check "rm -r" 'rm -r /mnt/many /mnt/out && [ ! -e /mnt/many ]'
-check "umount again" 'umount.linux /mnt'
+check "umount again" 'umount /mnt'
 echo "linux: $passed passed, $failed failed"
-poweroff -f
