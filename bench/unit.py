@@ -2,7 +2,7 @@
 """Tries the units of contrib/ under systemd, in a machine of User Mode Linux (guests.py), with little memory: lines by
 the pipe and a reload change the exports, a reload without exports does not; signals by habit, "systemctl stop" and
 "restart" end nothing; lockd comes with nfsd, comes back where it is killed, and goes with it; clients that fill all
-memory are refused, and nothing is lost; "end" ends it in order, and it is not started anew.
+memory are refused, and nothing is lost; "end", and the machine's shutdown, end it in order, and it is not started anew.
 
 Wanted are what guests.py wants, and systemd.
 
@@ -24,7 +24,11 @@ EXPORTS = "EXPORTS=--export=/data,rw,* --export=/tools,ro,*\n"
 FILES = {
     "default/nfsd": EXPORTS + "OPTIONS=--start=7\n",
     "default/nfsd-lockd": "CLIENTS=10.9.0.0/28\n",
-    "systemd/system/nfsd.service.d/little.conf": "[Service]\nLimitAS=200M\nMemoryMax=240M\n",
+    "systemd/system/nfsd.service.d/tried.conf": """[Service]
+LimitAS=200M
+MemoryMax=240M
+ExecStopPost=+/bin/sh -c 'echo $$SERVICE_RESULT $$EXIT_STATUS >> /mnt/ended'
+""",
     "systemd/system/try.target": "[Unit]\nWants=agent.service nfsd.service systemd-journald.service\n",
     "systemd/system/agent.service": "[Service]\nExecStart=/usr/bin/env python3 /run/copies/guest_agent.py\n",
     "machine-id": "0123456789abcdef0123456789abcdef\n",
@@ -167,26 +171,34 @@ def ends(unit):
     unit.comes("listening on 0.0.0.0:2049", 2)
     unit.becomes("active", "nfsd-lockd.service")
     print("end: nfsd ends in order, and lockd with it; both start again when they are told to")
-    unit.guest.try_to("systemctl isolate --no-block rescue.target")
-    unit.guest.try_to("systemctl --no-block stop nfsd-control.socket")
+
+
+def shuts_down(guest):
+    """Where the machine is shut down, too, it ends in order."""
+    ended = guest.state / "ended"
+    before = ended.read_text()
+    guest.try_to("systemctl poweroff --no-block")
+    guest.machine.wait(guests.PATIENCE)
+    assert (before, ended.read_text()) == ("success 0\n", "success 0\n" * 2)
+    print("shutdown: it ends in order where the machine is shut down")
 
 
 def main():
     words = nfsd.parser(__doc__)
-    words.add_argument("--no-end", action="store_true", help="leave out the word end")
     words.add_argument("program", metavar="PROGRAM", nargs="?", default=nfsd.PROGRAM, help="the program (this one)")
     given = words.parse_args()
     with guests.apart() as folder:
         prepare(folder, given.program)
         with guests.Guest(folder, 1, MEMORY, "unit_init.sh") as guest:
             guest.switch_on()
+            assert guest.run(f"systemd-analyze verify {' '.join(UNITS)}") == "", "systemd finds no fault"
             unit = Unit(guest)
             has_lockd(unit)
             hears_lines(unit)
             bears_habits(unit)
             is_full(unit)
-            if not given.no_end:
-                ends(unit)
+            ends(unit)
+            shuts_down(guest)
 
 
 if __name__ == "__main__":

@@ -22,6 +22,7 @@ done
 for place in tmp var/tmp var/lib/nfs; do
     mount -t tmpfs tmp "/$place"
 done
+mount -t hostfs -o "$g_state" state /mnt
 hostname "$g_name"
 ip link set lo up
 ip addr add "$g_address/24" dev eth0
