@@ -227,17 +227,21 @@ def is_closed(connection, record):
 
 
 def other_users(place, mapper, lockd):
-    """What another user of the machine sends goes on to no client's lock manager."""
+    """What another user of the machine sends goes on to no client's lock manager, also where it is gone at once."""
     asked = len(mapper.asked)
     if os.fork() == 0:
         os.setuid(65534)
+        for _ in range(20):
+            with socket.create_connection(place, TAKEN) as gone:
+                gone.sendall(bytes(64))
+            time.sleep(0.01)
         connection = socket.create_connection(place, TAKEN)
         connection.sendall(bytes(64))
         with contextlib.suppress(ConnectionError):
             os._exit(connection.recv(1) != b"")
         os._exit(0)
     _, status = os.wait()
-    assert "a user of this machine who is not nfsd's" in lockd.hear("is not called back")
+    assert "who is not nfsd's user" in lockd.hear("is not called back")
     assert status == 0 and len(mapper.asked) == asked
     print("other users: what they send goes on to no lock manager")
 
