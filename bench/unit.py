@@ -178,7 +178,7 @@ def shuts_down(guest):
     """Where the machine is shut down, too, it ends in order."""
     ended = guest.state / "ended"
     before = ended.read_text()
-    guest.try_to("systemctl poweroff --no-block")
+    guest.run("setsid sh -c 'sleep 1; systemctl poweroff --no-block' > /dev/null 2>&1 &")
     guest.machine.wait(guests.PATIENCE)
     assert (before, ended.read_text()) == ("success 0\n", "success 0\n" * 2)
     print("shutdown: it ends in order where the machine is shut down")
