@@ -68,7 +68,9 @@ def fetched():
 
 
 def run(*words, **how):
-    subprocess.run(words, check=True, stdout=subprocess.DEVNULL, stderr=subprocess.DEVNULL, **how)
+    done = subprocess.run(words, stdout=subprocess.PIPE, stderr=subprocess.STDOUT, text=True, **how)
+    if done.returncode != 0:
+        sys.exit(f"{' '.join(map(str, words))} fails: {done.stdout.strip()[-500:]}")
 
 
 class Guest:
@@ -98,7 +100,7 @@ class Guest:
         raise AssertionError(f"{self.name} starts: {pathlib.Path(self.said.name).read_text()[-1000:]}")
 
     def switch_off(self):
-        """As by its plug: its processes are this one's descendants, each a group of their own."""
+        """As by its plug."""
         if self.machine and self.machine.poll() is None:
             os.killpg(self.machine.pid, 9)
             self.machine.wait()
