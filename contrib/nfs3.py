@@ -130,6 +130,7 @@ class Server:
     def __init__(self, place, patience=60):
         self.place, self.patience = place, patience
         self.xids = itertools.count(random.getrandbits(31))
+        self.mounted = []
         self.early = {}  # replies that came before their turn, by their transaction ids
         machine = socket.gethostname().encode()[:255]
         body = bytes(4) + opaque(machine) + bytes(12)  # AUTH_SYS: stamp, machine, uid, gid, no further gids
@@ -143,6 +144,8 @@ class Server:
         return self
 
     def __exit__(self, *_):
+        with contextlib.suppress(Refused):
+            self.unmount()
         self.socket.close()
 
     @contextlib.contextmanager
@@ -214,12 +217,15 @@ class Server:
             yield self.settled(procedure, *waiting.popleft())
 
     def settled(self, procedure, xid, arguments):
-        """The results of a call that was sent, which is made again for as long as memory is wanting (JUKEBOX)."""
+        """The results of a call that was sent, which is made again for some time where the server is out of memory
+        (JUKEBOX)."""
         until = time.monotonic() + self.patience
         while True:
             items = self.results(xid)
-            if Items(items.record[items.place :]).word() != JUKEBOX or time.monotonic() > until:
+            if items.record[items.place : items.place + 4] != struct.pack(">I", JUKEBOX):
                 return items
+            if time.monotonic() > until:
+                raise Refused(f"the server answers JUKEBOX for {self.patience} seconds: its memory is full")
             time.sleep(1)
             xid = self.send(NFS, procedure, arguments)
 
@@ -231,10 +237,15 @@ class Server:
 
     def mount(self, path):
         """The handle of what this path leads to."""
-        return ok(self.call(MOUNT, MNT, opaque(path)), f"MNT of {told(path)}").handle()
+        # (nfsd skips the empty part before it, and lists it apart from what this host's kernel mounts)
+        handle = ok(self.call(MOUNT, MNT, opaque(b"/" + path)), f"MNT of {told(path)}").handle()
+        self.mounted.append(b"/" + path)
+        return handle
 
-    def unmount(self, path):
-        self.call(MOUNT, UMNT, opaque(path))
+    def unmount(self):
+        """Takes away what MNT has put into the list of mounts."""
+        while self.mounted:
+            self.call(MOUNT, UMNT, opaque(self.mounted.pop()))
 
     def exports(self):
         """The paths that are exported, in order, each with its hosts; none where everybody is admitted."""

@@ -10,11 +10,11 @@
 
 enum { PATIENCE = 30 }; /* seconds */
 
-void open_caller(struct caller *caller, uint32_t first_xid)
+void open_caller(struct caller *caller, int port, uint32_t first_xid)
 {
     struct timeval patience = { .tv_sec = PATIENCE };
 
-    caller->socket = connect_to_server();
+    caller->socket = connect_to_server(port);
     setsockopt(caller->socket, SOL_SOCKET, SO_RCVTIMEO, &patience, sizeof patience);
     caller->xid = first_xid;
     caller->call = allocate(MOST_CALL, 1);

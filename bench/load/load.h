@@ -10,7 +10,7 @@
 
 /* What the command line says. */
 struct options {
-    int port;
+    int port, mount_port;   /* of NFS, and of MOUNT */
     int connections, depth; /* calls that are in progress at once: so many on each connection */
     int threads;            /* over which the connections are spread */
     double warm_up, seconds; /* how long a turn runs uncounted, and then counted */
@@ -55,8 +55,8 @@ void *allocate(size_t count, size_t size);
 /* The seconds of a clock that is never set. */
 double moment(void);
 
-/* A connection to the server. */
-int connect_to_server(void);
+/* A connection to a port of the server. */
+int connect_to_server(int port);
 
 /* Calls (calling.c) */
 
@@ -111,8 +111,8 @@ struct caller {
     uint8_t *call, *reply;
 };
 
-/* Connects a caller, whose transaction ids begin there. */
-void open_caller(struct caller *caller, uint32_t first_xid);
+/* Connects a caller to a port, whose transaction ids begin there. */
+void open_caller(struct caller *caller, int port, uint32_t first_xid);
 void close_caller(struct caller *caller);
 /* Begins the caller's next call; its arguments are then written. */
 struct writer ask(struct caller *caller);
@@ -128,6 +128,6 @@ void remove_name(struct caller *caller, int connection, const char *name);
 
 /* Transaction ids: no two calls have the same, since a server may take the second for a repeat of the first. Below
  * these are those of the connections that make the load. */
-enum { FIRST_XID_OF_TREE = 0x40000000, FIRST_XID_BESIDE = 0x60000000 };
+enum { FIRST_XID_OF_TREE = 0x40000000, FIRST_XID_BESIDE = 0x60000000, FIRST_XID_OF_MOUNT = 0x70000000 };
 
 #endif

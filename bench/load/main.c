@@ -25,6 +25,7 @@ struct options options = { .connections = 4, .depth = 8, .warm_up = 0.2, .second
 
 static const char usage[] =
     "usage: load --port PORT [options] < names of workloads\n"
+    "  --mount-port N    where MOUNT is, if it is not at the same port\n"
     "  --connections N   (4)\n"
     "  --depth N         calls in progress on each (8)\n"
     "  --warm-up S       seconds that are not counted (0.2)\n"
@@ -67,14 +68,14 @@ double moment(void)
     return (double)now.tv_sec + 1e-9 * (double)now.tv_nsec;
 }
 
-int connect_to_server(void)
+int connect_to_server(int port)
 {
-    struct sockaddr_in address = { .sin_family = AF_INET, .sin_port = htons((uint16_t)options.port) };
+    struct sockaddr_in address = { .sin_family = AF_INET, .sin_port = htons((uint16_t)port) };
     int connection = socket(AF_INET, SOCK_STREAM | SOCK_CLOEXEC, 0), one = 1;
 
     address.sin_addr.s_addr = htonl(INADDR_LOOPBACK);
     if (connection < 0 || connect(connection, (struct sockaddr *)&address, sizeof address))
-        fail("no connection to port %d: %s", options.port, strerror(errno));
+        fail("no connection to port %d: %s", port, strerror(errno));
     setsockopt(connection, IPPROTO_TCP, TCP_NODELAY, &one, sizeof one);
     return connection;
 }
@@ -92,7 +93,7 @@ static void read_options(int count, char **words)
         { "depth", required_argument, NULL, 'd' },   { "warm-up", required_argument, NULL, 'w' },
         { "seconds", required_argument, NULL, 's' }, { "server", required_argument, NULL, 'i' },
         { "beside", no_argument, NULL, 'b' },        { "unchecked", no_argument, NULL, 'u' },
-        { NULL, 0, NULL, 0 },
+        { "mount-port", required_argument, NULL, 'm' }, { NULL, 0, NULL, 0 },
     };
     int found;
 
@@ -100,6 +101,9 @@ static void read_options(int count, char **words)
         switch (found) {
         case 'p':
             options.port = atoi(optarg);
+            break;
+        case 'm':
+            options.mount_port = atoi(optarg);
             break;
         case 'c':
             options.connections = atoi(optarg);
@@ -126,6 +130,8 @@ static void read_options(int count, char **words)
             misused();
         }
     }
+    if (!options.mount_port)
+        options.mount_port = options.port;
     if (optind != count || options.port < 1 || options.connections < 1 || options.depth < 1 || options.seconds <= 0)
         misused();
 }
@@ -157,7 +163,7 @@ int main(int count, char **words)
     read_options(count, words);
     choose_threads();
     make_content();
-    open_caller(&caller, FIRST_XID_OF_TREE);
+    open_caller(&caller, options.port, FIRST_XID_OF_TREE);
     make_tree(&caller);
     puts("ready");
     fflush(stdout);

@@ -6,19 +6,23 @@
 struct tree tree;
 
 /* Asks for the root of the export. */
-static void mount_root(struct caller *caller)
+static void mount_root(void)
 {
-    struct writer call = ask(caller);
+    struct caller caller;
+    struct writer call;
     struct reader reply;
 
+    open_caller(&caller, options.mount_port, FIRST_XID_OF_MOUNT);
+    call = ask(&caller);
     put_text(&call, "/data");
-    reply = await(caller, &call, PROGRAM_MOUNT, MOUNT_MNT);
+    reply = await(&caller, &call, PROGRAM_MOUNT, MOUNT_MNT);
     if (take_u32(&reply) != 0)
         fail("the server does not export /data");
     take_handle(&reply, &tree.root);
     skip(&reply, 4 * (size_t)take_u32(&reply));
     if (reply.is_broken || reply.next != reply.end)
         fail("the reply to MNT has no right form");
+    close_caller(&caller);
 }
 
 /* Sends a call of CREATE or MKDIR, and gives the handle of what is made. */
@@ -75,7 +79,7 @@ void make_tree(struct caller *caller)
     struct handle data_directory;
     char name[MOST_NAME];
 
-    mount_root(caller);
+    mount_root();
     tree.files_directory = make_directory(caller, "files");
     for (uint32_t file = 0; file < FILES; file++) {
         name_of_file(name, file);

@@ -246,7 +246,7 @@ static void *call_beside(void *argument)
     uint64_t random = 1;
     struct caller caller;
 
-    open_caller(&caller, xid);
+    open_caller(&caller, options.port, xid);
     for (enum phase began = phase_now(); began != IS_OVER; began = phase_now()) {
         struct writer call = ask(&caller);
         double begin = moment();
@@ -285,7 +285,7 @@ static void tell_beside(struct beside *beside, struct outcome *outcome)
 
 static void open_connection(struct connection *connection, int number, uint32_t first_xid)
 {
-    connection->socket = connect_to_server();
+    connection->socket = connect_to_server(options.port);
     fcntl(connection->socket, F_SETFL, fcntl(connection->socket, F_GETFL) | O_NONBLOCK);
     connection->desk.connection = number;
     connection->desk.random = 0x9e3779b97f4a7c15u * (uint64_t)(number + 1) ^ first_xid;
