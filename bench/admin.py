@@ -44,12 +44,12 @@ REFUSED_FILES = {  # each with a word of what is told of it
 class Server:
     """A run of nfsd that reads lines from a pipe and answers into a file."""
 
-    def __init__(self, program, folder, *exports):
+    def __init__(self, program, folder, *exports, place="127.0.0.1:0", more=()):
         self.lines, self.answers, self.log = folder / "lines", folder / "answers", folder / "log"
         os.mkfifo(self.lines)
         # (a pipe that is open for both is opened without waiting for who writes, and never ends)
         lines = os.open(self.lines, os.O_RDWR)
-        words = [program, "--tcp", "127.0.0.1:0", "--control", "--stats", "1"]
+        words = [program, "--tcp", place, "--control", "--stats", "1", *more]
         words += [word for export in exports for word in ("--export", export)]
         with open(self.answers, "wb") as answers, open(self.log, "wb") as log:
             self.process = subprocess.Popen(words, stdin=lines, stdout=answers, stderr=log)

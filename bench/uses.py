@@ -1,0 +1,200 @@
+#!/usr/bin/env python3
+"""Tries the set-ups of docs/USES.md: a root file system and sources are carried into a server's exports, and two virtual
+machines boot from the one (nfsroot=, Debian's own initramfs), build what is in the other, and count in one file of
+shared homes under locks, beside contrib/lockd and with exports that contrib/nfsadm changes.
+
+It fetches Debian's kernel, initramfs-tools' words for it, and what the machines run (apt-get download). QEMU emulates
+them, so it takes some minutes; with --kvm the processor's help is used. Server and machines stand in a network of their
+own (`unshare`), on a bridge.
+
+Wanted are root, and Debian's qemu-system-x86, busybox-static, initramfs-tools-core, klibc-utils, kmod and iproute2.
+
+usage: bench/uses.py [--kvm] [--folder FOLDER] [PROGRAM]
+"""
+import contextlib
+import os
+import pathlib
+import re
+import shutil
+import subprocess
+import sys
+import tempfile
+import time
+
+import admin
+import linux
+import nfsd
+import peers
+
+HERE = pathlib.Path(__file__).resolve().parent
+CONTRIB = HERE.parent / "contrib"
+SERVER, GUESTS = "10.9.0.1", {"one": "10.9.0.11", "two": "10.9.0.12"}
+PATIENCE = 900  # seconds for a machine's whole life
+PROGRAMS = ("sbin/rpcbind", "sbin/rpc.statd", "usr/bin/tcc")
+MORE = ("rpcbind", "libwrap0", "tcc", "libc6-dev")
+C_FILES = ("crt1.o", "crti.o", "crtn.o", "libc_nonshared.a")  # what a program is linked with
+SOURCES = 20
+
+
+def opened():
+    """The exports once all is in them: for the machines alone."""
+    hosts = list(GUESTS.values())
+    modes = {"/root": "ro", "/farm": "rw", "/home": "rw"}
+    return "".join(f"{path} {' '.join(f'{host}({mode})' for host in hosts)}\n" for path, mode in modes.items())
+
+
+def initrd(folder):
+    """Debian's initramfs, which mounts a root by NFS."""
+    modules = next(folder.glob("lib/modules/*"))
+    linux.run("depmod", "-b", folder, modules.name)
+    conf = folder / "initramfs"
+    for name in ("conf.d", "hooks", "scripts"):
+        (conf / name).mkdir(parents=True)
+    lines = ("MODULES=list", "BUSYBOX=n", "KEYMAP=n", "COMPRESS=gzip", "DEVICE=", "NFSROOT=auto", "BOOT=nfs", "RUNSIZE=10%")
+    (conf / "initramfs.conf").write_text("".join(f"{line}\n" for line in lines))
+    (conf / "modules").write_text("virtio_pci\nvirtio_net\naf_packet\nnfs\nnfsv3\n")
+    # (it looks for the kernel's modules and its configuration where a package puts them)
+    for place, source in ((pathlib.Path("/usr/lib/modules") / modules.name, modules), (pathlib.Path("/boot"), folder / "boot")):
+        place.mkdir(parents=True, exist_ok=True)
+        linux.run("mount", "--bind", source, place)
+    linux.run("mkinitramfs", "-d", conf, "-o", folder / "initrd", modules.name)
+    return folder / "initrd"
+
+
+def root_of(folder):
+    """The machines' root file system: BusyBox, what mounts and locks, a compiler and make."""
+    root = folder / "root"
+    (root / "usr/bin").mkdir(parents=True)
+    linux.build(folder, root, "uses_init.sh", PROGRAMS)
+    for name in ("run", "usr/lib/x86_64-linux-gnu", "var/lib/nfs"):
+        (root / name).mkdir(parents=True, exist_ok=True)
+    for applet in linux.run("busybox", "--list").split():
+        if applet not in ("busybox", "rpcbind"):
+            (root / "bin" / applet).symlink_to("busybox")
+    shutil.copy("/usr/bin/make", root / "bin/make")
+    for library in linux.libraries("/usr/bin/make", folder):
+        shutil.copy(library, root / ("lib64" if "ld-linux" in library else "lib/x86_64-linux-gnu"))
+    shutil.copytree(folder / "usr/lib/x86_64-linux-gnu/tcc", root / "usr/lib/x86_64-linux-gnu/tcc")
+    for name in C_FILES:
+        shutil.copy(folder / "usr/lib/x86_64-linux-gnu" / name, root / "usr/lib/x86_64-linux-gnu")
+    libc = "/lib/x86_64-linux-gnu/libc.so.6"
+    (root / "usr/lib/x86_64-linux-gnu/libc.so").symlink_to(libc)
+    (root / "run/rpcbind").mkdir()
+    (root / "etc/passwd").write_text("root:x:0:0:root:/:/bin/sh\n_rpc:x:0:0::/run/rpcbind:/bin/false\nstatd:x:0:0::/:/bin/false\n")
+    (root / "etc/group").write_text("root:x:0:\n_rpc:x:0:\n")
+    (root / "etc/services").write_text("sunrpc 111/tcp portmapper\nsunrpc 111/udp portmapper\n")
+    (root / "etc/nsswitch.conf").write_text("passwd: files\ngroup: files\nhosts: files\n")
+    (root / "etc/hosts").write_text("127.0.0.1 localhost\n" + "".join(f"{at} {name}\n" for name, at in GUESTS.items()))
+    return root
+
+
+def sources(folder):
+    """What is built: a program of as many files, each with a number of its own."""
+    made = folder / "sources"
+    (made / "src").mkdir(parents=True)
+    numbers = range(1, SOURCES + 1)
+    for number in numbers:
+        (made / f"src/part{number}.c").write_text(f"int part{number}(void) {{ return {number}; }}\n")
+    calls = " + ".join(f"part{number}()" for number in numbers)
+    declared = "".join(f"int part{number}(void);\n" for number in numbers)
+    text = f'int printf(const char *, ...);\n{declared}int main(void) {{ printf("%d\\n", {calls}); return 0; }}\n'
+    (made / "src/main.c").write_text(text)
+    objects = " ".join(["main.o", *(f"part{number}.o" for number in numbers)])
+    rules = f"program: {objects}\n\ttcc -o $@ $^\n%.o: /mnt/src/%.c\n\ttcc -c -o $@ $<\n"
+    (made / "src/Makefile").write_text(rules)
+    return made
+
+
+def network():
+    """A bridge with a socket for each machine."""
+    linux.run("ip", "link", "add", "br0", "type", "bridge")
+    linux.run("ip", "addr", "add", f"{SERVER}/24", "dev", "br0")
+    linux.run("ip", "link", "set", "br0", "up")
+    for name in GUESTS:
+        linux.run("ip", "tuntap", "add", "dev", name, "mode", "tap")
+        linux.run("ip", "link", "set", name, "master", "br0", "up")
+
+
+def machine(folder, name, use, is_kvm):
+    """The words that start a machine."""
+    number = list(GUESTS).index(name)
+    told = {
+        "console": "ttyS0", "panic": 1, "boot": "nfs", "root": "/dev/nfs", "init": "/init", "use": use, "server": SERVER, "guest": name,
+        "nfsroot": f"{SERVER}:/root", "ip": f"{GUESTS[name]}::{SERVER}:255.255.255.0:{name}:eth0:off",
+        # (names of interfaces as the kernel gives them)
+        "net.ifnames": 0,
+    }  # fmt: skip
+    words = " ".join(f"{key}={value}" for key, value in told.items())
+    return (
+        "qemu-system-x86_64", "-accel", "kvm" if is_kvm else "tcg", "-m", "384", "-nographic", "-no-reboot",
+        "-kernel", next(folder.glob("boot/vmlinuz-*")), "-initrd", folder / "initrd",
+        "-append", f"{words} ro quiet no_timer_check",
+        "-netdev", f"tap,id=net,ifname={name},script=no,downscript=no",
+        "-device", f"virtio-net-pci,netdev=net,mac=52:54:00:09:00:{number:02},romfile=",
+    )  # fmt: skip
+
+
+def lives(folder, use, is_kvm):
+    """What all machines say, from when they are switched on until they switch themselves off."""
+    logs = {name: folder / f"{name}.{use}" for name in GUESTS}
+    begin = time.monotonic()
+    with contextlib.ExitStack() as stack:
+        runs = []
+        for name, log in logs.items():
+            out = stack.enter_context(open(log, "wb"))
+            words = list(map(str, machine(folder, name, use, is_kvm)))
+            runs.append(stack.enter_context(peers.process(*words, stdout=out, stderr=out, stdin=subprocess.DEVNULL)))
+        for run in runs:
+            with contextlib.suppress(subprocess.TimeoutExpired):
+                run.wait(max(1, begin + PATIENCE - time.monotonic()))
+    said = {name: re.findall(r"uses: \w+: (.*\w)", log.read_text(errors="replace")) for name, log in logs.items()}
+    for name, lines in said.items():
+        if not lines or lines[-1] != "the end":
+            sys.exit(f"uses: {name} did not come to its end: {lines}\n{logs[name].read_text(errors='replace')[-1500:]}")
+    print(f"{use}: " + "; ".join(f"{name}: {', '.join(lines)}" for name, lines in said.items()), flush=True)
+    return said
+
+
+class Served(admin.Server):
+    """A server on the machines' network, of which contrib/nfsadm is asked."""
+
+    def __init__(self, program, folder):
+        clients = ",".join(GUESTS.values())
+        words = linux.run(CONTRIB / "lockd", "--clients", clients, "--words").split()
+        exports = [f"{path},rw,127.0.0.1" for path in ("/root", "/farm", "/home")]
+        super().__init__(program, folder, *exports, more=words, place="0.0.0.0:2049")
+
+
+def main():
+    words = nfsd.parser(__doc__)
+    words.add_argument("--kvm", action="store_true", help="with the processor's help")
+    words.add_argument("--folder", metavar="FOLDER", type=pathlib.Path, help="keep what was fetched there for the next time")
+    words.add_argument("program", metavar="PROGRAM", nargs="?", default=nfsd.PROGRAM, help="the program (this one)")
+    given = words.parse_args()
+    peers.go_apart()
+    with contextlib.ExitStack() as stack:
+        folder = given.folder or pathlib.Path(stack.enter_context(tempfile.TemporaryDirectory()))
+        folder.mkdir(exist_ok=True)
+        if not (folder / "initrd").exists():
+            linux.fetch(folder, *MORE)
+            initrd(folder)
+        shutil.rmtree(folder / "root", ignore_errors=True)
+        shutil.rmtree(folder / "sources", ignore_errors=True)
+        work = pathlib.Path(stack.enter_context(tempfile.TemporaryDirectory()))
+        network()
+        server = stack.enter_context(Served(given.program, work))
+        words = ["--clients", ",".join(GUESTS.values()), "--server", f"{SERVER}:2049", "--from", SERVER, "--mapper", "own"]
+        stack.enter_context(peers.process(CONTRIB / "lockd", *words))
+        for source, path in ((root_of(folder), "/root"), (sources(folder), "/farm")):
+            linux.run(CONTRIB / "carry", "in", source, path)
+        (work / "exports").write_text(opened())
+        print(server.told(*server.apply(work / "exports")), end="", flush=True)
+        farm = lives(folder, "farm", given.kvm)
+        assert farm["one"][1] == farm["two"][1], "both build the same"
+        homes = lives(folder, "homes", given.kvm)
+        assert homes["one"][1] == homes["two"][1] == "counted to 40, 2 files", homes
+        print(server.told("mounts"), end="")
+
+
+if __name__ == "__main__":
+    main()
