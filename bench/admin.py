@@ -1,6 +1,6 @@
 #!/usr/bin/env python3
-"""Tries contrib/nfsadm beside nfsd: what it tells of one that runs, a lock that it frees, exports that it changes through
-a pipe, a socket and the journal's answers, files of exports that it refuses, and counts as Prometheus reads them.
+"""Tries contrib/nfsadm beside nfsd: what it tells of one that runs, a lock that it frees, exports that it changes, with
+answers from a file, a socket and the journal, files of exports that it refuses, and counts as Prometheus reads them.
 
 usage: bench/admin.py [PROGRAM]
 """
@@ -224,6 +224,39 @@ def by_socket(server, folder):
     print("apply: over a socket")
 
 
+def is_careful(server, folder):
+    """Where nfsd has not taken all lines, or has others in its list, nothing is handed in."""
+    answers = {
+        "refused: out of memory\n": "out of memory",  # (to a line that adds)
+        "keeps 1, drops /more\n": "drops /more",
+        "keeps 2, adds /other\n": "adds /other",
+        "": "does not answer",
+    }
+    before = server.exports()
+    for number, (answer, told) in enumerate(answers.items()):
+        heard, path = [], folder / f"socket{number}"
+        with socket.socket(socket.AF_UNIX, socket.SOCK_STREAM) as listener:
+            listener.bind(str(path))
+            listener.listen()
+            peer = threading.Thread(target=hear, args=(listener, answer, heard))
+            peer.start()
+            said = server.refused("apply", folder / "mine", "--control", path)
+            peer.join()
+        assert told in said and b"apply\n" not in b"".join(heard), (said, heard)
+        assert b"".join(heard).endswith(b"check\n")
+    assert server.exports() == before
+    print(f"apply: nothing is handed in behind {len(answers)} answers")
+
+
+def hear(listener, answer, heard):
+    """An nfsd that answers this to whatever comes."""
+    peer, _ = listener.accept()
+    with peer:
+        while piece := peer.recv(4096):
+            heard.append(piece)
+            peer.sendall(answer.encode())
+
+
 JOURNAL = """#!/bin/sh
 # What journalctl would say, where the journal has the answers and the counts of this folder.
 case "$*" in
@@ -281,6 +314,7 @@ def main():
             refuses_files(server, folder)
             meets_others(server, folder)
             by_socket(server, folder)
+            is_careful(server, folder)
             environment = journal(folder)
             by_journal(server, folder, environment)
             counts(server, environment)

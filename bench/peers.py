@@ -227,11 +227,11 @@ def page(results):
     newest = results[-1]
     lines = [
         "# nfsd beside others", "",
-        "`bench/peers.py` writes this page, from the files beside it. Calls a second over TCP on one machine, medians of",
-        "the rounds; a ratio is the median of the rounds' ratios. `nothing` is a server that answers each call at once and",
-        "does nothing: what kernel, loopback and load generator allow at most.", "",
+        "`bench/peers.py` writes this page, from the files beside it. Calls a second over TCP on one machine, medians",
+        "of the rounds; a ratio is the median of the rounds' ratios. `nothing` is a server that answers each call at",
+        "once and does nothing: what kernel, loopback and load generator allow at most.", "",
         "## Now", "", *about(newest), "",
-        "| | nfsd | nfs-ganesha | nothing | of nothing's | times nfs-ganesha's | µs of a processor: nfsd | nfs-ganesha |",
+        "| | nfsd | ganesha | nothing | nfsd of nothing's | times ganesha's | µs of a processor: nfsd | ganesha |",
         "|---|---:|---:|---:|---:|---:|---:|---:|",
         *(row(workload, rounds) for workload, rounds in newest["workloads"].items()), "",
         "## By commit", "", *by_commit("of nothing's rate", results, NOTHING), "",
@@ -249,8 +249,8 @@ def about(told):
     yield f"- {machine_told['processors']} processors ({machine_told['model']}), Linux {machine_told['kernel']};"
     yield f"  real-time priority: {'yes' if told['real_time'] else 'no'}; measured {told['measured'][:10]}."
     if is_busy(told):
-        yield (f"- **The machine was busy**: other work had {told['busy_processors']:.1f} processors before. These figures"
-               " show that it runs, and no more.")  # fmt: skip
+        yield f"- **The machine was busy**: other work had {told['busy_processors']:.1f} processors before. These"
+        yield "  figures show that it runs, and no more."
 
 
 def is_busy(told):
@@ -301,7 +301,7 @@ def options():
         if workload not in WORKLOADS:
             words.error(f"there is no workload {workload}")
     if not given.render and not os.access(given.program, os.X_OK):
-        words.error(f"{given.program} is no program: `rt run` in crates/nfsd builds it, and bench/unproved without proof")
+        words.error(f"{given.program} is no program: `rt run` in crates/nfsd builds it, or bench/unproved")
     return given
 
 

@@ -1,7 +1,7 @@
 #!/usr/bin/env python3
-"""Tries the set-ups of docs/USES.md: a root file system and sources are carried into a server's exports, and two virtual
-machines boot from the one (nfsroot=, Debian's own initramfs), build what is in the other, and count in one file of
-shared homes under locks, beside contrib/lockd and with exports that contrib/nfsadm changes.
+"""Tries the set-ups of docs/USES.md: a root file system and sources are carried into a server's exports, and two
+virtual machines boot from the one (nfsroot=, Debian's own initramfs), build what is in the other, and count in one file
+of shared homes under locks, beside contrib/lockd and with exports that contrib/nfsadm changes.
 
 It fetches Debian's kernel, initramfs-tools' words for it, and what the machines run (apt-get download). QEMU emulates
 them, so it takes some minutes; with --kvm the processor's help is used. Server and machines stand in a network of their
@@ -33,6 +33,7 @@ PATIENCE = 900  # seconds for a machine's whole life
 PROGRAMS = ("sbin/rpcbind", "sbin/rpc.statd", "usr/bin/tcc")
 MORE = ("rpcbind", "libwrap0", "tcc", "libc6-dev")
 C_FILES = ("crt1.o", "crti.o", "crtn.o", "libc_nonshared.a")  # what a program is linked with
+LOADER = "ld-linux-x86-64.so.2"
 SOURCES = 20
 
 
@@ -50,12 +51,12 @@ def initrd(folder):
     conf = folder / "initramfs"
     for name in ("conf.d", "hooks", "scripts"):
         (conf / name).mkdir(parents=True)
-    lines = ("MODULES=list", "BUSYBOX=n", "KEYMAP=n", "COMPRESS=gzip", "DEVICE=", "NFSROOT=auto", "BOOT=nfs", "RUNSIZE=10%")
-    (conf / "initramfs.conf").write_text("".join(f"{line}\n" for line in lines))
+    lines = "MODULES=list BUSYBOX=n KEYMAP=n COMPRESS=gzip DEVICE= NFSROOT=auto BOOT=nfs RUNSIZE=10%"
+    (conf / "initramfs.conf").write_text("\n".join(lines.split()) + "\n")
     (conf / "modules").write_text("virtio_pci\nvirtio_net\naf_packet\nnfs\nnfsv3\n")
     # (it looks for the kernel's modules and its configuration where a package puts them)
-    for place, source in ((pathlib.Path("/usr/lib/modules") / modules.name, modules), (pathlib.Path("/boot"), folder / "boot")):
-        place.mkdir(parents=True, exist_ok=True)
+    for place, source in ((f"/usr/lib/modules/{modules.name}", modules), ("/boot", folder / "boot")):
+        os.makedirs(place, exist_ok=True)
         linux.run("mount", "--bind", source, place)
     linux.run("mkinitramfs", "-d", conf, "-o", folder / "initrd", modules.name)
     return folder / "initrd"
@@ -71,16 +72,18 @@ def root_of(folder):
     for applet in linux.run("busybox", "--list").split():
         if applet not in ("busybox", "rpcbind"):
             (root / "bin" / applet).symlink_to("busybox")
-    shutil.copy("/usr/bin/make", root / "bin/make")
-    for library in linux.libraries("/usr/bin/make", folder):
-        shutil.copy(library, root / ("lib64" if "ld-linux" in library else "lib/x86_64-linux-gnu"))
+    for program in ("/usr/bin/make", "/usr/bin/flock"):
+        shutil.copy(program, root / "usr/bin")
+        for library in linux.libraries(program, folder):
+            shutil.copy(library, root / ("lib64" if "ld-linux" in library else "lib/x86_64-linux-gnu"))
     shutil.copytree(folder / "usr/lib/x86_64-linux-gnu/tcc", root / "usr/lib/x86_64-linux-gnu/tcc")
     for name in C_FILES:
         shutil.copy(folder / "usr/lib/x86_64-linux-gnu" / name, root / "usr/lib/x86_64-linux-gnu")
-    libc = "/lib/x86_64-linux-gnu/libc.so.6"
-    (root / "usr/lib/x86_64-linux-gnu/libc.so").symlink_to(libc)
+    for name, library in (("libc.so", "lib/x86_64-linux-gnu/libc.so.6"), (LOADER, f"lib64/{LOADER}")):
+        (root / "usr/lib/x86_64-linux-gnu" / name).symlink_to(f"/{library}")
     (root / "run/rpcbind").mkdir()
-    (root / "etc/passwd").write_text("root:x:0:0:root:/:/bin/sh\n_rpc:x:0:0::/run/rpcbind:/bin/false\nstatd:x:0:0::/:/bin/false\n")
+    users = ("root:x:0:0:root:/:/bin/sh", "_rpc:x:0:0::/run/rpcbind:/bin/false", "statd:x:0:0::/:/bin/false")
+    (root / "etc/passwd").write_text("".join(f"{user}\n" for user in users))
     (root / "etc/group").write_text("root:x:0:\n_rpc:x:0:\n")
     (root / "etc/services").write_text("sunrpc 111/tcp portmapper\nsunrpc 111/udp portmapper\n")
     (root / "etc/nsswitch.conf").write_text("passwd: files\ngroup: files\nhosts: files\n")
@@ -119,7 +122,8 @@ def machine(folder, name, use, is_kvm):
     """The words that start a machine."""
     number = list(GUESTS).index(name)
     told = {
-        "console": "ttyS0", "panic": 1, "boot": "nfs", "root": "/dev/nfs", "init": "/init", "use": use, "server": SERVER, "guest": name,
+        "console": "ttyS0", "panic": 1, "boot": "nfs", "root": "/dev/nfs", "init": "/init",
+        "use": use, "server": SERVER, "guest": name,
         "nfsroot": f"{SERVER}:/root", "ip": f"{GUESTS[name]}::{SERVER}:255.255.255.0:{name}:eth0:off",
         # (names of interfaces as the kernel gives them)
         "net.ifnames": 0,
@@ -168,7 +172,7 @@ class Served(admin.Server):
 def main():
     words = nfsd.parser(__doc__)
     words.add_argument("--kvm", action="store_true", help="with the processor's help")
-    words.add_argument("--folder", metavar="FOLDER", type=pathlib.Path, help="keep what was fetched there for the next time")
+    words.add_argument("--folder", metavar="FOLDER", type=pathlib.Path, help="keep there what was fetched")
     words.add_argument("program", metavar="PROGRAM", nargs="?", default=nfsd.PROGRAM, help="the program (this one)")
     given = words.parse_args()
     peers.go_apart()
@@ -183,8 +187,8 @@ def main():
         work = pathlib.Path(stack.enter_context(tempfile.TemporaryDirectory()))
         network()
         server = stack.enter_context(Served(given.program, work))
-        words = ["--clients", ",".join(GUESTS.values()), "--server", f"{SERVER}:2049", "--from", SERVER, "--mapper", "own"]
-        stack.enter_context(peers.process(CONTRIB / "lockd", *words))
+        words = ["--clients", ",".join(GUESTS.values()), "--server", f"{SERVER}:2049", "--from", SERVER]
+        stack.enter_context(peers.process(CONTRIB / "lockd", *words, "--mapper", "own"))
         for source, path in ((root_of(folder), "/root"), (sources(folder), "/farm")):
             linux.run(CONTRIB / "carry", "in", source, path)
         (work / "exports").write_text(opened())

@@ -32,7 +32,7 @@ farm() {
 # Two machines count in one file, and one reads what the other wrote and closed.
 homes() {
     rpcbind
-    rpc.statd --no-notify --state-directory-path /run/nfs
+    rpc.statd -L -P /run/nfs
     sleep 1
     mount.linux -t nfs -o vers=3,proto=tcp,lock "$server:/home" /mnt || fail "mount"
     for _ in $(seq 20); do
