@@ -4,12 +4,12 @@ virtual machines boot from the one (nfsroot=, Debian's own initramfs), build wha
 of shared homes under locks, beside contrib/lockd and with exports that contrib/nfsadm changes.
 
 It fetches Debian's kernel, initramfs-tools' words for it, and what the machines run (apt-get download). QEMU emulates
-them, so it takes some minutes; with --kvm the processor's help is used. Server and machines stand in a network of their
+them, so it takes some minutes. Server and machines stand in a network of their
 own (`unshare`), on a bridge.
 
 Wanted are root, and Debian's qemu-system-x86, busybox-static, initramfs-tools-core, klibc-utils, kmod and iproute2.
 
-usage: bench/uses.py [--kvm] [--folder FOLDER] [PROGRAM]
+usage: bench/uses.py FOLDER [PROGRAM]        FOLDER: for what is fetched; it stays for the next time
 """
 import contextlib
 import os
@@ -18,6 +18,7 @@ import re
 import shutil
 import subprocess
 import sys
+import tarfile
 import tempfile
 import time
 
@@ -38,10 +39,10 @@ SOURCES = 20
 
 
 def opened():
-    """The exports once all is in them: for the machines alone."""
-    hosts = list(GUESTS.values())
-    modes = {"/root": "ro", "/farm": "rw", "/home": "rw"}
-    return "".join(f"{path} {' '.join(f'{host}({mode})' for host in hosts)}\n" for path, mode in modes.items())
+    """The exports once all is in them: for the machines, and homes for this host too, which copies them out."""
+    exports = {"/root": "ro", "/farm": "rw", "/home": "rw"}
+    hosts = {path: [*GUESTS.values(), *["127.0.0.1"] * (path == "/home")] for path in exports}
+    return "".join(f"{path} -{mode} {' '.join(hosts[path])}\n" for path, mode in exports.items())
 
 
 def initrd(folder):
@@ -118,7 +119,7 @@ def network():
         linux.run("ip", "link", "set", name, "master", "br0", "up")
 
 
-def machine(folder, name, use, is_kvm):
+def machine(folder, name, use):
     """The words that start a machine."""
     number = list(GUESTS).index(name)
     told = {
@@ -130,7 +131,7 @@ def machine(folder, name, use, is_kvm):
     }  # fmt: skip
     words = " ".join(f"{key}={value}" for key, value in told.items())
     return (
-        "qemu-system-x86_64", "-accel", "kvm" if is_kvm else "tcg", "-m", "384", "-nographic", "-no-reboot",
+        "qemu-system-x86_64", "-m", "384", "-nographic", "-no-reboot",
         "-kernel", next(folder.glob("boot/vmlinuz-*")), "-initrd", folder / "initrd",
         "-append", f"{words} ro quiet no_timer_check",
         "-netdev", f"tap,id=net,ifname={name},script=no,downscript=no",
@@ -138,7 +139,7 @@ def machine(folder, name, use, is_kvm):
     )  # fmt: skip
 
 
-def lives(folder, use, is_kvm):
+def lives(folder, use):
     """What all machines say, from when they are switched on until they switch themselves off."""
     logs = {name: folder / f"{name}.{use}" for name in GUESTS}
     begin = time.monotonic()
@@ -146,7 +147,7 @@ def lives(folder, use, is_kvm):
         runs = []
         for name, log in logs.items():
             out = stack.enter_context(open(log, "wb"))
-            words = list(map(str, machine(folder, name, use, is_kvm)))
+            words = list(map(str, machine(folder, name, use)))
             runs.append(stack.enter_context(peers.process(*words, stdout=out, stderr=out, stdin=subprocess.DEVNULL)))
         for run in runs:
             with contextlib.suppress(subprocess.TimeoutExpired):
@@ -171,19 +172,19 @@ class Served(admin.Server):
 
 def main():
     words = nfsd.parser(__doc__)
-    words.add_argument("--kvm", action="store_true", help="with the processor's help")
-    words.add_argument("--folder", metavar="FOLDER", type=pathlib.Path, help="keep there what was fetched")
+    words.add_argument("folder", metavar="FOLDER", type=pathlib.Path, help="keeps what is fetched")
     words.add_argument("program", metavar="PROGRAM", nargs="?", default=nfsd.PROGRAM, help="the program (this one)")
     given = words.parse_args()
+    folder = given.folder.resolve()
+    if not folder.exists():
+        folder.mkdir()
+        linux.fetch(folder, *MORE)
     peers.go_apart()
     with contextlib.ExitStack() as stack:
-        folder = given.folder or pathlib.Path(stack.enter_context(tempfile.TemporaryDirectory()))
-        folder.mkdir(exist_ok=True)
         if not (folder / "initrd").exists():
-            linux.fetch(folder, *MORE)
             initrd(folder)
-        shutil.rmtree(folder / "root", ignore_errors=True)
-        shutil.rmtree(folder / "sources", ignore_errors=True)
+        for name in ("root", "sources"):
+            shutil.rmtree(folder / name, ignore_errors=True)
         work = pathlib.Path(stack.enter_context(tempfile.TemporaryDirectory()))
         network()
         server = stack.enter_context(Served(given.program, work))
@@ -193,11 +194,14 @@ def main():
             linux.run(CONTRIB / "carry", "in", source, path)
         (work / "exports").write_text(opened())
         print(server.told(*server.apply(work / "exports")), end="", flush=True)
-        farm = lives(folder, "farm", given.kvm)
+        farm = lives(folder, "farm")
         assert farm["one"][1] == farm["two"][1], "both build the same"
-        homes = lives(folder, "homes", given.kvm)
+        homes = lives(folder, "homes")
         assert homes["one"][1] == homes["two"][1] == "counted to 40, 2 files", homes
-        print(server.told("mounts"), end="")
+        linux.run(CONTRIB / "carry", "out", "/home", work / "homes.tar")
+        with tarfile.open(work / "homes.tar") as tar:
+            assert tar.extractfile("./count").read() == b"40\n"
+        print("homes: copied out")
 
 
 if __name__ == "__main__":
