@@ -4,8 +4,7 @@ virtual machines boot from the one (nfsroot=, Debian's own initramfs), build wha
 of shared homes under locks, beside contrib/lockd and with exports that contrib/nfsadm changes.
 
 It fetches Debian's kernel, initramfs-tools' words for it, and what the machines run (apt-get download). QEMU emulates
-them, so it takes some minutes. Server and machines stand in a network of their
-own (`unshare`), on a bridge.
+them, so it takes some minutes. Server and machines stand in a network of their own (`unshare`), on a bridge.
 
 Wanted are root, and Debian's qemu-system-x86, busybox-static, initramfs-tools-core, klibc-utils, kmod and iproute2.
 
@@ -23,16 +22,20 @@ import tempfile
 import time
 
 import admin
-import linux
 import nfsd
 import peers
+from peers import run
 
 HERE = pathlib.Path(__file__).resolve().parent
 CONTRIB = HERE.parent / "contrib"
 SERVER, GUESTS = "10.9.0.1", {"one": "10.9.0.11", "two": "10.9.0.12"}
 PATIENCE = 900  # seconds for a machine's whole life
-PROGRAMS = ("sbin/rpcbind", "sbin/rpc.statd", "usr/bin/tcc")
-MORE = ("rpcbind", "libwrap0", "tcc", "libc6-dev")
+PACKAGES = ("nfs-common", "libtirpc3", "rpcbind", "libwrap0", "tcc", "libc6-dev")
+PROGRAMS = ("sbin/mount.nfs", "sbin/rpcbind", "sbin/rpc.statd", "usr/bin/tcc")  # that are fetched
+OWN = {"/bin/mount": "bin/mount.linux", "/bin/umount": "bin/umount.linux",
+       "/usr/bin/make": "usr/bin/make", "/usr/bin/flock": "usr/bin/flock"}  # fmt: skip
+FOLDERS = ("bin", "sbin", "etc", "lib/x86_64-linux-gnu", "lib64", "mnt", "proc", "sys", "dev", "tmp", "run", "usr/bin",
+           "usr/lib/x86_64-linux-gnu", "var/lib/nfs")  # fmt: skip
 C_FILES = ("crt1.o", "crti.o", "crtn.o", "libc_nonshared.a")  # what a program is linked with
 LOADER = "ld-linux-x86-64.so.2"
 SOURCES = 20
@@ -45,10 +48,24 @@ def opened():
     return "".join(f"{path} -{mode} {' '.join(hosts[path])}\n" for path, mode in exports.items())
 
 
+def fetch(folder):
+    """Unpacks Debian's kernel and packages into the folder."""
+    kernel = re.search(r"Depends: (linux-image-\S+)", run("apt-cache", "depends", "linux-image-cloud-amd64"))[1]
+    run("apt-get", "download", kernel, *PACKAGES, cwd=folder, stderr=subprocess.DEVNULL)
+    for package in folder.glob("*.deb"):
+        run("dpkg", "-x", package, folder)
+
+
+def libraries(program, folder):
+    """The shared libraries that a program of Debian's loads, those that were fetched among them."""
+    searched = {"LD_LIBRARY_PATH": f"{folder}/usr/lib/x86_64-linux-gnu"}
+    return re.findall(r"(/\S+) \(0x", run("ldd", program, env=searched))
+
+
 def initrd(folder):
     """Debian's initramfs, which mounts a root by NFS."""
     modules = next(folder.glob("lib/modules/*"))
-    linux.run("depmod", "-b", folder, modules.name)
+    run("depmod", "-b", folder, modules.name)
     conf = folder / "initramfs"
     for name in ("conf.d", "hooks", "scripts"):
         (conf / name).mkdir(parents=True)
@@ -58,31 +75,33 @@ def initrd(folder):
     # (it looks for the kernel's modules and its configuration where a package puts them)
     for place, source in ((f"/usr/lib/modules/{modules.name}", modules), ("/boot", folder / "boot")):
         os.makedirs(place, exist_ok=True)
-        linux.run("mount", "--bind", source, place)
-    linux.run("mkinitramfs", "-d", conf, "-o", folder / "initrd", modules.name)
+        run("mount", "--bind", source, place)
+    run("mkinitramfs", "-d", conf, "-o", folder / "initrd", modules.name)
     return folder / "initrd"
 
 
 def root_of(folder):
     """The machines' root file system: BusyBox, what mounts and locks, a compiler and make."""
     root = folder / "root"
-    (root / "usr/bin").mkdir(parents=True)
-    linux.build(folder, root, "uses_init.sh", PROGRAMS)
-    for name in ("run", "usr/lib/x86_64-linux-gnu", "var/lib/nfs"):
-        (root / name).mkdir(parents=True, exist_ok=True)
-    for applet in linux.run("busybox", "--list").split():
-        if applet not in ("busybox", "rpcbind"):
+    for name in FOLDERS:
+        (root / name).mkdir(parents=True)
+    shutil.copy("/bin/busybox", root / "bin/busybox")
+    shutil.copy(HERE / "uses_init.sh", root / "init")
+    for applet in run("busybox", "--list").split():
+        if applet != "busybox":
             (root / "bin" / applet).symlink_to("busybox")
-    for program in ("/usr/bin/make", "/usr/bin/flock"):
-        shutil.copy(program, root / "usr/bin")
-        for library in linux.libraries(program, folder):
-            shutil.copy(library, root / ("lib64" if "ld-linux" in library else "lib/x86_64-linux-gnu"))
+    for program, name in [*OWN.items(), *((folder / name, name) for name in PROGRAMS)]:
+        shutil.copy(program, root / name)
+        for library in libraries(program, folder):
+            shutil.copy(library, root / ("lib64" if LOADER in library else "lib/x86_64-linux-gnu"))
     shutil.copytree(folder / "usr/lib/x86_64-linux-gnu/tcc", root / "usr/lib/x86_64-linux-gnu/tcc")
     for name in C_FILES:
         shutil.copy(folder / "usr/lib/x86_64-linux-gnu" / name, root / "usr/lib/x86_64-linux-gnu")
     for name, library in (("libc.so", "lib/x86_64-linux-gnu/libc.so.6"), (LOADER, f"lib64/{LOADER}")):
         (root / "usr/lib/x86_64-linux-gnu" / name).symlink_to(f"/{library}")
-    (root / "run/rpcbind").mkdir()
+    (root / "etc/protocols").write_text("tcp 6 TCP\nudp 17 UDP\n")
+    transports = ("udp tpi_clts v inet udp", "tcp tpi_cots_ord v inet tcp", "local tpi_cots_ord - loopback -")
+    (root / "etc/netconfig").write_text("".join(f"{each} - -\n" for each in transports))
     users = ("root:x:0:0:root:/:/bin/sh", "_rpc:x:0:0::/run/rpcbind:/bin/false", "statd:x:0:0::/:/bin/false")
     (root / "etc/passwd").write_text("".join(f"{user}\n" for user in users))
     (root / "etc/group").write_text("root:x:0:\n_rpc:x:0:\n")
@@ -111,12 +130,12 @@ def sources(folder):
 
 def network():
     """A bridge with a socket for each machine."""
-    linux.run("ip", "link", "add", "br0", "type", "bridge")
-    linux.run("ip", "addr", "add", f"{SERVER}/24", "dev", "br0")
-    linux.run("ip", "link", "set", "br0", "up")
+    run("ip", "link", "add", "br0", "type", "bridge")
+    run("ip", "addr", "add", f"{SERVER}/24", "dev", "br0")
+    run("ip", "link", "set", "br0", "up")
     for name in GUESTS:
-        linux.run("ip", "tuntap", "add", "dev", name, "mode", "tap")
-        linux.run("ip", "link", "set", name, "master", "br0", "up")
+        run("ip", "tuntap", "add", "dev", name, "mode", "tap")
+        run("ip", "link", "set", name, "master", "br0", "up")
 
 
 def machine(folder, name, use):
@@ -165,7 +184,7 @@ class Served(admin.Server):
 
     def __init__(self, program, folder):
         clients = ",".join(GUESTS.values())
-        words = linux.run(CONTRIB / "lockd", "--clients", clients, "--words").split()
+        words = run(CONTRIB / "lockd", "--clients", clients, "--words").split()
         exports = [f"{path},rw,127.0.0.1" for path in ("/root", "/farm", "/home")]
         super().__init__(program, folder, *exports, more=words, place="0.0.0.0:2049")
 
@@ -178,7 +197,7 @@ def main():
     folder = given.folder.resolve()
     if not folder.exists():
         folder.mkdir()
-        linux.fetch(folder, *MORE)
+        fetch(folder)
     peers.go_apart()
     with contextlib.ExitStack() as stack:
         if not (folder / "initrd").exists():
@@ -191,14 +210,14 @@ def main():
         words = ["--clients", ",".join(GUESTS.values()), "--server", f"{SERVER}:2049", "--from", SERVER]
         stack.enter_context(peers.process(CONTRIB / "lockd", *words, "--mapper", "own"))
         for source, path in ((root_of(folder), "/root"), (sources(folder), "/farm")):
-            linux.run(CONTRIB / "carry", "in", source, path)
+            run(CONTRIB / "carry", "in", source, path)
         (work / "exports").write_text(opened())
         print(server.told(*server.apply(work / "exports")), end="", flush=True)
         farm = lives(folder, "farm")
         assert farm["one"][1] == farm["two"][1], "both build the same"
         homes = lives(folder, "homes")
         assert homes["one"][1] == homes["two"][1] == "counted to 40, 2 files", homes
-        linux.run(CONTRIB / "carry", "out", "/home", work / "homes.tar")
+        run(CONTRIB / "carry", "out", "/home", work / "homes.tar")
         with tarfile.open(work / "homes.tar") as tar:
             assert tar.extractfile("./count").read() == b"40\n"
         print("homes: copied out")
