@@ -48,6 +48,7 @@ APART = "PEERS_APART"  # set where this runs in a view of its own
 BUSY = 0.33  # processors that others had, above which a machine is busy
 START = 20  # seconds for a server to listen
 WORKLOADS = [name for name in turns.WORKLOADS if name != "lock"]
+PROVED = "proved"
 PORT, MOUNT_PORT, NLM_PORT = 20490, 20491, 20492
 
 CONFIGURATION = """
@@ -188,7 +189,7 @@ def measured(given, folder):
     is_proved = given.program.resolve() == nfsd.PROGRAM
     told |= {
         "measured": datetime.datetime.now(datetime.timezone.utc).isoformat(timespec="seconds"),
-        "build": "proved" if is_proved else "not known to be proved",
+        "build": PROVED if is_proved else "not known to be proved",
         "sha256": hashlib.sha256(given.program.read_bytes()).hexdigest(),
         "ganesha": run("dpkg-query", "--show", "--showformat=${Version}", "nfs-ganesha"),
         "store": "MEM" if given.mem else "VFS on tmpfs",
@@ -229,7 +230,8 @@ def page(results):
         "# nfsd beside others", "",
         "`bench/peers.py` writes this page, from the files beside it. Calls a second over TCP on one machine, medians",
         "of the rounds; a ratio is the median of the rounds' ratios. `nothing` is a server that answers each call at",
-        "once and does nothing: what kernel, loopback and load generator allow at most.", "",
+        "once and does nothing: what kernel, loopback and load generator allow at most. How much a page of",
+        "READDIRPLUS holds is each server's own choice.", "",
         "## Now", "", *about(newest), "",
         "| | nfsd | ganesha | nothing | nfsd of nothing's | times ganesha's | µs of a processor: nfsd | ganesha |",
         "|---|---:|---:|---:|---:|---:|---:|---:|",
@@ -267,13 +269,13 @@ def row(workload, rounds):
 def by_commit(title, results, other):
     """A row for each commit: how many times the rate of another one nfsd's is."""
     names = [name for name in WORKLOADS if any(name in told["workloads"] for told in results)]
-    yield f"| {title} | {' | '.join(names)} | busy | build |"
+    yield f"| {title} | {' | '.join(names)} | busy | proved |"
     yield "|---|" + "---:|" * len(names) + "---:|---|"
     for told in reversed(results):
         rounds = told["workloads"]
         shares = (f"{times(rounds[name], NFSD, other):.2f}" if name in rounds else "" for name in names)
         busy = f"**{told['busy_processors']:.1f}**" if is_busy(told) else "no"
-        yield f"| `{told['commit'][:12]}` | {' | '.join(shares)} | {busy} | {told['build']} |"
+        yield f"| `{told['commit'][:12]}` | {' | '.join(shares)} | {busy} | {'yes' if told['build'] == PROVED else 'no'} |"
 
 
 def render():
