@@ -245,7 +245,7 @@ def is_careful(server, folder):
         assert told in said and b"apply\n" not in b"".join(heard), (said, heard)
         assert b"".join(heard).endswith(b"check\n")
     assert server.exports() == before
-    print(f"apply: nothing is handed in behind {len(answers)} answers")
+    print(f"apply: nothing is handed in after {len(answers)} answers")
 
 
 def hear(listener, answer, heard):

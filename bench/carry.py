@@ -2,7 +2,7 @@
 """Tries contrib/carry beside nfsd: a tree with what file systems have goes into an export and out again, as directories
 and as tars, through GNU's tar too; and a move to another server in the way of an upgrade, which contrib/nfsadm begins.
 
-Wanted is root, for owners and devices, and tar.
+It needs root, for owners and devices, and tar.
 
 usage: bench/carry.py [PROGRAM]
 """

@@ -6,16 +6,16 @@ nfs-ganesha is Debian's, and is installed where it isn't there, with rpcbind, wh
 `apt-get install`): use a machine that may have them. All servers run in a network and a file system view of their own
 (`unshare`), so no port of the machine is opened. It serves a tmpfs by its VFS, or with --mem its own store in memory;
 either way it writes nothing to a disk. Of its settings all that matter for speed are as Debian has them. Locks are left
-out, for which it wants a status monitor too.
+out, for which it needs a status monitor too.
 
 Calls, connections and rounds are those of bench/turns.py: each figure is the median of the rounds, and a ratio that of
 the rounds' ratios. Where other work had more than a third of a processor before, the page says that the machine was
 busy: such figures show that it runs, and no more.
 
-Wanted are root, Debian, gcc and git.
+It needs root, Debian, gcc and git.
 
     bench/peers.py                           measures crates/nfsd/out/nfsd, and writes the page
-    bench/peers.py --render                  writes the page anew
+    bench/peers.py --render                  writes the page again
 
 usage: bench/peers.py [--program PROGRAM] [--workloads A,B..] [--rounds N] [--seconds S] [--connections N] [--depth N]
                       [--mem] [--plain] [--render]

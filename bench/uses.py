@@ -6,7 +6,7 @@ of shared homes under locks, beside contrib/lockd and with exports that contrib/
 It fetches Debian's kernel, initramfs-tools' words for it, and what the machines run (apt-get download). QEMU emulates
 them, so it takes some minutes. Server and machines stand in a network of their own (`unshare`), on a bridge.
 
-Wanted are root, and Debian's qemu-system-x86, busybox-static, initramfs-tools-core, klibc-utils, kmod and iproute2.
+It needs root, and Debian's qemu-system-x86, busybox-static, initramfs-tools-core, klibc-utils, kmod and iproute2.
 
 usage: bench/uses.py FOLDER [PROGRAM]        FOLDER: for what is fetched; it stays for the next time
 """

@@ -230,7 +230,7 @@ class Server:
             xid = self.send(NFS, procedure, arguments)
 
     def nfs(self, procedure, arguments, what=""):
-        """The results, behind their status, of a call of NFS that has to be OK."""
+        """The results, after their status, of a call of NFS that has to be OK."""
         return ok(self.settled(procedure, self.send(NFS, procedure, arguments), arguments), what)
 
     # Of MOUNT, and what a root tells.
@@ -258,7 +258,7 @@ class Server:
 
 
 def ok(items, what=""):
-    """The results behind their status, which has to be OK."""
+    """The results after their status, which has to be OK."""
     status = items.word()
     if status:
         raise Failed(status, what)
