@@ -177,7 +177,7 @@ class Host:
     def __init__(self, address):
         self.listener = socket.create_server((address, 0))
         self.port = self.listener.getsockname()[1]
-        self.calls = queue.Queue()
+        self.came, self.calls = queue.Queue(), {}
         threading.Thread(target=self.work, daemon=True).start()
 
     def work(self):
@@ -189,10 +189,20 @@ class Host:
             with connection, connection.makefile("rwb") as stream:
                 mark = stream.read(4)
                 record = stream.read(struct.unpack(">I", mark)[0] & ~LAST)
-                self.calls.put(record)
+                self.came.put(record)
                 xid, _, _, _, _, procedure = struct.unpack_from(">6I", record)
                 if procedure == locking.GRANTED:
                     stream.write(struct.pack(">7I", LAST | 24, xid, 1, 0, 0, 0, PROC_UNAVAIL))
+
+    def call(self, xid):
+        """The call with this transaction id. A grant may come before results that were put before it."""
+        while xid not in self.calls:
+            record = self.came.get(timeout=PATIENCE)
+            self.calls[record[:4]] = record
+        return self.calls.pop(xid)
+
+    def is_left_alone(self):
+        return self.came.empty() and not self.calls
 
     def close(self):
         self.listener.shutdown(socket.SHUT_RDWR)
@@ -289,7 +299,7 @@ class Scene:
         if verb == "clock":
             raise LeftOut("the clock goes on")
         if verb == "unsent":
-            if not all(host.calls.empty() for host in self.hosts.values()):
+            if not all(host.is_left_alone() for host in self.hosts.values()):
                 raise Otherwise("something was sent")
         elif verb == "host":
             self.host = rest
@@ -321,7 +331,7 @@ class Scene:
         xid, (address, message) = words[:4], unstrung(words[4:])
         wanted = xid + struct.pack(">II", 0, 2) + message[:12] + bytes(16) + message[12:]
         try:
-            given = self.hosts[address].calls.get(timeout=PATIENCE)
+            given = self.hosts[address].call(xid)
         except queue.Empty:
             raise Otherwise("nothing is sent") from None
         if struct.unpack_from(">I", message, 8)[0] in (locking.GRANTED, GRANTED_MSG):

@@ -11,11 +11,16 @@ mod callbacks;
 mod clients;
 mod crowds;
 mod deaf;
+mod descriptors;
 mod eras;
 mod hosts;
 mod left;
+mod long;
 mod names;
+mod one_way;
 mod operators;
+mod peers;
+mod remains;
 mod sockets;
 mod waits;
 
@@ -91,8 +96,7 @@ fn is_served<R: Runtime + AllocGlobal + Eprint + Net<Listener = TcpListener, Str
     is_counted(rt, more, Patience::USUAL, visit, &[])
 }
 
-/// Serves a client on sockets of the system's choice, until so many connections have come and ended as the words say.
-/// Peers are waited for so long. Whether all went as it should, and all this was counted.
+/// Whether a client on sockets of the system's choice is served well, and all this was counted.
 fn is_counted<R: Runtime + AllocGlobal + Eprint + Net<Listener = TcpListener, Stream = TcpStream>>(
     rt: R,
     more: &[&str],
@@ -102,13 +106,26 @@ fn is_counted<R: Runtime + AllocGlobal + Eprint + Net<Listener = TcpListener, St
 ) -> Result<bool, Fail> {
     let counters = Counters::new(rt.alloc())?;
     let shared = Arc::try_clone(&counters)?;
+    let is_well = is_watched(rt, more, patience, visit, shared)?;
+    Ok(is_well && are_counted(&counters, counts))
+}
+
+/// Serves a client on sockets of the system's choice, until so many connections have come and ended as the words say.
+/// Peers are waited for so long, and what happens is counted here. Whether all went as it should.
+fn is_watched<R: Runtime + AllocGlobal + Eprint + Net<Listener = TcpListener, Stream = TcpStream>>(
+    rt: R,
+    more: &[&str],
+    patience: Patience,
+    visit: Visit,
+    counters: Arc<Counters>,
+) -> Result<bool, Fail> {
     let options = with_patience(options(rt.alloc(), more)?, patience);
     match Sockets::bind(&rt, rt.alloc(), &options) {
         Ok(sockets) => {
-            let (is_well, ended) = serve_beside(rt, options, sockets, shared, visit);
+            let (is_well, ended) = serve_beside(rt, options, sockets, counters, visit);
             let has_ended = has_ended(&ended, patience);
             drop(ended);
-            Ok(is_well && has_ended && are_counted(&counters, counts))
+            Ok(is_well && has_ended)
         }
         Err(exit) => {
             drop(exit);

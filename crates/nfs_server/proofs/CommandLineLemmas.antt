@@ -42,7 +42,8 @@ use Rattle.nfs_server.specs.declared.options.Options.{Options}
 use Rattle.nfs_server.specs.declared.options.Transport.{Transport}
 use Rattle.nfs_server.specs.declared.options.Transport.TheVariants.{Stdio, Network}
 use Rattle.nfs_server.specs.declared.exit.Exit.TheVariants.{Callback, CannotListen, CommandLine, Exports, Memory}
-use Rattle.nfs_server.specs.declared.exit.Exit.TheVariants.{NoRandomBytes, NoTransport, Receipts, StandardStream}
+use Rattle.nfs_server.specs.declared.exit.Exit.TheVariants.{NoDescriptors, NoRandomBytes, NoTransport, Receipts}
+use Rattle.nfs_server.specs.declared.exit.Exit.TheVariants.{StandardStream}
 
 nfsd_is_simple : is_simple nfsd ≡ true
 unfolding nfsd clap_on_literals
@@ -161,6 +162,7 @@ refuses_limit limit rows value Memory names other refused = tt
 refuses_limit limit rows value NoTransport names other refused = absurd refused
 refuses_limit limit rows value (Exports e) names other refused = absurd refused
 refuses_limit limit rows value (Callback number) names other refused = absurd refused
+refuses_limit limit rows value NoDescriptors names other refused = absurd refused
 refuses_limit limit rows value NoRandomBytes names other refused = absurd refused
 refuses_limit limit rows value StandardStream names other refused = absurd refused
 refuses_limit limit rows value Receipts names other refused = absurd refused
@@ -177,6 +179,7 @@ refused_host words m Memory parsed refused = tt
 refused_host words m NoTransport parsed refused = absurd refused
 refused_host words m (Exports e) parsed refused = absurd refused
 refused_host words m (Callback number) parsed refused = absurd refused
+refused_host words m NoDescriptors parsed refused = absurd refused
 refused_host words m NoRandomBytes parsed refused = absurd refused
 refused_host words m StandardStream parsed refused = absurd refused
 refused_host words m Receipts parsed refused = absurd refused
@@ -192,6 +195,7 @@ refused_limit words m Memory parsed refused = tt
 refused_limit words m NoTransport parsed refused = absurd refused
 refused_limit words m (Exports e) parsed refused = absurd refused
 refused_limit words m (Callback number) parsed refused = absurd refused
+refused_limit words m NoDescriptors parsed refused = absurd refused
 refused_limit words m NoRandomBytes parsed refused = absurd refused
 refused_limit words m StandardStream parsed refused = absurd refused
 refused_limit words m Receipts parsed refused = absurd refused
@@ -212,6 +216,7 @@ refused_transport words m host limits NoTransport parsed is its refused = (
 )
 refused_transport words m host limits (Exports e) parsed is its refused = absurd refused
 refused_transport words m host limits (Callback number) parsed is its refused = absurd refused
+refused_transport words m host limits NoDescriptors parsed is its refused = absurd refused
 refused_transport words m host limits NoRandomBytes parsed is its refused = absurd refused
 refused_transport words m host limits StandardStream parsed is its refused = absurd refused
 refused_transport words m host limits Receipts parsed is its refused = absurd refused
@@ -279,6 +284,7 @@ refuses_options words m limits transport (Callback number) parsed is_taken reads
 refuses_options words m limits transport Memory parsed is_taken reads refused = tt
 refuses_options words m limits transport (CommandLine e) parsed is_taken reads refused = absurd refused
 refuses_options words m limits transport NoTransport parsed is_taken reads refused = absurd refused
+refuses_options words m limits transport NoDescriptors parsed is_taken reads refused = absurd refused
 refuses_options words m limits transport NoRandomBytes parsed is_taken reads refused = absurd refused
 refuses_options words m limits transport StandardStream parsed is_taken reads refused = absurd refused
 refuses_options words m limits transport Receipts parsed is_taken reads refused = absurd refused
@@ -323,6 +329,7 @@ refuses_host rows Memory other refused = tt
 refuses_host rows NoTransport other refused = absurd refused
 refuses_host rows (Exports e) other refused = absurd refused
 refuses_host rows (Callback number) other refused = absurd refused
+refuses_host rows NoDescriptors other refused = absurd refused
 refuses_host rows NoRandomBytes other refused = absurd refused
 refuses_host rows StandardStream other refused = absurd refused
 refuses_host rows Receipts other refused = absurd refused

@@ -193,6 +193,12 @@ pub replied : (host : List ℕ) (n m : ℕ) (bytes : List ℕ) (answer : Answer)
 replied host n m bytes answer is number =
     record { answer = answer; answers = is; spelled = refl; number = number }
 
+-- from the host that it still is
+pub replied_along : (now host : List ℕ) (n m : ℕ) (bytes : List ℕ) (answer : Answer) → now ≡ host →
+    AnswersRecord n now bytes answer → m ≡ number_after n (Ok answer) → IsReply host n m bytes (reply_bytes answer)
+replied_along now host n m bytes answer at is number =
+    subst (λ (h : List ℕ). IsReply h n m bytes (reply_bytes answer)) at (replied now n m bytes answer is number)
+
 module _ (host : List ℕ) (n m : ℕ) (bytes reply : List ℕ) (is : IsReply host n m bytes reply)
     (old mid : ConnectionValue) (same : mid.records ≡ old.records) (more : waiting mid ≡ waiting old ++ reply) where
   -- its reply waits
@@ -224,6 +230,48 @@ module _ (host : List ℕ) (n m : ℕ) (bytes reply : List ℕ) (is : IsReply ho
   pub cuts_reply : (before after : Option (List ℕ)) → WritesPart before after (waiting mid) →
       Cuts host n bytes old before after
   cuts_reply before after part = inl (m, reply, is, subst (λ (l : List ℕ). WritesPart before after l) more part)
+
+-- ---- a record whose answer is sent apart, behind what waited
+module _ (host : List ℕ) (n m : ℕ) (bytes reply : List ℕ) (is : IsReply host n m bytes reply)
+    (old first mid : ConnectionValue) (before between after : Option (List ℕ)) (none : SendsAll old first)
+    (wrote : Appends before between (waiting old)) (same : mid.records ≡ first.records)
+    (more : waiting mid ≡ waiting first ++ reply) where
+  is_alone : waiting mid ≡ reply
+  is_alone = more ∙ ap (λ (v : ConnectionValue). waiting v ++ reply) none
+
+  -- all of it is sent
+  pub adds_apart : (new : ConnectionValue) → SendsAll mid new → Appends between after (waiting mid) →
+      Adds host n m bytes old new before after
+  adds_apart new all written = record {
+    reply = reply;
+    is_reply = is;
+    same =
+        ap (λ (v : ConnectionValue). v.records) all ∙ same ∙ ap (λ (v : ConnectionValue). v.records) none;
+    puts = record {
+      sent = waiting old ++ waiting mid;
+      whole =
+          ap (λ l. waiting old ++ l) (sym is_alone) ∙ sym (append-nil (waiting old ++ waiting mid))
+          ∙ ap (λ (v : ConnectionValue). (waiting old ++ waiting mid) ++ waiting v) (sym all);
+      written = Appends-trans before between after (waiting old) (waiting mid) wrote written;
+    };
+  }
+
+  -- or a beginning of it
+  pub cuts_apart : WritesPart between after (waiting mid) → Cuts host n bytes old before after
+  cuts_apart part =
+      inl (
+        m,
+        reply,
+        is,
+        record {
+          sent = waiting old ++ part.sent;
+          unsent = part.unsent;
+          whole =
+              ap (λ l. waiting old ++ l) (sym is_alone ∙ part.whole)
+              ∙ sym (append_assoc (waiting old) part.sent part.unsent);
+          written = Appends-trans before between after (waiting old) part.sent wrote part.written;
+        },
+      )
 
 -- it has no answer, and what waited is sent
 pub cuts_all : (host : List ℕ) (n : ℕ) (bytes : List ℕ) (old : ConnectionValue) (before after : Option (List ℕ)) →

@@ -14,8 +14,10 @@ use Rattle.nfs_server.proofs.clock.Latest.TheSendSync as latest
 use Rattle.nfs_server.proofs.clock.ServerClock.TheSendSync as clock
 use Rattle.nfs_server.proofs.network.wakeup.Wakeup.TheSendSync as wakeup
 use Rattle.nfs_server.proofs.network.counters.Counters.TheSendSync as counters
+use Rattle.nfs_server.proofs.network.drain.Drain.TheSendSync as drain
 use Rattle.nfs_server.proofs.network.failures.Failures.TheSendSync as failures
 use Rattle.nfs_server.proofs.network.jobs.Job.TheSendSync as job
+use Rattle.nfs_server.proofs.network.listings.Listings.TheSendSync as listings
 use Rattle.nfs_server.proofs.network.peer.PeerLink.TheSendSync as link
 use Rattle.nfs_server.proofs.network.mailbox.Mailbox.TheSendSync as mailbox
 use Rattle.nfs_server.proofs.network.permits.Gathering.TheSendSync as gathering
@@ -33,10 +35,19 @@ module _ (L : RattleType) (g : Ghosts L.Denot) (n : naming.Ghosts L.Denot) (s : 
       let sends = pool_send L g n s y in let syncs = pool_sync L g n s y in
       search (sendable, crosses, seat.the_send) depth 20
 
-  permits_send : IsSend (Permits.the_row L g n)
+  pub permits_send : IsSend (Permits.the_row L g n)
   permits_send =
       let permit = permit_send in
-      search (sendable, crosses, sender.the_send, receiver.the_send, gathering.the_send, gathering.the_sync) depth 20
+      search (
+        sendable,
+        crosses,
+        sender.the_send,
+        receiver.the_send,
+        gathering.the_send,
+        gathering.the_sync,
+        drain.the_send,
+        drain.the_sync,
+      ) depth 20
 
   pub service_send : IsSend (Service.the_row L g n)
   service_send =
@@ -49,8 +60,11 @@ module _ (L : RattleType) (g : Ghosts L.Denot) (n : naming.Ghosts L.Denot) (s : 
             (
               search (sendable, crosses, counters.the_send, counters.the_sync) depth 20,
               (
-                search sendable depth 20,
-                (search (sendable, crosses, latest.the_send, latest.the_sync) depth 20, tt),
+                search (sendable, crosses, listings.the_send, listings.the_sync) depth 20,
+                (
+                  search sendable depth 20,
+                  (search (sendable, crosses, latest.the_send, latest.the_sync) depth 20, tt),
+                ),
               ),
             ),
           ),

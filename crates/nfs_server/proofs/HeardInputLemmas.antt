@@ -8,37 +8,39 @@ use Rattle.std.proofs.KnownBytes.{Consumes-kept, Consumes-nil, Consumes-trans}
 use Rattle.nfs_machine.specs.Exports.{ExportValue}
 use Rattle.nfs_rpc.specs.Streams.{one_more}
 use Rattle.nfs_server.proofs.AnsweredLinesLemmas.{hears_read, stands_first}
-use Rattle.nfs_server.specs.Control.{Controls, DialogueValue, EndsBy, Finishes, Hears, SendsAll, Stands, Streams}
-use Rattle.nfs_server.specs.Control.{nothing_said}
+use Rattle.nfs_server.specs.Control.{Controls, DialogueValue, EndsBy, Finishes, Hears, SendsAll, Stands, Stops}
+use Rattle.nfs_server.specs.Control.{Streams, nothing_said}
 use Rattle.nfs_server.specs.declared.controlling.Applied.{Applied}
 use Rattle.nfs_server.specs.declared.controlling.ControlEnd.{ControlEnd}
-use Rattle.nfs_server.specs.declared.controlling.ControlEnd.TheVariants.{Input, Read, Write}
+use Rattle.nfs_server.specs.declared.controlling.ControlEnd.TheVariants.{Asked, Input, Read, Write}
 
 -- so much was read, by so many reads, and all lines of it are answered
-pub record Heard {F : Type 0} (calls : F → List ExportValue → Applied → F → Type 0) (caller : F)
-    (dialogue : DialogueValue) (now : F) (input left before after : Option (List ℕ)) (reads : ℕ) : Type 0 where
+pub record Heard {F : Type 0} (calls : F → List ExportValue → Applied → F → Type 0) (exports : List ExportValue)
+    (caller : F) (dialogue : DialogueValue) (now : F) (input left before after : Option (List ℕ)) (reads : ℕ) : Type
+    0 where
   pub seen : List ℕ
   pub taken : Consumes input left seen
   pub within : reads ≤ length seen
-  pub stands : Stands calls caller seen dialogue now before after
+  pub stands : Stands calls exports caller seen dialogue now before after
 
-module _ {F : Type 0} (calls : F → List ExportValue → Applied → F → Type 0) (caller : F) where
+module _ {F : Type 0} (calls : F → List ExportValue → Applied → F → Type 0) (exports : List ExportValue)
+    (caller : F) where
   pub heard_first : (input before : Option (List ℕ)) →
-      Heard calls caller nothing_said caller input input before before 0
+      Heard calls exports caller (nothing_said exports) caller input input before before 0
   heard_first input before = record {
     seen = [];
     taken = Consumes-nil input;
     within = omega arith;
-    stands = stands_first calls caller before;
+    stands = stands_first calls exports caller before;
   }
 
   -- a piece more
   pub heard_more : (old new : DialogueValue) (was now : F) (input left later before mid after : Option (List ℕ))
-      (reads : ℕ) (piece : List ℕ) → Heard calls caller old was input left before mid reads →
+      (reads : ℕ) (piece : List ℕ) → Heard calls exports caller old was input left before mid reads →
       Consumes left later piece → 0 < length piece →
-      ((seen : List ℕ) → Stands calls caller seen old was before mid →
-      Stands calls caller (seen ++ piece) new now before after) →
-      Heard calls caller new now input later before after (reads + 1)
+      ((seen : List ℕ) → Stands calls exports caller seen old was before mid →
+      Stands calls exports caller (seen ++ piece) new now before after) →
+      Heard calls exports caller new now input later before after (reads + 1)
   heard_more old new was now input left later before mid after reads piece h more some stands = record {
     seen = h.seen ++ piece;
     taken = Consumes-trans input left later h.seen piece h.taken more;
@@ -57,57 +59,68 @@ module _ {F : Type 0} (calls : F → List ExportValue → Applied → F → Type
 
   -- nothing is read any more
   pub controls_read : (old new : Streams) (dialogue : DialogueValue) (now : F) (left : Option (List ℕ)) (reads : ℕ) →
-      Heard calls caller dialogue now old.unread left old.written new.written reads → Keeps left new.unread →
+      Heard calls exports caller dialogue now old.unread left old.written new.written reads → Keeps left new.unread →
       (new.read_failures ≡ one_more old.read_failures) ⊎ (2 ^ 64 - 1 ≤ reads) → SendsAll old new →
-      Controls calls caller old new
+      Controls calls exports caller Read old new
   controls_read old new dialogue now left reads h keeps why sends = record {
-    ended = Read;
     seen = h.seen;
     unseen = [];
     taken = nothing_unseen old.unread new.unread h.seen (Consumes-kept old.unread left new.unread h.seen h.taken keeps);
-    hears = hears_read calls caller old.written h.seen dialogue now new.written h.stands;
+    hears = hears_read calls exports caller old.written h.seen dialogue now new.written h.stands;
     ends = (refl, endless h.seen reads _ h.within why, sends);
   }
+
+  stops_by : (ended : ControlEnd) (seen unseen : List ℕ) (old new : Streams) →
+      new.read_failures ≡ old.read_failures → Stops ended old.write_failures new.write_failures →
+      (ended ≡ Asked → old.all_sent ≡ true → new.all_sent ≡ true) → EndsBy ended seen unseen old new
+  stops_by Write seen unseen old new same stops sent = (same, stops)
+  stops_by Asked seen unseen old new same stops sent = (same, record { same = stops; sent = sent refl })
+  stops_by Input seen unseen old new same stops sent = absurd stops
+  stops_by Read seen unseen old new same stops sent = absurd stops
+
+  finishes_by : (ended : ControlEnd) (seen : List ℕ) (old new : Streams) → IsAtEnd new.unread →
+      new.read_failures ≡ old.read_failures → Finishes ended old.write_failures new.write_failures →
+      (ended ≡ Input → old.all_sent ≡ true → new.all_sent ≡ true) →
+      (ended ≡ Asked → old.all_sent ≡ true → new.all_sent ≡ true) → EndsBy ended seen [] old new
+  finishes_by Input seen old new end same finishes sent asked =
+      (refl, end, same, record { same = finishes; sent = sent refl })
+  finishes_by Write seen old new end same finishes sent asked = (same, finishes)
+  finishes_by Asked seen old new end same finishes sent asked =
+      (same, record { same = finishes; sent = asked refl })
+  finishes_by Read seen old new end same finishes sent asked = absurd finishes
 
   -- the input has ended
   pub controls_end : (old new : Streams) (ended : ControlEnd) (dialogue : DialogueValue) (now : F)
       (left mid : Option (List ℕ)) (reads : ℕ) →
-      Heard calls caller dialogue now old.unread left old.written mid reads → Consumes left new.unread [] →
+      Heard calls exports caller dialogue now old.unread left old.written mid reads → Consumes left new.unread [] →
       IsAtEnd new.unread → new.read_failures ≡ old.read_failures →
-      ((seen : List ℕ) → Stands calls caller seen dialogue now old.written mid →
-      Hears calls caller ended seen old.written new.written) →
+      ((seen : List ℕ) → Stands calls exports caller seen dialogue now old.written mid →
+      Hears calls exports caller ended seen old.written new.written) →
       Finishes ended old.write_failures new.write_failures →
-      (ended ≡ Input → old.all_sent ≡ true → new.all_sent ≡ true) → Controls calls caller old new
-  controls_end old new Input dialogue now left mid reads h nothing end same hears counts sent = record {
-    ended = Input;
+      (ended ≡ Input → old.all_sent ≡ true → new.all_sent ≡ true) →
+      (ended ≡ Asked → old.all_sent ≡ true → new.all_sent ≡ true) → Controls calls exports caller ended old new
+  controls_end old new ended dialogue now left mid reads h nothing end same hears finishes sent asked = record {
     seen = h.seen;
     unseen = [];
     taken = Consumes-trans old.unread left new.unread h.seen [] h.taken nothing;
     hears = hears h.seen h.stands;
-    ends = (refl, end, same, record { same = counts; sent = sent refl });
+    ends = finishes_by ended h.seen old new end same finishes sent asked;
   }
-  controls_end old new Write dialogue now left mid reads h nothing end same hears counts sent = record {
-    ended = Write;
-    seen = h.seen;
-    unseen = [];
-    taken = Consumes-trans old.unread left new.unread h.seen [] h.taken nothing;
-    hears = hears h.seen h.stands;
-    ends = (same, counts);
-  }
-  controls_end old new Read dialogue now left mid reads h nothing end same hears counts sent = absurd counts
 
-  -- an answer can't be written
-  pub controls_write : (old new : Streams) (dialogue : DialogueValue) (now : F) (left mid : Option (List ℕ)) (reads : ℕ)
-      (piece : List ℕ) → Heard calls caller dialogue now old.unread left old.written mid reads →
+  -- behind a line nothing is looked at
+  pub controls_stops : (old new : Streams) (ended : ControlEnd) (dialogue : DialogueValue) (now : F)
+      (left mid : Option (List ℕ)) (reads : ℕ) (piece : List ℕ) →
+      Heard calls exports caller dialogue now old.unread left old.written mid reads →
       Consumes left new.unread piece → new.read_failures ≡ old.read_failures →
-      new.write_failures ≡ one_more old.write_failures →
-      ((seen : List ℕ) → Stands calls caller seen dialogue now old.written mid →
+      Stops ended old.write_failures new.write_failures →
+      (ended ≡ Asked → old.all_sent ≡ true → new.all_sent ≡ true) →
+      ((seen : List ℕ) → Stands calls exports caller seen dialogue now old.written mid →
       (part : List ℕ) × (unseen : List ℕ) × (piece ≡ part ++ unseen)
-      × Hears calls caller Write (seen ++ part) old.written new.written) → Controls calls caller old new
-  controls_write old new dialogue now left mid reads piece h more same failed broken =
-      let (part, unseen, whole, hears) = broken h.seen h.stands in
+      × Hears calls exports caller ended (seen ++ part) old.written new.written) →
+      Controls calls exports caller ended old new
+  controls_stops old new ended dialogue now left mid reads piece h more same stops sent heard =
+      let (part, unseen, whole, hears) = heard h.seen h.stands in
       record {
-        ended = Write;
         seen = h.seen ++ part;
         unseen = unseen;
         taken =
@@ -115,7 +128,7 @@ module _ {F : Type 0} (calls : F → List ExportValue → Applied → F → Type
             (ap (λ l. h.seen ++ l) whole ∙ sym (append_assoc h.seen part unseen))
             (Consumes-trans old.unread left new.unread h.seen piece h.taken more);
         hears = hears;
-        ends = (same, failed);
+        ends = stops_by ended (h.seen ++ part) unseen old new same stops sent;
       }
 
 -- some bytes were read

@@ -2,6 +2,7 @@ mod AnsweredLinesLemmas
 mod AnswersToLemmas
 pub mod CallbackTextLemmas
 mod ConversationLemmas
+mod ChangesLemmas
 mod CrossingLemmas
 mod FragmentPieceLemmas
 mod HeardInputLemmas
@@ -12,3 +13,4 @@ pub mod CommandLineLemmas
 pub mod GrantedAnswerLemmas
 pub mod MessageSizes
 pub mod StartLemmas
+mod SharingLemmas

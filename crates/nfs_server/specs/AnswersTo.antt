@@ -1,6 +1,7 @@
 -- How a record that came in is answered.
 use Rattle.std.specs.Prelude.{◌≡◌, ◌<◌, ◌⊎◌, ℕ, List, [], ◌∷◌, ◌++◌, IsSome, Result, Ok}
-use Rattle.nfs_machine.specs.Run.{Arrival, FromHost}
+use Rattle.nfs_machine.specs.Exports.{ExportValue}
+use Rattle.nfs_machine.specs.Run.{Arrival, FromHost, NewExports}
 use Rattle.nfs_machine.specs.declared.moment.Moment.{Moment}
 use Rattle.nfs_engine.specs.Answers.{answer_of}
 use Rattle.nfs_engine.specs.Arrivals.{IsFaultedBy, incoming_value}
@@ -24,6 +25,12 @@ pub record HasReceipt (last_number : ℕ) (r : Arrival) (s : SeatValue) : Type 0
   pub last : s.receipts ≡ before ++ receipt ∷ []
   pub of_call : IsReceiptOf r receipt
   pub above : last_number < receipt.number
+
+-- these exports were put in the place of those before at some moment: a seat has the receipt of that
+pub record AreExecuted (last_number : ℕ) (exports : List ExportValue) : Type 0 where
+  pub moment : Moment
+  pub seat : SeatValue
+  pub has : HasReceipt last_number (NewExports exports moment) seat
 
 -- what came in has this fault
 abbrev pub IsFaulted : Arrival → Faulted → Type 0

@@ -11,7 +11,8 @@ use Rattle.side_wire.specs.declared.message.Callback.TheVariants.{Granted, Grant
 use Rattle.side_wire.specs.declared.message.Message.{Message}
 use Rattle.side_wire.specs.declared.nlm.NlmResult.{NlmResult}
 use Rattle.nfs_schedule.specs.declared.answer.Answer.{Answer}
-use Rattle.nfs_schedule.specs.declared.answer.Answer.TheVariants.{Executed}
+use Rattle.nfs_schedule.specs.declared.answer.Answer.TheVariants.{Executed, Refused}
+use Rattle.nfs_server.specs.AnswersTo.{AnswersRecord}
 use Rattle.nfs_server.specs.declared.callbacks.CallbackAddress.{CallbackAddress}
 use Rattle.nfs_server.specs.declared.network.dispatcher.Closed.{Closed}
 use Rattle.nfs_server.specs.declared.network.messages.Letter.{Letter}
@@ -48,6 +49,7 @@ SpellsAnswer xid granted bytes = (verifier : Value opaque_auth)
 abbrev pub IsNoAnswer : ℕ → List ℕ → Type 0
 IsNoAnswer xid bytes = (granted : NlmResult) → IsFrontedBy (SpellsAnswer xid) granted bytes → ⊥
 
+-- GRANTED is a call that has a reply; all other messages go one way
 abbrev pub IsGranted : Callback → Type 0
 IsGranted (Granted arguments) = Unit {0}
 IsGranted _ = ⊥
@@ -65,3 +67,14 @@ ComesIn number message answer (Some call) = IsGranted message.call
     × ((granted : NlmResult) × IsFrontedBy (SpellsAnswer (xid_of number)) granted answer
     × (call ≡ message_bytes (xid_of number) (record { host = message.host; call = GrantedRes granted })))
 ComesIn number message answer None = IsGranted message.call → IsNoAnswer (xid_of number) answer
+
+abbrev pub IsUnrefused : Answer → Type 0
+IsUnrefused (Refused declined) = ⊥
+IsUnrefused _ = Unit {0}
+
+-- A host's answer to a message was taken in: as a call, which was answered and not refused, or as nothing.
+abbrev pub IsTakenIn : (last_number : ℕ) (host : List ℕ) (number : ℕ) → Message → (answer : List ℕ) → Option Answer →
+    Type 0
+IsTakenIn last_number host number message answer (Some told) = (call : List ℕ)
+    × ComesIn number message answer (Some call) × AnswersRecord last_number host call told × IsUnrefused told
+IsTakenIn last_number host number message answer None = ComesIn number message answer None

@@ -1,6 +1,7 @@
 pub mod AnswersTo
 pub mod CalledBack
 pub mod Callbacks
+pub mod Changes
 pub mod Clocks
 pub mod CommandLine
 pub mod Control
@@ -14,3 +15,6 @@ pub mod Queued
 pub mod Stages
 pub mod Started
 pub mod Waits
+pub mod Closings
+pub mod Hosts
+pub mod Sharing

@@ -15,7 +15,7 @@ abbrev pub default_of : Limit → ℕ
 default_of Era = 65536
 default_of Cache = 1024
 default_of Workers = 4
-default_of Connections = 64
+default_of Connections = 1024
 
 abbrev pub most_of : Limit → ℕ
 most_of Era = 65536

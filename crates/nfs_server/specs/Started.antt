@@ -5,6 +5,7 @@ use Rattle.nfs_machine.specs.Opening.{opening}
 use Rattle.nfs_machine.specs.Run.{Setting}
 use Rattle.nfs_machine.specs.declared.moment.Moment.{Moment}
 use Rattle.nfs_engine.specs.Engine.{EngineValue}
+use Rattle.nfs_engine.specs.declared.opening.Config.{Config}
 use Rattle.nfs_streams.specs.Served.{ServesAll, ServesFront, StandsAt}
 use Rattle.nfs_streams.specs.Serving.{Standing}
 use Rattle.nfs_streams.specs.declared.serving.StreamFault.{StreamFault}
@@ -19,6 +20,18 @@ setting_of options otherwise =
     record {
       start = unwrap_or options.start otherwise;
       limits = record { total_bytes = options.bytes; name_key = options.name_key };
+    }
+
+-- what an engine is started with by these options, at this moment, and with this start number where they name none
+abbrev pub config_of : Options → (otherwise : ℕ) → Moment → Config
+config_of options otherwise moment =
+    record {
+      exports = options.exports;
+      start = (setting_of options otherwise).start;
+      moment = moment;
+      capacity = options.capacity;
+      limits = (setting_of options otherwise).limits;
+      era_records = options.era_records;
     }
 
 -- the opening state of these exports, in which no reply is kept

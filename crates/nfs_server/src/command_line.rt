@@ -71,7 +71,8 @@ const UDP_HELP: &str =
 const CALLBACK_HELP: &str =
     "Call the peer HOST back at this address when a lock that it waited for is its own; once or more";
 
-const CONTROL_HELP: &str = "Replace the exports as lines on standard input say; not with --stdio";
+const CONTROL_HELP: &str =
+    "Replace the exports, or end, as lines on standard input say; not with --stdio";
 
 const FILES: &str = "Files";
 
@@ -89,7 +90,7 @@ const LIMITS: &str = "Limits";
 const WORKERS_HELP: &str =
     "Have so many workers beside the connections' own threads, 1 to 64 [default: 4]";
 
-const CONNECTIONS_HELP: &str = "Have so many connections open at most, 1 to 1024 [default: 64]";
+const CONNECTIONS_HELP: &str = "Have so many connections open at most, 1 to 1024 [default: 1024]";
 
 const ACCEPT_HELP: &str = "End after so many connections have come and ended [default: 0, never]";
 

@@ -1,10 +1,10 @@
 //! The commands by which exports are gathered and handed in, line by line.
 
-ghost use Rattle.std.specs.Prelude.{◌≡◌, ◌∷◌, ◌++◌, [], OnErr, OnOk};
+ghost use Rattle.std.specs.Prelude.{◌≡◌, ◌∷◌, ◌++◌, [], map, IfOk, OnErr, OnOk};
 ghost use Rattle.nfs_server.specs.Control.{Makes, Takes};
-ghost use Rattle.nfs_server.specs.ExportTexts.{export_parts};
+ghost use Rattle.nfs_server.specs.ExportTexts.{export_parts, parts_of};
 
-use crate::exporting::export_text;
+use crate::exporting::{export_text, shared_text};
 use nfs_machine::{ExportError, ExportText, Exports};
 use std::alloc::{AllocError, Global};
 use std::marker::Model;
@@ -15,6 +15,12 @@ const ADD: &[u8] = b"add ";
 
 /// What hands the list in.
 const APPLY: &[u8] = b"apply";
+
+/// What asks what that would do.
+const CHECK: &[u8] = b"check";
+
+/// What asks for the program's end.
+const END: &[u8] = b"end";
 
 /// The exports that were added since they were handed in last.
 #[derive(Drop)]
@@ -38,6 +44,10 @@ pub enum Taken {
     Added,
     /// The list was handed in: its exports, or why there are none. It is empty.
     Apply(Result<Exports, ExportError>),
+    /// The exports of the list, or why there are none. The list is as it was.
+    Check(Result<Exports, ExportError>),
+    /// The program is to end.
+    End,
     /// The line is no command.
     Unknown,
     /// There was no memory for one more export. The list is as it was.
@@ -54,8 +64,8 @@ impl Commands {
         }
     }
 
-    /// Does what a line says, which is without its end: `add PATH,MODE,HOST[,HOST..]` or `apply`. An export is judged
-    /// as the list is handed in.
+    /// Does what a line says, which is without its end: `add PATH,MODE,HOST[,HOST..]`, `check`, `apply` or `end`. An
+    /// export is judged as the list is handed in, or checked.
     pub fn take(&mut self, alloc: Global, line: &[u8]) -> Taken
         ensures { Takes self.old line.now result self.new }
     {
@@ -67,6 +77,12 @@ impl Commands {
         }
         if line == APPLY {
             return Taken::Apply(self.hand_in(alloc));
+        }
+        if line == CHECK {
+            return Taken::Check(self.exports(alloc));
+        }
+        if line == END {
+            return Taken::End;
         }
         Taken::Unknown
     }
@@ -85,5 +101,25 @@ impl Commands {
     {
         let list = mem::replace(&mut self.list, Vec::new(alloc));
         Exports::new(alloc, list)
+    }
+
+    /// The exports of the list, which stays.
+    fn exports(&self, alloc: Global) -> Result<Exports, ExportError>
+        ensures { Makes self.now result }
+    {
+        match self.copy(alloc) {
+            Ok(list) => Exports::new(alloc, list),
+            Err(_) => Err(ExportError::Memory),
+        }
+    }
+
+    fn copy(&self, alloc: Global) -> Result<Vec<ExportText>, AllocError>
+        ensures { IfOk result (λ copies. map parts_of copies.items ≡ self.now) }
+    {
+        let mut copies = Vec::with_capacity(alloc, self.list.len())?;
+        for text in &self.list {
+            copies.push(shared_text(text)?)?;
+        }
+        Ok(copies)
     }
 }

@@ -1,12 +1,17 @@
 //! Exports that are replaced while the server runs, as lines of an operator say.
 
-ghost use Rattle.std.specs.Prelude.{◌≡◌, ◌++◌, ◌∷◌, [], ℕ, List, Option, IfOk, OnErr, OnOk, Some, codes, false, true};
+ghost use Rattle.std.specs.Prelude.{◌≡◌, ◌⊎◌, ◌++◌, ◌∷◌, [], ℕ, List, Option, IfErr, IfOk, OnErr, OnOk, Some, codes};
+ghost use Rattle.std.specs.Prelude.{false, true};
 ghost use Rattle.std.specs.Io.KnownBytes.{Appends};
 ghost use Rattle.nfs_rpc.specs.Streams.{one_more};
 ghost use Rattle.nfs_streams.specs.Sent.{WritesPart};
-ghost use Rattle.nfs_server.specs.Control.{Controls, Finishes, Hears, HoldsLine, IsAnswered, IsRefusal, Stands};
-ghost use Rattle.nfs_server.specs.Control.{Tells, bytes_of, nothing_said};
+ghost use Rattle.nfs_machine.specs.Exports.{ExportValue};
+ghost use Rattle.nfs_server.specs.Control.{ComesTo, Controls, Finishes, Hears, HoldsLine, IsAnswered, IsCompared};
+ghost use Rattle.nfs_server.specs.Control.{IsRefusal, LacksMemory, Stands, Stops, StopsBehind, Takes, Tells, bytes_of};
+ghost use Rattle.nfs_server.specs.Control.{nothing_said};
+ghost use Rattle.nfs_server.specs.ExportTexts.{Parts};
 
+use crate::changes::changes_line;
 use crate::commands::{Commands, Taken};
 use nfs_machine::{ExportError, Exports};
 use nfs_rpc::stream::{Sink, Source, StreamFailed};
@@ -38,14 +43,16 @@ pub enum Applied {
 }
 
 /// What ended it.
-#[derive(Clone, Copy)]
-pub(crate) enum ControlEnd {
+#[derive(Clone, Copy, Debug, PartialEq, Eq)]
+pub enum ControlEnd {
     /// The input's end.
     Input,
     /// A read that failed, or 2^64 - 1 reads.
     Read,
     /// A write that failed.
     Write,
+    /// A line that asks for the program's end.
+    Asked,
 }
 
 /// What a line is answered.
@@ -54,6 +61,8 @@ pub(crate) enum ControlAnswer {
     /// Nothing.
     Silent,
     Applied,
+    /// The line that says what exports would change.
+    Changes(Vec<u8>),
     OutOfMemory,
     /// The line that says what is wrong with the exports.
     Refused(Vec<u8>),
@@ -67,6 +76,7 @@ impl ControlAnswer {
         match self {
             ControlAnswer::Silent => &[],
             ControlAnswer::Applied => APPLIED_LINE,
+            ControlAnswer::Changes(line) => line.as_slice(),
             ControlAnswer::OutOfMemory => OUT_OF_MEMORY_LINE,
             ControlAnswer::Refused(line) => line.as_slice(),
             ControlAnswer::Unknown => UNKNOWN_LINE,
@@ -75,17 +85,19 @@ impl ControlAnswer {
 }
 
 /// Does what the lines of the input say, and answers them. `add PATH,MODE,HOST[,HOST..]` adds an export to a list, and
-/// is answered only where there is no memory for it; `apply` hands the list in and empties it. Each answer is a line
-/// that is written and sent on before the next line is looked at. It ends with the input, or where reading or writing
-/// fails.
+/// is answered only where there is no memory for it; `check` tells what the list would change of the exports that
+/// stand, at first these; `apply` hands the list in and empties it. Each answer is a line that is written and sent on
+/// before the next line is looked at. It ends with the input, at the line `end`, which is not answered, or where
+/// reading or writing fails; and it gives which.
 pub fn control<I: Source, O: Sink, F: FnMut(Exports) -> Applied>(
     alloc: Global,
+    standing: Exports,
     reader: &mut I,
     writer: &mut O,
     apply: F,
-)
+) -> ControlEnd
     requires { F.IsAlwaysCallable apply }
-    ensures { Controls F.step apply
+    ensures { Controls F.step standing apply result
         (record {
           unread = I.unread reader.old;
           written = O.written writer.old;
@@ -102,14 +114,15 @@ pub fn control<I: Source, O: Sink, F: FnMut(Exports) -> Applied>(
         }) }
 {
     let mut apply = apply;
-    let mut dialogue = Dialogue::new(alloc);
-    let _ = dialogue.run(alloc, reader, writer, &mut apply);
+    let mut dialogue = Dialogue::new(alloc, standing);
+    dialogue.run(alloc, reader, writer, &mut apply)
 }
 
-/// What was said so far: the exports that were added, and a line that is not ended.
+/// What was said so far: the exports that were added and those that stand, and a line that is not ended.
 #[derive(Drop)]
 struct Dialogue {
     commands: Commands,
+    standing: Exports,
     /// None where there was no memory for it.
     line: Option<Vec<u8>>,
 }
@@ -120,16 +133,20 @@ impl Model for Dialogue {
 
     ghost Value = { DialogueValue };
 
-    ghost view = { λ d. record { list = d.commands; held = option_map (λ line. line.items) d.line } };
+    ghost view = { λ d. record {
+      lists = record { added = d.commands; standing = d.standing };
+      held = option_map (λ line. line.items) d.line;
+    } };
 }
 
 impl Dialogue {
-    /// Nothing was said.
-    fn new(alloc: Global) -> Dialogue
-        ensures { result ≡ nothing_said }
+    /// Nothing was said, and these exports stand.
+    fn new(alloc: Global, standing: Exports) -> Dialogue
+        ensures { result ≡ nothing_said standing }
     {
         Dialogue {
             commands: Commands::new(alloc),
+            standing,
             line: Some(Vec::new(alloc)),
         }
     }
@@ -143,8 +160,8 @@ impl Dialogue {
         apply: &mut F,
     ) -> ControlEnd
         requires callable { F.IsAlwaysCallable apply.old }
-        requires first { self.old ≡ nothing_said }
-        ensures { Controls F.step apply.old
+        requires first { self.old ≡ nothing_said self.old.lists.standing }
+        ensures { Controls F.step self.old.lists.standing apply.old result
             (record {
               unread = I.unread reader.old;
               written = O.written writer.old;
@@ -168,59 +185,81 @@ impl Dialogue {
             if count == 0 {
                 return self.finish(alloc, writer, apply);
             }
-            let Ok(()) = self.take_in(alloc, &buffer[..count], writer, apply) else {
-                return ControlEnd::Write;
-            };
+            match self.take_in(alloc, &buffer[..count], writer, apply) {
+                Ok(()) => {}
+                Err(ended) => return ended,
+            }
         }
         ControlEnd::Read
     }
 
     /// Takes a piece of the input in, and answers the lines that end in it.
+    ///
+    /// # Errors
+    ///
+    /// What ended it: an answer that can't be written, or a line that asks for that.
     fn take_in<O: Sink, F: FnMut(Exports) -> Applied>(
         &mut self,
         alloc: Global,
         piece: &[u8],
         writer: &mut O,
         apply: &mut F,
-    ) -> Result<(), StreamFailed>
+    ) -> Result<(), ControlEnd>
         requires { F.IsAlwaysCallable apply.old }
         ensures callable { F.IsAlwaysCallable apply.new }
-        ensures ok { OnOk result ((caller : F) (seen : List ℕ) (before : Option (List ℕ)) →
-            Stands F.step caller seen self.old apply.old before (O.written writer.old) →
-            Stands F.step caller (seen ++ piece.now) self.new apply.new before (O.written writer.new)) }
-        ensures err { OnErr result ((caller : F) (seen : List ℕ) (before : Option (List ℕ)) →
-            Stands F.step caller seen self.old apply.old before (O.written writer.old) →
+        ensures ok { OnOk result ((exports : List ExportValue) (caller : F) (seen : List ℕ)
+            (before : Option (List ℕ)) →
+            Stands F.step exports caller seen self.old apply.old before (O.written writer.old) →
+            Stands F.step exports caller (seen ++ piece.now) self.new apply.new before (O.written writer.new)) }
+        ensures err { IfErr result (λ ended. (exports : List ExportValue) (caller : F) (seen : List ℕ)
+            (before : Option (List ℕ)) →
+            Stands F.step exports caller seen self.old apply.old before (O.written writer.old) →
             (part : List ℕ) × (unseen : List ℕ) × (piece.now ≡ part ++ unseen) ×
-            Hears F.step caller ControlEnd.Write (seen ++ part) before (O.written writer.new)) }
+            Hears F.step exports caller ended (seen ++ part) before (O.written writer.new)) }
         ensures sent { OnOk result (O.all_sent writer.old ≡ true → O.all_sent writer.new ≡ true) }
+        ensures asked { IfErr result (λ ended. ended ≡ ControlEnd.Asked → O.all_sent writer.old ≡ true →
+            O.all_sent writer.new ≡ true) }
         ensures fine { OnOk result (O.Counts.failures writer.new ≡ O.Counts.failures writer.old) }
-        ensures failed { OnErr result (O.Counts.failures writer.new ≡ one_more (O.Counts.failures writer.old)) }
+        ensures stops { IfErr result (λ ended.
+            Stops ended (O.Counts.failures writer.old) (O.Counts.failures writer.new)) }
     {
         'bytes: for byte in piece {
-            self.take_byte(alloc, *byte, writer, apply)?;
+            match self.take_byte(alloc, *byte, writer, apply) {
+                Ok(()) => {}
+                Err(ended) => return Err(ended),
+            }
         }
         Ok(())
     }
 
     /// Takes a byte of the input in, and answers the line that ends with it.
+    ///
+    /// # Errors
+    ///
+    /// As `take_in`.
     fn take_byte<O: Sink, F: FnMut(Exports) -> Applied>(
         &mut self,
         alloc: Global,
         byte: u8,
         writer: &mut O,
         apply: &mut F,
-    ) -> Result<(), StreamFailed>
+    ) -> Result<(), ControlEnd>
         requires { F.IsAlwaysCallable apply.old }
         ensures callable { F.IsAlwaysCallable apply.new }
-        ensures ok { OnOk result ((caller : F) (seen : List ℕ) (before : Option (List ℕ)) →
-            Stands F.step caller seen self.old apply.old before (O.written writer.old) →
-            Stands F.step caller (seen ++ byte ∷ []) self.new apply.new before (O.written writer.new)) }
-        ensures err { OnErr result ((caller : F) (seen : List ℕ) (before : Option (List ℕ)) →
-            Stands F.step caller seen self.old apply.old before (O.written writer.old) →
-            Hears F.step caller ControlEnd.Write (seen ++ byte ∷ []) before (O.written writer.new)) }
+        ensures ok { OnOk result ((exports : List ExportValue) (caller : F) (seen : List ℕ)
+            (before : Option (List ℕ)) →
+            Stands F.step exports caller seen self.old apply.old before (O.written writer.old) →
+            Stands F.step exports caller (seen ++ byte ∷ []) self.new apply.new before (O.written writer.new)) }
+        ensures err { IfErr result (λ ended. (exports : List ExportValue) (caller : F) (seen : List ℕ)
+            (before : Option (List ℕ)) →
+            Stands F.step exports caller seen self.old apply.old before (O.written writer.old) →
+            Hears F.step exports caller ended (seen ++ byte ∷ []) before (O.written writer.new)) }
         ensures sent { OnOk result (O.all_sent writer.old ≡ true → O.all_sent writer.new ≡ true) }
+        ensures asked { IfErr result (λ ended. ended ≡ ControlEnd.Asked → O.all_sent writer.old ≡ true →
+            O.all_sent writer.new ≡ true) }
         ensures fine { OnOk result (O.Counts.failures writer.new ≡ O.Counts.failures writer.old) }
-        ensures failed { OnErr result (O.Counts.failures writer.new ≡ one_more (O.Counts.failures writer.old)) }
+        ensures stops { IfErr result (λ ended.
+            Stops ended (O.Counts.failures writer.old) (O.Counts.failures writer.new)) }
     {
         if byte == b'\n' {
             return self.answer(alloc, writer, apply);
@@ -237,10 +276,11 @@ impl Dialogue {
         apply: &mut F,
     ) -> ControlEnd
         requires { F.IsAlwaysCallable apply.old }
-        ensures hears { (caller : F) (seen : List ℕ) (before : Option (List ℕ)) →
-            Stands F.step caller seen self.old apply.old before (O.written writer.old) →
-            Hears F.step caller result seen before (O.written writer.new) }
+        ensures hears { (exports : List ExportValue) (caller : F) (seen : List ℕ) (before : Option (List ℕ)) →
+            Stands F.step exports caller seen self.old apply.old before (O.written writer.old) →
+            Hears F.step exports caller result seen before (O.written writer.new) }
         ensures sent { result ≡ ControlEnd.Input → O.all_sent writer.old ≡ true → O.all_sent writer.new ≡ true }
+        ensures asked { result ≡ ControlEnd.Asked → O.all_sent writer.old ≡ true → O.all_sent writer.new ≡ true }
         ensures counts { Finishes result (O.Counts.failures writer.old) (O.Counts.failures writer.new) }
     {
         if self.is_at_start() {
@@ -248,7 +288,7 @@ impl Dialogue {
         }
         match self.answer(alloc, writer, apply) {
             Ok(()) => ControlEnd::Input,
-            Err(_) => ControlEnd::Write,
+            Err(ended) => ended,
         }
     }
 
@@ -265,7 +305,7 @@ impl Dialogue {
 
     /// A byte more of the line.
     fn push(&mut self, byte: u8)
-        ensures commands { self.new.list ≡ self.old.list }
+        ensures lists { self.new.lists ≡ self.old.lists }
         ensures line { (rest : List ℕ) → HoldsLine self.old.held rest →
             HoldsLine self.new.held (rest ++ byte ∷ []) }
     {
@@ -278,61 +318,87 @@ impl Dialogue {
     }
 
     /// Answers the line, and begins the next one.
+    ///
+    /// # Errors
+    ///
+    /// What ended it: the answer can't be written, or the line asks for that.
     fn answer<O: Sink, F: FnMut(Exports) -> Applied>(
         &mut self,
         alloc: Global,
         writer: &mut O,
         apply: &mut F,
-    ) -> Result<(), StreamFailed>
+    ) -> Result<(), ControlEnd>
         requires { F.IsAlwaysCallable apply.old }
         ensures callable { F.IsAlwaysCallable apply.new }
         ensures line { HoldsLine self.new.held [] }
         ensures ok { OnOk result ((line : List ℕ) → HoldsLine self.old.held line →
             (bytes : List ℕ) × Appends (O.written writer.old) (O.written writer.new) bytes ×
-            IsAnswered F.step self.old.list apply.old line bytes self.new.list apply.new) }
-        ensures err { OnErr result ((line : List ℕ) → HoldsLine self.old.held line →
-            (bytes : List ℕ) × WritesPart (O.written writer.old) (O.written writer.new) bytes ×
-            IsAnswered F.step self.old.list apply.old line bytes self.new.list apply.new) }
+            IsAnswered F.step self.old.lists apply.old line bytes self.new.lists apply.new) }
+        ensures err { IfErr result (λ ended. (line : List ℕ) → HoldsLine self.old.held line →
+            StopsBehind F.step self.old.lists apply.old line ended self.new.lists apply.new
+            (O.written writer.old) (O.written writer.new)) }
         ensures sent { OnOk result (O.all_sent writer.old ≡ true → O.all_sent writer.new ≡ true) }
+        ensures asked { IfErr result (λ ended. ended ≡ ControlEnd.Asked → O.all_sent writer.old ≡ true →
+            O.all_sent writer.new ≡ true) }
         ensures fine { OnOk result (O.Counts.failures writer.new ≡ O.Counts.failures writer.old) }
-        ensures failed { OnErr result (O.Counts.failures writer.new ≡ one_more (O.Counts.failures writer.old)) }
+        ensures stops { IfErr result (λ ended.
+            Stops ended (O.Counts.failures writer.old) (O.Counts.failures writer.new)) }
     {
-        let answer = self.answer_of(alloc, apply);
+        let answered = self.answer_of(alloc, apply);
         self.line = Some(Vec::new(alloc));
+        let Some(answer) = answered else {
+            return Err(ControlEnd::Asked);
+        };
         let sent = send(writer, answer.bytes());
         drop(answer);
-        sent
+        let Ok(()) = sent else {
+            return Err(ControlEnd::Write);
+        };
+        Ok(())
     }
 
-    /// What the line is answered.
+    /// What the line is answered; None where it asks for the end.
     fn answer_of<F: FnMut(Exports) -> Applied>(
         &mut self,
         alloc: Global,
         apply: &mut F,
-    ) -> ControlAnswer
+    ) -> Option<ControlAnswer>
         requires { F.IsAlwaysCallable apply.old }
         ensures callable { F.IsAlwaysCallable apply.new }
         ensures answers { (line : List ℕ) → HoldsLine self.old.held line →
-            IsAnswered F.step self.old.list apply.old line (bytes_of result) self.new.list apply.new }
+            ComesTo F.step self.old.lists apply.old line result self.new.lists apply.new }
     {
         match &self.line {
-            Some(line) => tell(alloc, self.commands.take(alloc, line.as_slice()), apply),
-            None => ControlAnswer::OutOfMemory,
+            Some(line) => {
+                let taken = self.commands.take(alloc, line.as_slice());
+                tell(alloc, taken, &mut self.standing, apply)
+            }
+            None => Some(ControlAnswer::OutOfMemory),
         }
     }
 }
 
-/// Tells what a line came to. Exports are handed in.
-fn tell<F: FnMut(Exports) -> Applied>(alloc: Global, taken: Taken, apply: &mut F) -> ControlAnswer
+/// Tells what a line came to. Exports are handed in, and stand where they were executed. None at the end that is asked
+/// for.
+fn tell<F: FnMut(Exports) -> Applied>(
+    alloc: Global,
+    taken: Taken,
+    standing: &mut Exports,
+    apply: &mut F,
+) -> Option<ControlAnswer>
     requires { F.IsAlwaysCallable apply.old }
     ensures callable { F.IsAlwaysCallable apply.new }
-    ensures tells { Tells F.step apply.old taken (bytes_of result) apply.new }
+    ensures tells { (list more : List Parts) (line : List ℕ) → Takes list line taken more →
+        ComesTo F.step (record { added = list; standing = standing.old }) apply.old line result
+        (record { added = more; standing = standing.new }) apply.new }
 {
     match taken {
-        Taken::Added => ControlAnswer::Silent,
-        Taken::Apply(exports) => hand_in(alloc, exports, apply),
-        Taken::Unknown => ControlAnswer::Unknown,
-        Taken::NoMemory => ControlAnswer::OutOfMemory,
+        Taken::Added => Some(ControlAnswer::Silent),
+        Taken::Apply(exports) => Some(hand_in(alloc, exports, standing, apply)),
+        Taken::Check(exports) => Some(compare(alloc, standing, exports)),
+        Taken::End => None,
+        Taken::Unknown => Some(ControlAnswer::Unknown),
+        Taken::NoMemory => Some(ControlAnswer::OutOfMemory),
     }
 }
 
@@ -340,16 +406,43 @@ fn tell<F: FnMut(Exports) -> Applied>(alloc: Global, taken: Taken, apply: &mut F
 fn hand_in<F: FnMut(Exports) -> Applied>(
     alloc: Global,
     exports: Result<Exports, ExportError>,
+    standing: &mut Exports,
     apply: &mut F,
 ) -> ControlAnswer
     requires { F.IsAlwaysCallable apply.old }
     ensures callable { F.IsAlwaysCallable apply.new }
-    ensures tells { Tells F.step apply.old (Taken.Apply exports) (bytes_of result) apply.new }
+    ensures tells { Tells F.step standing.old apply.old (Taken.Apply exports) (bytes_of result) standing.new apply.new
+        ⊎ LacksMemory standing.old apply.old (bytes_of result) standing.new apply.new }
+{
+    let exports = match exports {
+        Ok(exports) => exports,
+        Err(error) => return refusal(alloc, &error),
+    };
+    let Ok(shared) = exports.clone() else {
+        return ControlAnswer::OutOfMemory;
+    };
+    match apply(exports) {
+        Applied::Executed => {
+            *standing = shared;
+            ControlAnswer::Applied
+        }
+        Applied::Refused => ControlAnswer::OutOfMemory,
+    }
+}
+
+/// Tells what exports would change, or why there are none.
+fn compare(
+    alloc: Global,
+    standing: &Exports,
+    exports: Result<Exports, ExportError>,
+) -> ControlAnswer
+    ensures { IsCompared standing.now exports (bytes_of result)
+        ⊎ (bytes_of result ≡ bytes_of ControlAnswer.OutOfMemory) }
 {
     match exports {
-        Ok(exports) => match apply(exports) {
-            Applied::Executed => ControlAnswer::Applied,
-            Applied::Refused => ControlAnswer::OutOfMemory,
+        Ok(exports) => match changes_line(alloc, standing, &exports) {
+            Ok(line) => ControlAnswer::Changes(line),
+            Err(_) => ControlAnswer::OutOfMemory,
         },
         Err(error) => refusal(alloc, &error),
     }

@@ -31,6 +31,9 @@ pub enum Exit {
     /// There was no memory to begin to serve, or to take in a record or to answer it.
     #[error("nfsd: out of memory")]
     Memory,
+    /// Standard input, output or error may be closed, and nothing can be opened in its place.
+    #[error("nfsd: cannot open /dev/null")]
+    NoDescriptors,
     /// The system gave no random bytes to place names by.
     #[error("nfsd: no random bytes")]
     NoRandomBytes,
@@ -70,6 +73,7 @@ impl Exit {
             | Exit::Callback(_)
             | Exit::CannotListen(_)
             | Exit::Memory
+            | Exit::NoDescriptors
             | Exit::NoRandomBytes
             | Exit::StandardStream
             | Exit::Receipts => 1,

@@ -20,6 +20,17 @@ pub(crate) fn export_text(alloc: Global, text: &[u8]) -> Result<ExportText, Allo
     })
 }
 
+/// The same export, which shares the bytes of this one.
+pub(crate) fn shared_text(text: &ExportText) -> Result<ExportText, AllocError>
+    ensures { IfOk result (λ shared. parts_of shared ≡ parts_of text.now) }
+{
+    Ok(ExportText {
+        path: text.path.clone()?,
+        mode: text.mode.clone()?,
+        hosts: text.hosts.clone()?,
+    })
+}
+
 // What stands between the commas.
 fn fields<'a>(alloc: Global, text: &'a [u8]) -> Result<Vec<&'a [u8]>, AllocError>
     ensures { IfOk result (λ fields. map (λ field. field.now) fields.items

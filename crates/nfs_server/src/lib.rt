@@ -7,10 +7,12 @@
 #![tactic(auto)]
 
 mod callbacks;
+mod changes;
 mod clock;
 mod command_line;
 mod commands;
 mod controlling;
+mod descriptors;
 mod exit;
 mod exporting;
 mod keys;
@@ -29,7 +31,8 @@ pub use callbacks::{CallbackAddress, CallbackError, Callbacks};
 pub use clock::{FixedClock, Latest, MachineClock, ServerClock, start_number};
 pub use command_line::{arguments, configure};
 pub use commands::{Commands, Taken};
-pub use controlling::{Applied, control};
+pub use controlling::{Applied, ControlEnd, control};
+pub use descriptors::open_standard;
 pub use exit::Exit;
 pub use keys::name_key;
 pub use limits::{Limit, ServerLimits};

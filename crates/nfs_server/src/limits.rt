@@ -37,7 +37,7 @@ impl Limit {
             Limit::Era => 65_536,
             Limit::Cache => 1_024,
             Limit::Workers => 4,
-            Limit::Connections => 64,
+            Limit::Connections => 1_024,
         }
     }
 

@@ -3,21 +3,27 @@
 //! The thread that read a connection's bytes answers their records itself, on a permit that it takes for them, and the
 //! answers leave together. Workers answer datagrams. `docs/ARCHITECTURE.md` tells of the threads.
 
+mod account;
 mod connection_count;
 mod counters;
+mod descriptors;
 mod dispatcher;
+mod drain;
 mod failures;
 mod jobs;
 mod listening;
+mod listings;
 mod mailbox;
 mod messages;
 mod operating;
 mod peer;
 mod permits;
+mod presence;
 mod queue;
 mod reading;
 mod reporting;
 mod sending;
+mod sharing;
 mod sorting;
 mod tally;
 mod wakeup;
@@ -28,9 +34,12 @@ ghost use Rattle.nfs_server.specs.CommandLine.{AreWithin};
 
 use crate::callbacks::Callbacks;
 use crate::clock::{ServerClock, start_number};
+use crate::controlling::ControlEnd;
 use crate::exit::Exit;
 use crate::network::connection_count::ConnectionCount;
 pub use crate::network::counters::{CountedEvent, Counters, Gauge};
+use crate::network::descriptors::places;
+use crate::network::drain::Drain;
 use crate::network::failures::Failures;
 use crate::network::jobs::{JOBS, Job};
 pub use crate::network::listening::Sockets;
@@ -45,10 +54,10 @@ use crate::network::sorting::Sorter;
 pub use crate::network::tally::Tally;
 use crate::options::{Network, Options, Transport};
 use crate::runtime::{NetworkRuntime, Runtime};
-use crate::started::open;
+use crate::started::{Setup, config_of, open};
 use crossbeam_channel::{Receiver, bounded};
 use nfs_engine::{Config, Engine};
-use nfs_machine::{Limits, Moment, Moments};
+use nfs_machine::{Exports, Moment, Moments};
 use nfs_pool::{EraRoom, Naming, Opened, Pool, Seat};
 use std::alloc::{AllocError, Global};
 use std::marker::Brand;
@@ -56,6 +65,7 @@ use std::net::{TcpListener, UdpSocket};
 use std::sync::ledger::{Blank, Ledger};
 use std::sync::{Arc, Wait};
 use std::thread;
+use std::time::Instant;
 
 /// For how many connections there are permits beside those of the workers; more connections share them.
 const OWN_PERMITS: u64 = 64;
@@ -83,6 +93,8 @@ struct ServiceParts<O> {
     /// The moment at which the server began.
     begin: Moment,
     callbacks: Callbacks,
+    /// What is exported at first.
+    exports: Exports,
     operator: O,
 }
 
@@ -134,34 +146,19 @@ pub fn serve_operated<R: NetworkRuntime, O: Operator + Drop + Send + 'static>(
 ) -> Result<(), Exit>
     requires { AreWithin options }
 {
-    let Options {
-        exports,
-        start,
-        clock,
+    let exports = options.exports.clone()?;
+    let clock = options.clock;
+    let mut first = ServerClock::new(rt, clock);
+    let begin = first.moment();
+    let (config, setup) = config_of(options, start_number(&rt), begin);
+    let Setup {
         host,
-        bytes,
-        name_key,
-        era_records,
-        capacity,
         callbacks,
         transport,
-    } = options;
+    } = setup;
     drop(host);
     let Transport::Network(network) = transport else {
         return Err(Exit::NoTransport);
-    };
-    let mut first = ServerClock::new(rt, clock);
-    let begin = first.moment();
-    let config = Config {
-        exports,
-        start: start.unwrap_or(start_number(&rt)),
-        moment: begin,
-        capacity,
-        limits: Limits {
-            total_bytes: bytes,
-            name_key,
-        },
-        era_records,
     };
     let service = ServiceParts {
         sockets,
@@ -170,6 +167,7 @@ pub fn serve_operated<R: NetworkRuntime, O: Operator + Drop + Send + 'static>(
         clock,
         begin,
         callbacks,
+        exports,
         operator,
     };
     serve_from(rt, config, service)
@@ -258,17 +256,43 @@ fn start_service<
         clock,
         begin,
         callbacks,
+        exports,
         operator,
     } = parts;
     let (jobs, queue) = bounded(alloc, JOBS)?;
     let service = Service::new(alloc, permits, jobs, counters, clock, begin)?;
+    let network = within_descriptors(&rt, alloc, &sockets, network, &service.counters)?;
     start_reporter(rt, alloc, &service.counters, network.stats)?;
     start_workers(rt, alloc, &service, queue, network.workers)?;
     start_senders(rt, alloc, &service, callbacks)?;
     if network.control {
-        start_operator(rt, alloc, &service, operator)?;
+        start_operator(rt, alloc, &service, exports, operator)?;
     }
     attend(rt, alloc, sockets, network, service)
+}
+
+/// Lets no more connections in than there are descriptors for, and says so where these are fewer than the options name.
+fn within_descriptors<R: Eprint>(
+    rt: &R,
+    alloc: Global,
+    sockets: &Sockets,
+    network: Network,
+    counters: &Counters,
+) -> Result<Network, AllocError> {
+    let Some(listener) = &sockets.tcp else {
+        return Ok(network);
+    };
+    let mut network = network;
+    let most = network.connections;
+    let places = places(alloc, listener, most)?;
+    if places < most {
+        let _ = eprintln!(rt;
+            "nfsd: descriptors for {places} connections, and not for --connections {most}"
+        );
+    }
+    counters.set(Gauge::Places, places);
+    network.connections = places;
+    Ok(network)
 }
 
 /// A permit for each seat, and what ends eras, with room for all seats and to end an era in.
@@ -298,7 +322,8 @@ fn open_permits<L: Ledger + Naming, R: Wait, O>(
         counters: Arc::try_clone(&service.counters)?,
         kept,
     };
-    let permits = Permits::new(free, back, full, gathering);
+    let drain = Arc::new(alloc, Drain::new())?;
+    let permits = Permits::new(free, back, full, gathering, drain);
     Ok((permits, era_thread, seats, room))
 }
 
@@ -375,15 +400,28 @@ fn start_sender<L: Ledger + Naming + Send + Sync + 'static, R: NetworkRuntime>(
     Ok(())
 }
 
-/// Starts the thread that does what an operator's lines say. Nothing waits for its end.
+/// Starts the thread that does what an operator's lines say, where these exports stand. Nothing waits for its end;
+/// where a line asks for that of the program, it ends in order.
 fn start_operator<
     L: Ledger + Naming + Send + Sync + 'static,
     R: Runtime,
     O: Operator + Drop + Send + 'static,
->(rt: R, alloc: Global, service: &Service<L>, operator: O) -> Result<(), AllocError> {
+>(
+    rt: R,
+    alloc: Global,
+    service: &Service<L>,
+    exports: Exports,
+    operator: O,
+) -> Result<(), AllocError> {
     let mut dispatcher = service.dispatcher(rt)?;
+    let permits = service.permits.share()?;
     thread::spawn(&rt, move || {
-        operator.listen(alloc, |exports| dispatcher.replace(&rt, alloc, exports));
+        let ended = operator.listen(alloc, exports, |exports| {
+            dispatcher.replace(&rt, alloc, exports)
+        });
+        if let ControlEnd::Asked = ended {
+            permits.end(&rt);
+        }
     })?;
     Ok(())
 }
@@ -417,7 +455,11 @@ fn start_connections<L: Ledger + Naming + Send + Sync + 'static, R: Runtime>(
     network: Network,
     service: Service<L>,
 ) -> Result<(), AllocError> {
-    let connection_count = Arc::new(alloc, ConnectionCount::new())?;
+    let Ok(begin) = Instant::now(&rt) else {
+        return Err(AllocError);
+    };
+    let places = network.connections as usize;
+    let connection_count = Arc::new(alloc, ConnectionCount::new(alloc, places, begin)?)?;
     thread::spawn(&rt, move || {
         let_in(&rt, alloc, &listener, &network, &service, &connection_count);
         connection_count.wait(&rt);

@@ -1,7 +1,8 @@
 //! How long a peer is waited for, and a permit.
 
-ghost use Rattle.std.specs.Prelude.{◌≡◌, ◌||◌, if◌then◌else◌};
+ghost use Rattle.std.specs.Prelude.{◌≡◌, ◌-◌, ◌||◌, if◌then◌else◌};
 ghost use Rattle.std.specs.Duration.{as_nanos};
+ghost use Rattle.std.specs.Time.{instant_nanos};
 ghost use Rattle.nfs_server.specs.Stages.{behind, has_ended};
 ghost use Rattle.nfs_server.specs.Waits.{begins_anew, is_idle, left_of, limit_of, seconds_left};
 
@@ -30,6 +31,31 @@ impl Patience {
         answers: 30,
         permit: 3_600,
     };
+}
+
+/// Until when a peer has to have taken answers that are sent together. It is counted from before their first byte, and
+/// no byte that the peer takes puts it off.
+#[derive(Clone, Copy)]
+pub(crate) struct Deadline {
+    pub(crate) begun: Instant,
+    /// For how many seconds.
+    pub(crate) limit: u64,
+}
+
+impl Deadline {
+    /// So many seconds from then on.
+    pub(crate) fn new(begun: Instant, limit: u64) -> Deadline
+        ensures { result ≡ record { begun = begun; limit = limit } }
+    {
+        Deadline { begun, limit }
+    }
+
+    /// For how many seconds a peer may still be waited for; None where it is over.
+    pub(crate) fn left(&self, now: Instant) -> Option<u64>
+        ensures { result ≡ seconds_left (instant_nanos now - instant_nanos self.now.begun) self.now.limit }
+    {
+        seconds_left(now.duration_since(self.begun), self.limit)
+    }
 }
 
 /// What is waited for over a connection, and since when.
@@ -94,7 +120,7 @@ impl Watch {
 
 /// How many seconds are left of so many, where so much time has passed; None where none is. A second that has begun is
 /// left.
-pub(crate) fn seconds_left(passed: Duration, limit: u64) -> Option<u64>
+fn seconds_left(passed: Duration, limit: u64) -> Option<u64>
     ensures { result ≡ seconds_left (as_nanos passed) limit }
 {
     let passed = passed.as_secs();

@@ -6,12 +6,13 @@ ghost use Rattle.std.specs.Io.KnownBytes.{IsAtEnd};
 ghost use Rattle.nfs_engine.specs.Opening.{IsLimit, Opens};
 ghost use Rattle.nfs_rpc.specs.Streams.{one_more};
 ghost use Rattle.nfs_schedule.specs.Worlds.{IsAtRest};
-ghost use Rattle.nfs_server.specs.Started.{FailsFromStart, ServesFromStart};
+ghost use Rattle.nfs_server.specs.Started.{FailsFromStart, ServesFromStart, config_of};
 
+use crate::callbacks::Callbacks;
 use crate::exit::Exit;
-use crate::options::Options;
-use nfs_engine::{Config, Engine, StartError};
-use nfs_machine::{Limits, Moments};
+use crate::options::{Options, Transport};
+use nfs_engine::{Config, Engine, Host, StartError};
+use nfs_machine::{Limits, Moment, Moments};
 use nfs_rpc::stream::{Sink, Source};
 use nfs_streams::{Messages, Served, Serving, StreamFault, Witness, serve_with};
 use std::alloc::Global;
@@ -49,33 +50,15 @@ pub fn serve_options<C: Moments, R: Source, W: Sink, T: Witness>(
     ensures end { OnOk result (IsAtEnd (R.unread reader.new)) }
     ensures sent { OnOk result (W.all_sent writer.old ≡ true → W.all_sent writer.new ≡ true) }
 {
-    let Options {
-        exports,
-        start: named,
-        clock: _,
+    let moment = clock.moment();
+    let (config, setup) = config_of(options, start, moment);
+    let Setup {
         host,
-        bytes,
-        name_key,
-        era_records,
-        capacity,
         callbacks,
         transport,
-    } = options;
+    } = setup;
     drop(callbacks);
     drop(transport);
-    let limits = Limits {
-        total_bytes: bytes,
-        name_key,
-    };
-    let moment = clock.moment();
-    let config = Config {
-        exports,
-        start: named.unwrap_or(start),
-        moment,
-        capacity,
-        limits,
-        era_records,
-    };
     let mut engine = open(alloc, config)?;
     let serving = Serving {
         alloc,
@@ -92,6 +75,54 @@ pub fn serve_options<C: Moments, R: Source, W: Sink, T: Witness>(
         Ok(Served) => Ok(()),
         Err(fault) => Err(Exit::of(fault)),
     }
+}
+
+/// What the options say beside what an engine is started with.
+#[derive(Drop)]
+pub(crate) struct Setup {
+    /// The peer's host on standard streams.
+    pub(crate) host: Host,
+    pub(crate) callbacks: Callbacks,
+    pub(crate) transport: Transport,
+}
+
+/// What an engine is started with by these options, at this moment, and with this start number where they name none;
+/// and what else they say.
+pub(crate) fn config_of(options: Options, start: u64, moment: Moment) -> (Config, Setup)
+    ensures config { result.0 ≡ config_of options start moment }
+    ensures host { result.1.host ≡ options.host }
+    ensures callbacks { result.1.callbacks ≡ options.callbacks }
+    ensures transport { result.1.transport ≡ options.transport }
+{
+    let Options {
+        exports,
+        start: named,
+        clock: _,
+        host,
+        bytes,
+        name_key,
+        era_records,
+        capacity,
+        callbacks,
+        transport,
+    } = options;
+    let config = Config {
+        exports,
+        start: named.unwrap_or(start),
+        moment,
+        capacity,
+        limits: Limits {
+            total_bytes: bytes,
+            name_key,
+        },
+        era_records,
+    };
+    let setup = Setup {
+        host,
+        callbacks,
+        transport,
+    };
+    (config, setup)
 }
 
 /// The engine in its opening state.

@@ -3,7 +3,8 @@
 //! It has no contract: what its words mean, how they are refused and what is served is the library's.
 #![tactic(auto)]
 
-use nfs_server::{Exit, Operator, Runtime, arguments, configure, serve};
+use nfs_server::{Exit, Operator, Runtime, arguments, configure, open_standard, serve};
+use std::fs::{File, Files};
 use std::net::{Net, TcpListener, TcpStream};
 use std::process::ExitCode;
 use std::random::RandomSource;
@@ -24,6 +25,7 @@ fn run<
     R: Runtime
         + AllocGlobal
         + Env
+        + Files<File = File>
         + Input
         + Print
         + Eprint
@@ -31,6 +33,7 @@ fn run<
         + RandomSource
         + Net<Listener = TcpListener, Stream = TcpStream>,
 >(rt: R) -> Result<(), Exit> {
+    open_standard(&rt)?;
     let words = arguments(&rt)?;
     let options = configure(rt.alloc(), &words)?;
     serve(rt, options)

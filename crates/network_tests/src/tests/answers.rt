@@ -73,6 +73,8 @@ const CUT: [u32; 14] = [
     0x80000028, 1, 0, 2, 100003, 3, 0, 0, 0, 0, 0, 0x80000028, 1, 0,
 ];
 
+const HERE: &str = "127.0.0.1:0";
+
 const BY_TCP: [&str; 4] = ["--tcp", "127.0.0.1:0", "--accept", "1"];
 
 const BY_UDP: [&str; 6] = [
@@ -98,8 +100,8 @@ const ONE_AT_ONCE: [&str; 6] = [
 #[test]
 fn clients_are_answered(rt: HostRuntime) -> Result<(), Fail> {
     assert!(rt; is_served(rt, &BY_TCP, Visit::Connection(&EXCHANGES))?);
-    assert!(rt; is_served(rt, &BY_UDP, Visit::Datagrams(&EXCHANGES))?);
-    assert!(rt; is_served(rt, &BY_UDP, Visit::Datagrams(&GARBAGE))?);
+    assert!(rt; is_served(rt, &BY_UDP, Visit::Datagrams(HERE, &EXCHANGES))?);
+    assert!(rt; is_served(rt, &BY_UDP, Visit::Datagrams(HERE, &GARBAGE))?);
     Ok(())
 }
 

@@ -338,6 +338,6 @@ fn calls_that_are_sent_at_once(rt: HostRuntime) -> Result<(), Fail> {
 fn a_call_behind_each_error(rt: HostRuntime) -> Result<(), Fail> {
     assert!(rt; is_served(rt, &BY_TCP, Visit::Connection(&ERRORS))?);
     assert!(rt; is_served(rt, &ON_TWO_PLACES, Visit::Together(&ERRORS))?);
-    assert!(rt; is_served(rt, &BY_UDP, Visit::Datagrams(&ERRORS))?);
+    assert!(rt; is_served(rt, &BY_UDP, Visit::Datagrams("127.0.0.1:0", &ERRORS))?);
     Ok(())
 }

@@ -2,18 +2,22 @@
 
 use crate::tests::bursts::{are_answered_together, are_in_order};
 use crate::tests::callbacks::is_called_back;
-use crate::tests::crowds::all_play;
+use crate::tests::crowds::{all_play, are_let_in};
 use crate::tests::deaf::{Beside, are_answered};
 use crate::tests::hosts::{are_called_back, is_passed_over, is_told_beside};
 use crate::tests::left::are_done;
-use crate::tests::operators::is_operated;
+use crate::tests::one_way::are_not_waited_for;
+use crate::tests::operators::{Wish, is_operated};
+use crate::tests::remains::all_go;
 use crate::tests::waits::{are_closed, are_given_up};
-use nfs_server::SystemNet;
+use crate::tests::{descriptors, long};
+use nfs_server::{Counters, SystemNet};
 use std::alloc::{AllocError, Global};
 use std::io;
 use std::io::{ErrorKind, Read, Write};
 use std::net::{Shutdown, SocketAddr, TcpListener, TcpStream, UdpSocket};
 use std::rt::Clock;
+use std::sync::Arc;
 use std::thread::Threads;
 use std::time::Duration;
 
@@ -48,8 +52,16 @@ pub(super) enum Visit {
     Left,
     /// A peer that takes no answer, beside one that calls so and is answered.
     Deaf(Beside),
-    /// These exchanges by datagrams, which have no marks; then it opens a connection and closes it.
-    Datagrams(&'static [Exchange]),
+    /// This exchange over many connections, which are open at once.
+    Many(Exchange),
+    /// This exchange over connections that come before all descriptors are taken, while they are, and after that.
+    Exhausted(Exchange),
+    /// These exchanges by datagrams from this address, which have no marks; then it opens a connection and closes it.
+    Datagrams(&'static str, &'static [Exchange]),
+    /// A WRITE and a READ of 8 KiB by datagrams.
+    Long,
+    /// A file that is written and removed, where these counts tell of the objects that stand.
+    Remains(Arc<Counters>),
     /// A connection that is closed when the answer to this call has come and is not read; and one over which the call
     /// is sent twice again, and then this exchange.
     Lost(&'static [u32], Exchange),
@@ -73,8 +85,11 @@ pub(super) enum Visit {
     PassedOver(SocketAddr, TcpListener),
     /// The same of two hosts that are called back here, of which the first takes a call and does not answer.
     Unanswered(TcpListener, TcpListener),
-    /// An operator, who takes a connection here, replaces the exports.
-    Operated(SocketAddr),
+    /// An operator, who takes a connection here, has this done.
+    Operated(SocketAddr, Wish),
+    /// Calls whose results are messages, and a lock that is granted by one: a host takes them here, and sends nothing
+    /// back.
+    OneWay(TcpListener),
 }
 
 impl Visit {
@@ -95,7 +110,11 @@ impl Visit {
             Visit::Crowd => all_play(rt, tcp),
             Visit::Left => are_done(rt, tcp),
             Visit::Deaf(beside) => are_answered(rt, tcp, beside),
-            Visit::Datagrams(exchanges) => exchange_datagrams(rt, tcp, udp, exchanges),
+            Visit::Many(exchange) => are_let_in(rt, tcp, exchange),
+            Visit::Exhausted(exchange) => descriptors::are_let_in(rt, tcp, exchange),
+            Visit::Datagrams(from, exchanges) => exchange_datagrams(rt, tcp, udp, from, exchanges),
+            Visit::Long => long::are_answered(rt, tcp, udp),
+            Visit::Remains(counters) => all_go(rt, tcp, &counters),
             Visit::Lost(call, then) => lose(rt, tcp, call, then),
             Visit::Refused(exchange) => open_beside(rt, tcp, exchange, &[], false),
             Visit::Closed(exchange, words) => open_beside(rt, tcp, exchange, words, false),
@@ -106,7 +125,8 @@ impl Visit {
             Visit::Hosts(second, third) => are_called_back(rt, tcp, udp, &second, &third),
             Visit::PassedOver(second, third) => is_passed_over(rt, tcp, udp, second, &third),
             Visit::Unanswered(second, third) => is_told_beside(rt, tcp, udp, &second, &third),
-            Visit::Operated(operator) => is_operated(rt, tcp, operator),
+            Visit::Operated(operator, wish) => is_operated(rt, tcp, operator, wish),
+            Visit::OneWay(listener) => are_not_waited_for(rt, tcp, listener),
         };
         well.unwrap_or(false)
     }
@@ -233,12 +253,13 @@ fn exchange_datagrams<R: AllocGlobal + SystemNet>(
     rt: &R,
     tcp: SocketAddr,
     udp: Option<SocketAddr>,
+    from: &str,
     exchanges: &[Exchange],
 ) -> io::Result<bool> {
     let Some(udp) = udp else {
         return Ok(false);
     };
-    let socket = UdpSocket::bind(rt, "127.0.0.1:0")?;
+    let socket = UdpSocket::bind(rt, from)?;
     socket.set_read_timeout(Some(Duration::from_secs(PATIENCE)))?;
     let mut is_well = true;
     for each in exchanges {

@@ -1,7 +1,7 @@
 //! Clients at once: each makes, renames and removes a directory in the root, again and again, and sends each of these
 //! calls twice. Eras of three records end all the while (RFC 1813, 3.3.9, 3.3.13 and 3.3.14).
 
-use crate::tests::answers::GETATTR;
+use crate::tests::answers::{GETATTR, NULL};
 use crate::tests::clients::{Exchange, Visit, connect, exchange, next_record, send};
 use crate::tests::is_served;
 use crate::tests::names::{LOOKUP, NOENT, OK, RMDIR, is_answer, is_told, mkdir, on_name, rename};
@@ -108,6 +108,34 @@ pub(crate) fn all_play<R: AllocGlobal + Threads + Sync + SystemNet>(
     }
     let stream = connect(rt, tcp)?;
     Ok(is_well && exchange(rt.alloc(), &stream, CHANGED)?)
+}
+
+/// How many connections are open at once.
+const OPEN: usize = 16;
+
+/// Whether this exchange goes well over each of many connections, which are open at once.
+pub(crate) fn are_let_in<R: AllocGlobal + SystemNet>(
+    rt: &R,
+    tcp: SocketAddr,
+    each: Exchange,
+) -> io::Result<bool> {
+    let mut streams = Vec::new(rt.alloc());
+    for _ in 0..OPEN {
+        streams.push(connect(rt, tcp)?)?;
+    }
+    let mut is_well = true;
+    for stream in &streams {
+        is_well = is_well && exchange(rt.alloc(), stream, each)?;
+    }
+    Ok(is_well)
+}
+
+const SIXTEEN: [&str; 4] = ["--tcp", "127.0.0.1:0", "--accept", "16"];
+
+#[test]
+fn sixteen_connections_at_once(rt: HostRuntime) -> Result<(), Fail> {
+    assert!(rt; is_served(rt, &SIXTEEN, Visit::Many(NULL))?);
+    Ok(())
 }
 
 const FIVE: [&str; 6] = ["--tcp", "127.0.0.1:0", "--accept", "5", "--era", "3"];

@@ -129,7 +129,7 @@ fn all_wait<R: AllocGlobal + Net>(
 }
 
 /// The next connection that comes; an error where none comes in time.
-fn accepted<R: Clock>(rt: &R, listener: &TcpListener) -> io::Result<TcpStream> {
+pub(super) fn accepted<R: Clock>(rt: &R, listener: &TcpListener) -> io::Result<TcpStream> {
     listener.set_nonblocking(true)?;
     for _ in 0..LOOKS {
         match listener.accept() {

@@ -13,6 +13,8 @@ pub(super) const NOENT: u32 = 2;
 /// Procedures that take a name.
 pub(super) const LOOKUP: u32 = 3;
 
+pub(super) const REMOVE: u32 = 12;
+
 pub(super) const RMDIR: u32 = 13;
 
 /// How a client's change was answered.

@@ -9,8 +9,8 @@ use crate::tests::options;
 use nfs_machine::Exports;
 use nfs_rpc::stream::Counted;
 use nfs_server::{
-    Applied, Counters, NetworkRuntime, Operator, Options, Runtime, Sockets, SystemNet, control,
-    serve_operated,
+    Applied, ControlEnd, Counters, NetworkRuntime, Operator, Options, Runtime, Sockets, SystemNet,
+    control, serve_operated,
 };
 use std::alloc::Global;
 use std::io::{Read, Write};
@@ -26,10 +26,15 @@ struct Caller {
 }
 
 impl Operator for Caller {
-    fn listen<F: FnMut(Exports) -> Applied>(self, alloc: Global, apply: F) {
+    fn listen<F: FnMut(Exports) -> Applied>(
+        self,
+        alloc: Global,
+        standing: Exports,
+        apply: F,
+    ) -> ControlEnd {
         let mut reader = Counted::new(&self.stream);
         let mut writer = Counted::new(&self.stream);
-        control(alloc, &mut reader, &mut writer, apply);
+        control(alloc, standing, &mut reader, &mut writer, apply)
     }
 }
 
@@ -87,21 +92,42 @@ fn are_over(alloc: Global, operator: &TcpStream) -> io::Result<bool> {
     Ok(next(alloc, operator)?.is_empty())
 }
 
-/// Whether exports are replaced as an operator's lines say, and the client is served behind the last one too.
+/// What an operator wants.
+#[derive(Clone, Copy)]
+pub(super) enum Wish {
+    /// Other exports.
+    Replaced,
+    /// The server's end.
+    Ended,
+}
+
+/// Whether an operator's lines are answered, and a client beside that, as the operator's wish says.
 pub(super) fn is_operated<R: AllocGlobal + SystemNet>(
     rt: &R,
     tcp: SocketAddr,
     operator: SocketAddr,
+    wish: Wish,
 ) -> io::Result<bool> {
     let alloc = rt.alloc();
     let operator = connect(rt, operator)?;
     let stream = connect(rt, tcp)?;
+    match wish {
+        Wish::Replaced => is_replaced(alloc, &stream, &operator),
+        Wish::Ended => Ok(
+            exchange_each(alloc, &stream, &[OPENED])?
+                && are_answered(alloc, &operator, b"check\nend\n", b"keeps 0, drops /data\n")?,
+        ),
+    }
+}
+
+/// Whether exports are replaced as an operator's lines say, and the client is served behind the last one too.
+fn is_replaced(alloc: Global, stream: &TcpStream, operator: &TcpStream) -> io::Result<bool> {
     Ok(
-        exchange_each(alloc, &stream, &[OPENED])?
-            && are_answered(alloc, &operator, LINES, ANSWERS)?
-            && exchange_each(alloc, &stream, &REPLACED)?
-            && are_over(alloc, &operator)?
-            && exchange_each(alloc, &stream, &[GONE, NULL])?,
+        exchange_each(alloc, stream, &[OPENED])?
+            && are_answered(alloc, operator, LINES, ANSWERS)?
+            && exchange_each(alloc, stream, &REPLACED)?
+            && are_over(alloc, operator)?
+            && exchange_each(alloc, stream, &[GONE, NULL])?,
     )
 }
 
@@ -135,11 +161,12 @@ fn serve_beside<R: NetworkRuntime>(
     sockets: Sockets,
     listener: &TcpListener,
     operator: SocketAddr,
+    wish: Wish,
 ) -> bool
     requires { AreWithin options }
 {
     let tcp = sockets.tcp_address();
-    let visit = Visit::Operated(operator);
+    let visit = Visit::Operated(operator, wish);
     let client = thread::spawn(&rt, move || visit.is_well(&rt, tcp, None));
     let is_well = serve_operator(rt, options, sockets, listener);
     match client {
@@ -151,12 +178,14 @@ fn serve_beside<R: NetworkRuntime>(
 /// Whether a client is served on sockets of the system's choice, and an operator's lines are answered.
 fn is_served<R: Runtime + AllocGlobal + Eprint + Net<Listener = TcpListener, Stream = TcpStream>>(
     rt: R,
+    words: &[&str],
+    wish: Wish,
 ) -> Result<bool, Fail> {
     let listener = TcpListener::bind(&rt, "127.0.0.1:0")?;
     let operator = listener.local_addr()?;
-    let options = options(rt.alloc(), &OPERATED)?;
+    let options = options(rt.alloc(), words)?;
     match Sockets::bind(&rt, rt.alloc(), &options) {
-        Ok(sockets) => Ok(serve_beside(rt, options, sockets, &listener, operator)),
+        Ok(sockets) => Ok(serve_beside(rt, options, sockets, &listener, operator, wish)),
         Err(exit) => {
             drop(exit);
             drop(options);
@@ -165,10 +194,17 @@ fn is_served<R: Runtime + AllocGlobal + Eprint + Net<Listener = TcpListener, Str
     }
 }
 
-const OPERATED: [&str; 5] = ["--control", "--tcp", "127.0.0.1:0", "--accept", "1"];
-
 #[test]
 fn an_operator_replaces_the_exports(rt: HostRuntime) -> Result<(), Fail> {
-    assert!(rt; is_served(rt)?);
+    let words = ["--control", "--tcp", "127.0.0.1:0", "--accept", "1"];
+    assert!(rt; is_served(rt, &words, Wish::Replaced)?);
+    Ok(())
+}
+
+/// A server that lets in whoever comes ends where its operator asks for that.
+#[test]
+fn an_operator_ends_the_server(rt: HostRuntime) -> Result<(), Fail> {
+    let words = ["--control", "--tcp", "127.0.0.1:0"];
+    assert!(rt; is_served(rt, &words, Wish::Ended)?);
     Ok(())
 }

@@ -66,6 +66,14 @@ const NLM: [&str; 24] = [
     "free_all",
 ];
 
+/// The procedure MNT of MOUNT (RFC 1813, 5.2.1).
+const MNT: u32 = 1;
+
+/// Statuses of NFS (RFC 1813, 2.6).
+const STALE: u32 = 70;
+
+const JUKEBOX: u32 = 10_008;
+
 /// What is counted beside calls.
 #[derive(Clone, Copy)]
 pub enum CountedEvent {
@@ -87,8 +95,24 @@ pub enum CountedEvent {
     Late,
     /// A connection was closed for want of memory.
     Starved,
-    /// A connection was closed at once, since as many were open as may be.
+    /// A connection was closed for another one, which has its place.
+    GaveWay,
+    /// A connection was closed since no thread could be started for it.
+    NoThread,
+    /// A connection was closed at once, since as many were open as may be, and none gave way.
     TurnedAway,
+    /// A connection could not be taken, since no descriptor was left.
+    NoDescriptor,
+    /// Bytes came over a connection, or in a datagram.
+    BytesRead,
+    /// Bytes went over a connection, or in a datagram.
+    BytesWritten,
+    /// A call of MNT was refused.
+    MountRefused,
+    /// A call of NFS was answered STALE: its handle names nothing, or its export does not admit its host.
+    Stale,
+    /// A call of NFS was answered JUKEBOX: it may be sent again.
+    Jukebox,
     /// A datagram came.
     Datagram,
     /// A datagram was dropped for want of memory.
@@ -116,7 +140,15 @@ impl CountedEvent {
             CountedEvent::Failed => "failed",
             CountedEvent::Late => "late",
             CountedEvent::Starved => "starved",
+            CountedEvent::GaveWay => "gave_way",
+            CountedEvent::NoThread => "no_thread",
             CountedEvent::TurnedAway => "turned_away",
+            CountedEvent::NoDescriptor => "no_descriptor",
+            CountedEvent::BytesRead => "bytes_read",
+            CountedEvent::BytesWritten => "bytes_written",
+            CountedEvent::MountRefused => "mounts_refused",
+            CountedEvent::Stale => "stale",
+            CountedEvent::Jukebox => "jukebox",
             CountedEvent::Datagram => "datagrams",
             CountedEvent::DatagramDropped => "datagrams_dropped",
             CountedEvent::Sent => "messages_sent",
@@ -130,6 +162,8 @@ impl CountedEvent {
 /// How much of something there is.
 #[derive(Clone, Copy)]
 pub enum Gauge {
+    /// Connections that may be open at once.
+    Places,
     /// Objects that stand in the store: its addresses at which something stands.
     Objects,
     /// Hosts of which replies are kept.
@@ -144,6 +178,7 @@ impl Gauge {
     /// By which name it is told.
     fn name(self) -> &'static str {
         match self {
+            Gauge::Places => "places",
             Gauge::Objects => "objects",
             Gauge::KeptHosts => "kept_hosts",
             Gauge::KeptReplies => "kept_replies",
@@ -174,18 +209,27 @@ impl Told {
 }
 
 /// What is told of the network, in this order: all that is counted.
-const OF_NETWORK: [Told; 21] = [
+const OF_NETWORK: [Told; 30] = [
     Told::Connections,
+    Told::Gauge(Gauge::Places),
     Told::Event(CountedEvent::Repeated),
     Told::Event(CountedEvent::Refused),
     Told::Event(CountedEvent::Faulty),
     Told::Event(CountedEvent::Unanswered),
+    Told::Event(CountedEvent::MountRefused),
+    Told::Event(CountedEvent::Stale),
+    Told::Event(CountedEvent::Jukebox),
     Told::Event(CountedEvent::Opened),
     Told::Event(CountedEvent::Ended),
     Told::Event(CountedEvent::Failed),
     Told::Event(CountedEvent::Late),
     Told::Event(CountedEvent::Starved),
+    Told::Event(CountedEvent::GaveWay),
+    Told::Event(CountedEvent::NoThread),
     Told::Event(CountedEvent::TurnedAway),
+    Told::Event(CountedEvent::NoDescriptor),
+    Told::Event(CountedEvent::BytesRead),
+    Told::Event(CountedEvent::BytesWritten),
     Told::Event(CountedEvent::Datagram),
     Told::Event(CountedEvent::DatagramDropped),
     Told::Event(CountedEvent::Sent),
@@ -269,15 +313,30 @@ impl Counters {
         }
     }
 
-    /// Counts a call, and that it came again or was refused.
+    /// Counts a call, what its status tells, and that it came again or was refused.
     fn count_called(&self, answer: &Answer) {
         if let Incoming::Record(received) = answer.received() {
-            self.count_call(&received.message);
+            if let Some((program, procedure)) = called(&received.message) {
+                count(self.calls(program), procedure as usize);
+                self.count_status(program, procedure, answer.bytes());
+            }
         }
         match answer {
             Answer::Repeated(_) => self.happened(CountedEvent::Repeated),
             Answer::Refused(_) => self.happened(CountedEvent::Refused),
             Answer::Executed(_) | Answer::Early(_) | Answer::Unanswered(_) => {}
+        }
+    }
+
+    /// Counts what the status tells with which a call was answered.
+    fn count_status(&self, program: Program, procedure: u32, reply: &[u8]) {
+        match (program, status_of(reply)) {
+            (Program::Nfs, Some(STALE)) => self.happened(CountedEvent::Stale),
+            (Program::Nfs, Some(JUKEBOX)) => self.happened(CountedEvent::Jukebox),
+            (Program::Mount, Some(status)) if procedure == MNT && status != 0 => {
+                self.happened(CountedEvent::MountRefused)
+            }
+            _ => {}
         }
     }
 
@@ -293,9 +352,21 @@ impl Counters {
         count(&self.events, event as usize);
     }
 
+    /// Counts so many of these.
+    pub fn add(&self, event: CountedEvent, more: u64) {
+        if let Some(count) = self.events.get(event as usize) {
+            count.fetch_add(more, Ordering::Relaxed);
+        }
+    }
+
     /// How often this happened.
     pub fn of(&self, event: CountedEvent) -> u64 {
         counted(&self.events, event as usize)
+    }
+
+    /// How much of this there is.
+    pub fn level(&self, gauge: Gauge) -> u64 {
+        counted(&self.gauges, gauge as usize)
     }
 
     /// There is so much of this now.
@@ -312,6 +383,8 @@ impl Counters {
             .saturating_sub(self.of(CountedEvent::Failed))
             .saturating_sub(self.of(CountedEvent::Late))
             .saturating_sub(self.of(CountedEvent::Starved))
+            .saturating_sub(self.of(CountedEvent::GaveWay))
+            .saturating_sub(self.of(CountedEvent::NoThread))
     }
 
     /// All counts as words `NAME=VALUE`; of the procedures those that were called.
@@ -336,7 +409,7 @@ impl Counters {
         match told {
             Told::Connections => self.connections(),
             Told::Event(event) => self.of(event),
-            Told::Gauge(gauge) => counted(&self.gauges, gauge as usize),
+            Told::Gauge(gauge) => self.level(gauge),
         }
     }
 
@@ -400,10 +473,20 @@ fn add_calls(
 }
 
 /// The program and the procedure that a record calls: its fourth and its sixth word (RFC 5531, section 9).
-fn called(record: &Record) -> Option<(Program, u32)> {
+pub(crate) fn called(record: &Record) -> Option<(Program, u32)> {
     let bytes = record.as_slice();
     let program = Program::from_number(word_at(bytes, 12)?)?;
     Some((program, word_at(bytes, 20)?))
+}
+
+/// The status of a reply that is accepted and done: its first word behind that, where it has one. The fragment's mark is
+/// in front, and no verifier has a body (RFC 5531, sections 9 and 11).
+fn status_of(reply: &[u8]) -> Option<u32> {
+    if word_at(reply, 12)? == 0 && word_at(reply, 24)? == 0 {
+        word_at(reply, 28)
+    } else {
+        None
+    }
 }
 
 /// The word at a place.

@@ -1,19 +1,24 @@
 //! What answers records: each is executed on a permit, and no permit is held while answers are sent.
 
 ghost use Rattle.std.specs.Prelude.{◌≡◌, ◌++◌, ◌+◌, ◌<◌, ◌≤◌, ℕ, List, Option, [], false, true, length};
-ghost use Rattle.std.specs.Prelude.{IfErr, IfNone, IfOk, IsSome, OnErr, OnOk};
+ghost use Rattle.std.specs.Prelude.{Decides, IfErr, IfNone, IfOk, IsSome, Ok, OnErr, OnOk};
+ghost use Rattle.std.specs.IoError.{error_kind};
 ghost use Rattle.nfs_machine.specs.Run as machine;
 ghost use Rattle.nfs_engine.specs.Arrivals.{incoming_value, received_value};
 ghost use Rattle.nfs_schedule.specs.Answers.{reply_bytes};
 ghost use Rattle.nfs_streams.specs.Connections.{waiting};
-ghost use Rattle.nfs_server.specs.AnswersTo.{AnswersRecord, GainsAtMostOne, HandsBack, HasReceipt, IsAnswerTo};
-ghost use Rattle.nfs_server.specs.AnswersTo.{IsTold, number_after};
+ghost use Rattle.nfs_server.specs.AnswersTo.{AnswersRecord, AreExecuted, GainsAtMostOne, HandsBack, HasReceipt};
+ghost use Rattle.nfs_server.specs.AnswersTo.{IsAnswerTo, IsTold, number_after};
+ghost use Rattle.nfs_server.specs.Control.{is_executed};
 ghost use Rattle.nfs_server.specs.CalledBack.{MayHavePosted};
+ghost use Rattle.nfs_server.specs.Closings.{closed_of};
 ghost use Rattle.nfs_server.specs.Conversations.{Adds, Cuts, GoesOn, IsCutOff};
 
 use crate::clock::ServerClock;
 use crate::controlling::Applied;
+use crate::network::account::Charge;
 use crate::network::counters::Counters;
+use crate::network::listings::{Listing, Listings};
 use crate::network::peer::{Peer, PeerLink};
 use crate::network::permits::{Permit, Permits};
 use crate::network::wakeup::Wakeup;
@@ -41,6 +46,10 @@ const MOST_TURNS: usize = 64;
 pub(crate) enum Closed {
     /// A read or a write failed, or a record was too large.
     Failed,
+    /// Its peer reset it between two records.
+    Left,
+    /// Another connection has its place.
+    GaveWay,
     /// The peer was waited for too long.
     Late,
     /// There was no memory for a record or its answer.
@@ -53,12 +62,24 @@ impl From<AllocError> for Closed {
     }
 }
 
-impl From<io::Error> for Closed {
-    fn from(error: io::Error) -> Closed {
-        match error.kind() {
+impl Closed {
+    /// Why a connection is closed that failed with an error of this kind.
+    pub(crate) fn of_kind(kind: ErrorKind) -> Closed
+        ensures { result ≡ closed_of kind }
+    {
+        match kind {
             ErrorKind::TimedOut | ErrorKind::WouldBlock => Closed::Late,
+            ErrorKind::ConnectionAborted => Closed::GaveWay,
             _ => Closed::Failed,
         }
+    }
+}
+
+impl From<io::Error> for Closed {
+    ghost from_gives = { λ error closed. closed ≡ closed_of (error_kind error) };
+
+    fn from(error: io::Error) -> Closed {
+        Closed::of_kind(error.kind())
     }
 }
 
@@ -150,6 +171,9 @@ impl<L: Ledger + Naming, C: Clock> Dispatcher<L, C> {
         ensures unread { P.unread link.new.peer ≡ P.unread link.old.peer }
         ensures host { link.new.host ≡ link.old.host }
     {
+        if let Some(listing) = Listing::of(&message) {
+            return self.answer_listing(rt, alloc, link, permit, listing, message, connection);
+        }
         let (permit, answered) = self.answer(rt, alloc, &link.host, permit, message);
         self.counters.answered(&answered);
         match answered {
@@ -168,6 +192,71 @@ impl<L: Ledger + Naming, C: Clock> Dispatcher<L, C> {
                 Err(closed)
             }
         }
+    }
+
+    /// Answers a record whose answer may be of any size, and sends that. It is made once it is its turn, and waits for
+    /// its peer where there is room for that. No permit is held while that is waited for.
+    ///
+    /// # Errors
+    ///
+    /// As `answer_next`; or its turn or the room for it did not come in the time that a peer has to take answers.
+    fn answer_listing<R: Wait + Clock, P: Peer>(
+        &mut self,
+        rt: &R,
+        alloc: Global,
+        link: &mut PeerLink<P>,
+        permit: Permit<L>,
+        listing: Listing,
+        message: Record,
+        connection: &mut Connection,
+    ) -> Result<(Permit<L>, bool), Closed>
+        requires room { connection.old.full ≡ false }
+        ensures room { connection.new.full ≡ false }
+        ensures adds { OnOk result (Adds link.old.host self.old.last self.new.last message connection.old connection.new
+            (P.written link.old.peer) (P.written link.new.peer)) }
+        ensures cuts { OnErr result (Cuts link.old.host self.old.last message connection.old
+            (P.written link.old.peer) (P.written link.new.peer)) }
+        ensures unread { P.unread link.new.peer ≡ P.unread link.old.peer }
+        ensures host { link.new.host ≡ link.old.host }
+    {
+        self.permits.give(rt, permit);
+        link.send(rt, connection)?;
+        let (answer, room) = self.make_listing(rt, alloc, link, listing, message)?;
+        let is_refused = is_refusal(&answer);
+        put(connection, answer);
+        let sent = link.send(rt, connection);
+        link.listings.free(rt, room);
+        sent?;
+        Ok((self.permits.take(rt), is_refused))
+    }
+
+    /// The answer to a record that may be of any size, with room for it to wait in.
+    ///
+    /// # Errors
+    ///
+    /// As `answer_listing`.
+    fn make_listing<R: Wait + Clock, P: Peer>(
+        &mut self,
+        rt: &R,
+        alloc: Global,
+        link: &PeerLink<P>,
+        listing: Listing,
+        message: Record,
+    ) -> Result<(Answer, Charge), Closed>
+        ensures answers { IfOk result (λ made. AnswersRecord self.old.last link.now.host message made.0) }
+        ensures last { IfOk result (λ made. self.new.last ≡ number_after self.old.last (Ok made.0)) }
+    {
+        let listings = &link.listings;
+        let seconds = link.patience.answers;
+        let Some(turn) = listings.begin(rt, listing, seconds) else {
+            return Err(Closed::Late);
+        };
+        let made = match self.answer_alone(rt, alloc, &link.host, message) {
+            Ok(answer) => with_room(rt, listings, answer, seconds),
+            Err(closed) => Err(closed),
+        };
+        listings.end(rt, listing, turn);
+        made
     }
 
     /// Answers a record on a permit that it takes for this one alone.
@@ -225,7 +314,9 @@ impl<L: Ledger + Naming, C: Clock> Dispatcher<L, C> {
     }
 
     /// Puts exports in the place of those before. The permit is given back before that is told.
-    pub(crate) fn replace<R: Wait>(&mut self, rt: &R, alloc: Global, exports: Exports) -> Applied {
+    pub(crate) fn replace<R: Wait>(&mut self, rt: &R, alloc: Global, exports: Exports) -> Applied
+        ensures { result ≡ Applied.Executed → AreExecuted self.old.last exports }
+    {
         let moment = self.clock.moment();
         let Ok(arrival) = Arrival::exports(alloc, exports, moment) else {
             return Applied::Refused;
@@ -233,13 +324,9 @@ impl<L: Ledger + Naming, C: Clock> Dispatcher<L, C> {
         let permit = self.permits.take(rt);
         let (permit, submitted) = self.submit(rt, alloc, permit, arrival);
         self.permits.give(rt, permit);
-        let is_executed = matches!(&submitted, Ok(Sent::Executed));
+        let outcome = outcome_of(&submitted);
         drop(submitted);
-        if is_executed {
-            Applied::Executed
-        } else {
-            Applied::Refused
-        }
+        outcome
     }
 
     /// Executes what a record asks.
@@ -299,6 +386,38 @@ impl<L: Ledger + Naming, C: Clock> Dispatcher<L, C> {
     }
 }
 
+/// An answer, with room for it to wait in.
+///
+/// # Errors
+///
+/// There was none within so many seconds.
+fn with_room<R: Wait + Clock>(
+    rt: &R,
+    listings: &Listings,
+    answer: Answer,
+    seconds: u64,
+) -> Result<(Answer, Charge), Closed>
+    ensures { IfOk result (λ made. made.0 ≡ answer) }
+{
+    match listings.hold(rt, answer.bytes().len(), seconds) {
+        Some(room) => Ok((answer, room)),
+        None => {
+            drop(answer);
+            Err(Closed::Late)
+        }
+    }
+}
+
+/// What became of exports that were submitted.
+fn outcome_of(submitted: &Result<Sent, Arrival>) -> Applied
+    ensures { Decides (is_executed result) (submitted.now ≡ Ok Sent.Executed) }
+{
+    match submitted {
+        Ok(Sent::Executed) => Applied::Executed,
+        _ => Applied::Refused,
+    }
+}
+
 /// Whether one more end of an era may give memory, behind so many: the first one lets go what was recorded, and others
 /// what dead files leave.
 fn gives_more(turns: usize, is_sweeping: bool) -> bool
@@ -319,7 +438,7 @@ fn may_have_posted(answered: &Answered) -> bool
 }
 
 /// Whether a call was refused, for want of memory or of a number.
-pub(crate) fn is_refusal(answer: &Answer) -> bool {
+fn is_refusal(answer: &Answer) -> bool {
     matches!(answer, Answer::Refused(_))
 }
 

@@ -31,9 +31,11 @@ pub(crate) struct Job {
 
 impl<L: Ledger + Naming, C: Clock> Dispatcher<L, C> {
     /// Does jobs, until nobody sends any more.
-    pub(crate) fn work<R: Wait>(&mut self, rt: &R, alloc: Global, jobs: &Receiver<Job>) {
+    pub(crate) fn work<R: Wait + Clock>(&mut self, rt: &R, alloc: Global, jobs: &Receiver<Job>) {
         for job in jobs.iter(rt) {
+            self.permits.drain().enter(rt);
             self.answer_datagram(rt, alloc, job);
+            self.permits.drain().leave();
         }
     }
 
@@ -48,7 +50,8 @@ impl<L: Ledger + Naming, C: Clock> Dispatcher<L, C> {
         match self.answer_alone(rt, alloc, &host, record) {
             Ok(answer) => {
                 if let Some(datagram) = datagram_of(answer.bytes()) {
-                    send(&socket, datagram, peer);
+                    let count = send(&socket, datagram, peer);
+                    self.counters.add(CountedEvent::BytesWritten, count as u64);
                 }
                 drop(answer);
             }
@@ -60,12 +63,14 @@ impl<L: Ledger + Naming, C: Clock> Dispatcher<L, C> {
     }
 }
 
-/// Sends a datagram, or drops it. A send that a signal interrupted is done again.
-fn send(socket: &UdpSocket, datagram: &[u8], peer: SocketAddr) {
+/// Sends a datagram, or drops it: how many bytes went. A send that a signal interrupted is done again.
+fn send(socket: &UdpSocket, datagram: &[u8], peer: SocketAddr) -> usize {
     for _ in 0..TRIES {
         match socket.send_to(datagram, peer) {
+            Ok(count) => return count,
             Err(error) if error.kind() == ErrorKind::Interrupted => {}
-            _ => return,
+            Err(_) => return 0,
         }
     }
+    0
 }

@@ -1,17 +1,22 @@
 //! Sockets that listen, and who comes.
 
+ghost use Rattle.std.specs.Prelude.{IfOk};
+ghost use Rattle.nfs_server.specs.Hosts.{IsHostNumber, IsHostText};
+
 use crate::clock::{Latest, ServerClock};
 use crate::exit::Exit;
 use crate::network::connection_count::ConnectionCount;
 use crate::network::counters::{CountedEvent, Counters};
 use crate::network::dispatcher::Dispatcher;
 use crate::network::jobs::Job;
+use crate::network::listings::Listings;
 use crate::network::peer::{PeerLink, Socket};
 use crate::network::permits::Permits;
+use crate::network::presence::Presence;
 use crate::network::reading::ConnectionThread;
 use crate::network::wakeup::Wakeup;
 use crate::options::{Network, Options, Transport};
-use crate::patience::Patience;
+use crate::patience::{Deadline, Patience};
 use crate::runtime::{Runtime, SystemNet};
 use bytes::Bytes;
 use crossbeam_channel::Sender;
@@ -24,7 +29,7 @@ use std::net::{IpAddr, Net, SocketAddr, TcpListener, TcpStream, UdpSocket};
 use std::rt::Clock;
 use std::sync::ledger::Ledger;
 use std::sync::{Arc, Wait};
-use std::time::Duration;
+use std::time::{Duration, Instant};
 use std::{io, thread};
 
 /// How many bytes a datagram has at most.
@@ -32,6 +37,11 @@ pub(crate) const DATAGRAM_SIZE: usize = 65_536;
 
 /// How long nothing is taken where the system has no room for a connection or a datagram, in milliseconds.
 const PAUSE: u64 = 10;
+
+/// What the system says where no descriptor is left, of the process (EMFILE) or in all (ENFILE).
+const TOO_MANY_OPEN: i32 = 24;
+
+const TOO_MANY_OPEN_IN_ALL: i32 = 23;
 
 /// The sockets that listen.
 #[derive(Drop)]
@@ -118,10 +128,22 @@ fn bind_udp<R: Net>(rt: &R, alloc: Global, text: &str) -> Result<UdpSocket, Exit
 
 /// The host of a peer: its address as text, without a port. One of IP version 4 is written as such, also where it came
 /// over a socket of version 6.
-fn host_at(alloc: Global, address: IpAddr) -> Result<Host, AllocError> {
+fn host_at(alloc: Global, address: IpAddr) -> Result<Host, AllocError>
+    ensures { IfOk result (IsHostText address) }
+{
     let text = format!(in alloc; "{}", address.to_canonical())?;
     let name = Bytes::copy_from_slice(alloc, text.as_bytes())?;
     Host::new(name).ok_or(AllocError)
+}
+
+/// The host of a peer as a number: its address in version 6, where one of version 4 is a mapped one.
+fn number_of(address: IpAddr) -> u128
+    ensures { IsHostNumber address result }
+{
+    match address {
+        IpAddr::V4(address) => address.to_ipv6_mapped().to_bits(),
+        IpAddr::V6(address) => address.to_bits(),
+    }
 }
 
 /// What each thread that serves peers has.
@@ -133,6 +155,8 @@ pub(crate) struct Service<L: Ledger + Naming> {
     pub(crate) wakeup: Arc<Wakeup>,
     /// What is counted.
     pub(crate) counters: Arc<Counters>,
+    /// Who may have an answer of any size made.
+    pub(crate) listings: Arc<Listings>,
     /// The second at which every moment is, if any.
     pub(crate) clock: Option<u32>,
     /// The latest moment that was given.
@@ -154,6 +178,7 @@ impl<L: Ledger + Naming> Service<L> {
             jobs,
             wakeup: Arc::new(alloc, Wakeup::new())?,
             counters,
+            listings: Arc::new(alloc, Listings::new())?,
             clock,
             latest: Arc::new(alloc, Latest::new(begin))?,
         })
@@ -166,6 +191,7 @@ impl<L: Ledger + Naming> Service<L> {
             jobs: self.jobs.clone()?,
             wakeup: Arc::try_clone(&self.wakeup)?,
             counters: Arc::try_clone(&self.counters)?,
+            listings: Arc::try_clone(&self.listings)?,
             clock: self.clock,
             latest: Arc::try_clone(&self.latest)?,
         })
@@ -183,8 +209,31 @@ impl<L: Ledger + Naming> Service<L> {
     }
 }
 
+/// Why a connection that came is not served.
+#[derive(Clone, Copy)]
+enum NotServed {
+    /// As many are open as may be, and none gives way.
+    TurnedAway,
+    /// There is no thread for it.
+    NoThread,
+    /// There is no memory for it.
+    Memory,
+}
+
+impl From<AllocError> for NotServed {
+    fn from(_error: AllocError) -> NotServed {
+        NotServed::Memory
+    }
+}
+
+impl From<io::Error> for NotServed {
+    fn from(_error: io::Error) -> NotServed {
+        NotServed::Memory
+    }
+}
+
 /// Lets connections in, each served by a thread of its own: so many in all, or for ever. One that comes while so many
-/// are open as may be is closed at once.
+/// are open as may be takes the place of another, or is closed at once.
 pub(crate) fn let_in<R: Runtime, L: Ledger + Naming + Send + Sync + 'static>(
     rt: &R,
     alloc: Global,
@@ -196,30 +245,20 @@ pub(crate) fn let_in<R: Runtime, L: Ledger + Naming + Send + Sync + 'static>(
     let mut came: u64 = 0;
     for _ in rt.forever() {
         match listener.accept() {
+            // It is closed at once.
+            Ok(_) if service.permits.drain().has_begun() => {}
             Ok((stream, peer)) => {
                 came = came.saturating_add(1);
-                if connection_count.enter(rt, network.connections as usize) {
-                    service.counters.happened(CountedEvent::Opened);
-                    let patience = network.patience;
-                    if start(
-                        rt,
-                        alloc,
-                        stream,
-                        peer,
-                        patience,
-                        service,
-                        connection_count,
-                    ).is_err()
-                    {
-                        service.counters.happened(CountedEvent::Starved);
-                        connection_count.leave(rt);
-                        service.permits.relieve(rt);
-                    }
-                } else {
-                    service.counters.happened(CountedEvent::TurnedAway);
-                }
+                let patience = network.patience;
+                let served = admit(rt, alloc, stream, peer, patience, service, connection_count);
+                count_not_served(rt, service, connection_count, served);
             }
-            Err(_) => thread::sleep(rt, Duration::from_millis(PAUSE)),
+            Err(error) => {
+                if is_descriptor_wanting(&error) {
+                    service.counters.happened(CountedEvent::NoDescriptor);
+                }
+                thread::sleep(rt, Duration::from_millis(PAUSE));
+            }
         }
         if network.accept != 0 && came >= network.accept {
             return;
@@ -228,8 +267,44 @@ pub(crate) fn let_in<R: Runtime, L: Ledger + Naming + Send + Sync + 'static>(
     unreachable!()
 }
 
-/// Starts the thread of a connection.
-fn start<R: Runtime, L: Ledger + Naming + Send + Sync + 'static>(
+/// Counts that a connection is not served. Where that is for want of memory the era is ended; where it is for want of a
+/// thread, only while no connection is open, since memory may be wanting for its stack, and nobody else would let go.
+fn count_not_served<R: Wait, L: Ledger + Naming>(
+    rt: &R,
+    service: &Service<L>,
+    connection_count: &ConnectionCount,
+    served: Result<(), NotServed>,
+) {
+    match served {
+        Ok(()) => {}
+        Err(NotServed::TurnedAway) => service.counters.happened(CountedEvent::TurnedAway),
+        Err(NotServed::NoThread) => {
+            service.counters.happened(CountedEvent::NoThread);
+            if connection_count.is_empty(rt) {
+                service.permits.relieve(rt);
+            }
+        }
+        Err(NotServed::Memory) => {
+            service.counters.happened(CountedEvent::Starved);
+            service.permits.relieve(rt);
+        }
+    }
+}
+
+/// Whether no connection could be taken since no descriptor was left, of the process or of the system.
+fn is_descriptor_wanting(error: &io::Error) -> bool {
+    matches!(
+        error.raw_os_error(),
+        Some(TOO_MANY_OPEN | TOO_MANY_OPEN_IN_ALL)
+    )
+}
+
+/// Serves a connection that came, by a thread of its own, where it gets a place.
+///
+/// # Errors
+///
+/// It gets none, or can't be served.
+fn admit<R: Runtime, L: Ledger + Naming + Send + Sync + 'static>(
     rt: &R,
     alloc: Global,
     stream: TcpStream,
@@ -237,24 +312,110 @@ fn start<R: Runtime, L: Ledger + Naming + Send + Sync + 'static>(
     patience: Patience,
     service: &Service<L>,
     connection_count: &Arc<ConnectionCount>,
-) -> io::Result<()> {
-    let host = host_at(alloc, peer.ip())?;
-    let mut reader = ConnectionThread {
+) -> Result<(), NotServed> {
+    let entered = enter(rt, alloc, stream, peer, connection_count);
+    if !matches!(entered, Err(NotServed::TurnedAway)) {
+        service.counters.happened(CountedEvent::Opened);
+    }
+    let (presence, number) = entered?;
+    let started = start(
+        rt,
+        alloc,
+        presence,
+        peer,
+        number,
+        patience,
+        service,
+        connection_count,
+    );
+    if started.is_err() {
+        connection_count.leave(rt, connection_count.place(number));
+    }
+    started
+}
+
+/// A connection that came, and the number of the place that it gets.
+///
+/// # Errors
+///
+/// It gets none, or there is no memory for it.
+fn enter<R: Wait + Clock>(
+    rt: &R,
+    alloc: Global,
+    stream: TcpStream,
+    peer: SocketAddr,
+    connection_count: &ConnectionCount,
+) -> Result<(Arc<Presence>, u64), NotServed> {
+    let now = Instant::now(rt)?;
+    let presence = connection_count.presence(alloc, stream, now)?;
+    let seen = Arc::try_clone(&presence)?;
+    match connection_count.enter(rt, number_of(peer.ip()), seen, now) {
+        Some(number) => Ok((presence, number)),
+        None => Err(NotServed::TurnedAway),
+    }
+}
+
+/// What reads a connection.
+fn reader<R: Runtime, L: Ledger + Naming>(
+    rt: &R,
+    alloc: Global,
+    presence: Arc<Presence>,
+    peer: SocketAddr,
+    patience: Patience,
+    service: &Service<L>,
+) -> Result<ConnectionThread<L, R, Socket>, NotServed> {
+    let counters = Arc::try_clone(&service.counters)?;
+    Ok(ConnectionThread {
         link: PeerLink {
-            peer: Socket::new(stream, patience)?,
-            host,
+            peer: Socket::new(presence, counters, patience)?,
+            host: host_at(alloc, peer.ip())?,
             patience,
+            deadline: Deadline::new(Instant::now(rt)?, patience.answers),
+            listings: Arc::try_clone(&service.listings)?,
         },
         dispatcher: service.dispatcher(*rt)?,
-    };
+    })
+}
+
+/// Starts the thread of a connection, whose place has this number.
+///
+/// # Errors
+///
+/// There is no thread, or no memory for it.
+fn start<R: Runtime, L: Ledger + Naming + Send + Sync + 'static>(
+    rt: &R,
+    alloc: Global,
+    presence: Arc<Presence>,
+    peer: SocketAddr,
+    number: u64,
+    patience: Patience,
+    service: &Service<L>,
+    connection_count: &Arc<ConnectionCount>,
+) -> Result<(), NotServed> {
+    let reader = reader(rt, alloc, presence, peer, patience, service)?;
     let connection_count = Arc::try_clone(connection_count)?;
     let rt = *rt;
-    thread::spawn(&rt, move || {
-        reader.work(&rt, alloc);
-        drop(reader);
-        connection_count.leave(&rt);
-    })?;
-    Ok(())
+    match thread::spawn(&rt, move || {
+        serve(&rt, alloc, reader, number, &connection_count);
+    }) {
+        Ok(_) => Ok(()),
+        Err(_) => Err(NotServed::NoThread),
+    }
+}
+
+/// Serves a connection to its end, and gives its place back.
+fn serve<R: Runtime, L: Ledger + Naming>(
+    rt: &R,
+    alloc: Global,
+    reader: ConnectionThread<L, R, Socket>,
+    number: u64,
+    connection_count: &ConnectionCount,
+) {
+    let place = connection_count.place(number);
+    let mut reader = reader;
+    reader.work(rt, alloc);
+    drop(reader);
+    connection_count.leave(rt, place);
 }
 
 /// Takes datagrams into this buffer, each a record of its own with no mark, and hands them to the workers.
@@ -270,6 +431,7 @@ pub(crate) fn take_datagrams<R: Wait + Clock, L: Ledger + Naming>(
         match socket.recv_from(buffer.as_mut_slice()) {
             Ok((count, peer)) => {
                 service.counters.happened(CountedEvent::Datagram);
+                service.counters.add(CountedEvent::BytesRead, count as u64);
                 // One that can't be taken in is dropped.
                 if take(rt, alloc, socket, peer, &buffer[..count], service).is_err() {
                     service.counters.happened(CountedEvent::DatagramDropped);

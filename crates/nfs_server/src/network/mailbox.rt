@@ -36,7 +36,7 @@ impl Mailbox {
         is_dropped
     }
 
-    /// Takes the oldest message, once there is one.
+    /// Takes the message that is to be sent next, as `Queue::take` has it, once there is one.
     pub(crate) fn take<R: Wait>(&self, rt: &R) -> Posted {
         for _ in rt.forever() {
             let guard = self.queue.lock(rt);

@@ -9,7 +9,8 @@ ghost use Rattle.nfs_xdr.specs.declared.XdrError.TheVariants.{Memory};
 ghost use Rattle.side_wire.specs.Messages.{HasCallbackForm, message_bytes};
 ghost use Rattle.side_wire.specs.Nlm.{HasResultForm};
 ghost use Rattle.side_wire.specs.declared.message.Callback.TheVariants.{GrantedRes};
-ghost use Rattle.nfs_server.specs.CalledBack.{ComesIn, IsAddressed, IsNoAnswer, SpellsAnswer, reply_header, xid_of};
+ghost use Rattle.nfs_server.specs.CalledBack.{ComesIn, IsAddressed, IsGranted, IsNoAnswer, SpellsAnswer};
+ghost use Rattle.nfs_server.specs.CalledBack.{reply_header, xid_of};
 ghost use Rattle.nfs_server.specs.Callbacks.{callback_of};
 
 use crate::callbacks::{CallbackAddress, Callbacks};
@@ -95,6 +96,13 @@ fn xid_of(number: u64) -> u32
     ensures { result ≡ xid_of number }
 {
     (number % (1 << 32)) as u32
+}
+
+/// Whether a host replies to a message: to GRANTED alone. A result of a MSG call and GRANTED_MSG go one way.
+pub(crate) fn has_reply(message: &Message) -> bool
+    ensures { Decides result (IsGranted message.now.call) }
+{
+    matches!(&message.call, Callback::Granted(_))
 }
 
 /// The call as which a host's answer to a message comes in: GRANTED_RES with the result that the host answers to

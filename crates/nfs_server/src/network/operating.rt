@@ -1,6 +1,6 @@
 //! The thread that does what an operator's lines say.
 
-use crate::controlling::{Applied, control};
+use crate::controlling::{Applied, ControlEnd, control};
 use nfs_machine::Exports;
 use nfs_rpc::stream::Counted;
 use std::alloc::Global;
@@ -8,17 +8,28 @@ use std::io;
 
 /// Where an operator's lines come from, and where their answers go.
 pub trait Operator {
-    /// Does what the lines say, and answers them: exports are handed to `apply`.
-    fn listen<F: FnMut(Exports) -> Applied>(self, alloc: Global, apply: F)
+    /// Does what the lines say, and answers them: exports are handed to `apply`, and these stand at first. What ended
+    /// it.
+    fn listen<F: FnMut(Exports) -> Applied>(
+        self,
+        alloc: Global,
+        standing: Exports,
+        apply: F,
+    ) -> ControlEnd
         requires { F.IsAlwaysCallable apply };
 }
 
 /// Standard input and output.
 impl Operator for HostRuntime {
-    fn listen<F: FnMut(Exports) -> Applied>(self, alloc: Global, apply: F) {
+    fn listen<F: FnMut(Exports) -> Applied>(
+        self,
+        alloc: Global,
+        standing: Exports,
+        apply: F,
+    ) -> ControlEnd {
         let mut reader = Counted::new(self.reader());
         let mut writer = Counted::new(io::writer(&self));
-        control(alloc, &mut reader, &mut writer, apply);
+        control(alloc, standing, &mut reader, &mut writer, apply)
     }
 }
 
@@ -27,5 +38,12 @@ impl Operator for HostRuntime {
 pub struct Nobody;
 
 impl Operator for Nobody {
-    fn listen<F: FnMut(Exports) -> Applied>(self, _alloc: Global, _apply: F) {}
+    fn listen<F: FnMut(Exports) -> Applied>(
+        self,
+        _alloc: Global,
+        _standing: Exports,
+        _apply: F,
+    ) -> ControlEnd {
+        ControlEnd::Input
+    }
 }

@@ -7,14 +7,18 @@ ghost use Rattle.nfs_streams.specs.Connections.{SendsAll, waiting};
 ghost use Rattle.nfs_streams.specs.Sent.{WritesPart};
 ghost use Rattle.nfs_server.specs.Lines.{ReadsWithin};
 
+use crate::network::counters::{CountedEvent, Counters};
 use crate::network::dispatcher::Closed;
-use crate::patience::{Patience, seconds_left};
+use crate::network::listings::Listings;
+use crate::network::presence::Presence;
+use crate::patience::{Deadline, Patience};
 use nfs_engine::Host;
 use nfs_streams::Connection;
 use std::io;
 use std::io::{ErrorKind, Read, Write};
 use std::net::TcpStream;
 use std::rt::Clock;
+use std::sync::Arc;
 use std::time::{Duration, Instant};
 
 /// How often a read or a write is done again.
@@ -29,8 +33,8 @@ pub(crate) trait Peer {
     ghost written: { Self → Option (List ℕ) };
 
     /// Reads what comes within so many seconds into the front of the buffer, and answers how many bytes; None where
-    /// nothing comes.
-    fn read(&mut self, seconds: u64, buffer: &mut [u8]) -> io::Result<Option<usize>>
+    /// nothing comes. Since then it is waited for.
+    fn read(&mut self, since: Instant, seconds: u64, buffer: &mut [u8]) -> io::Result<Option<usize>>
         ensures count { IfOk result (λ read. IfSome read (λ count. count ≤ length buffer.new)) }
         ensures bytes { ReadsWithin (unread self.old) (unread self.new) result buffer.new }
         ensures written { written self.new ≡ written self.old };
@@ -46,7 +50,9 @@ pub(crate) trait Peer {
 /// A connection over TCP.
 #[derive(Drop)]
 pub(crate) struct Socket {
-    stream: TcpStream,
+    presence: Arc<Presence>,
+    /// What is counted.
+    counters: Arc<Counters>,
     /// How many seconds a read of the socket waits.
     read_wait: u64,
     /// How many seconds a write waits.
@@ -59,12 +65,18 @@ impl Socket {
     /// # Errors
     ///
     /// The socket has failed.
-    pub(crate) fn new(stream: TcpStream, patience: Patience) -> io::Result<Socket> {
+    pub(crate) fn new(
+        presence: Arc<Presence>,
+        counters: Arc<Counters>,
+        patience: Patience,
+    ) -> io::Result<Socket> {
+        let stream = &presence.stream;
         stream.set_nodelay(true)?;
         stream.set_read_timeout(Some(Duration::from_secs(patience.record)))?;
         stream.set_write_timeout(Some(Duration::from_secs(patience.answers)))?;
         Ok(Socket {
-            stream,
+            presence,
+            counters,
             read_wait: patience.record,
             write_wait: patience.answers,
         })
@@ -77,14 +89,25 @@ impl Peer for Socket {
 
     ghost written = { λ _. None };
 
-    fn read(&mut self, seconds: u64, buffer: &mut [u8]) -> io::Result<Option<usize>> {
+    fn read(
+        &mut self,
+        since: Instant,
+        seconds: u64,
+        buffer: &mut [u8],
+    ) -> io::Result<Option<usize>> {
         if seconds != self.read_wait {
             let wait = Duration::from_secs(seconds);
-            self.stream.set_read_timeout(Some(wait))?;
+            self.presence.stream.set_read_timeout(Some(wait))?;
             self.read_wait = seconds;
         }
-        match read_some(&self.stream, buffer) {
-            Ok(count) => Ok(Some(count)),
+        self.presence.rest(since)?;
+        let read = read_some(&self.presence.stream, buffer);
+        self.presence.wake()?;
+        match read {
+            Ok(count) => {
+                self.counters.add(CountedEvent::BytesRead, count as u64);
+                Ok(Some(count))
+            }
             Err(error) if error.kind() == ErrorKind::WouldBlock => Ok(None),
             Err(error) => Err(error),
         }
@@ -93,13 +116,14 @@ impl Peer for Socket {
     fn write(&mut self, seconds: u64, bytes: &[u8]) -> io::Result<usize> {
         if seconds != self.write_wait {
             let wait = Duration::from_secs(seconds);
-            self.stream.set_write_timeout(Some(wait))?;
+            self.presence.stream.set_write_timeout(Some(wait))?;
             self.write_wait = seconds;
         }
-        let count = write_some(&self.stream, bytes)?;
+        let count = write_some(&self.presence.stream, bytes)?;
         if count == 0 && !bytes.is_empty() {
             return Err(io::Error::from(ErrorKind::WriteZero));
         }
+        self.counters.add(CountedEvent::BytesWritten, count as u64);
         Ok(count)
     }
 }
@@ -111,6 +135,10 @@ pub(crate) struct PeerLink<P> {
     /// The peer's host.
     pub(crate) host: Host,
     pub(crate) patience: Patience,
+    /// Until when the answers that are sent have to be taken.
+    pub(crate) deadline: Deadline,
+    /// Who may have an answer of any size made.
+    pub(crate) listings: Arc<Listings>,
 }
 
 impl<P: Peer> PeerLink<P> {
@@ -150,47 +178,43 @@ impl<P: Peer> PeerLink<P> {
         ensures host { self.new.host ≡ self.old.host }
     {
         let begun = Instant::now(rt)?;
-        self.write_within(rt, begun, connection.gathered())?;
-        self.write_within(rt, begun, connection.last())
+        self.deadline = Deadline::new(begun, self.patience.answers);
+        self.write_within(rt, connection.gathered())?;
+        self.write_within(rt, connection.last())
     }
 
-    /// Writes bytes of answers whose sending has begun then.
-    fn write_within<R: Clock>(&mut self, rt: &R, begun: Instant, bytes: &[u8]) -> io::Result<()>
+    /// Writes bytes of answers until the deadline.
+    fn write_within<R: Clock>(&mut self, rt: &R, bytes: &[u8]) -> io::Result<()>
         ensures ok { OnOk result (Appends (P.written self.old.peer) (P.written self.new.peer) bytes.now) }
         ensures part { OnErr result (WritesPart (P.written self.old.peer) (P.written self.new.peer) bytes.now) }
         ensures unread { P.unread self.new.peer ≡ P.unread self.old.peer }
         ensures host { self.new.host ≡ self.old.host }
+        ensures deadline { self.new.deadline ≡ self.old.deadline }
     {
         let mut rest = bytes;
         'parts: while !rest.is_empty() {
-            let count = self.write_part(rt, begun, rest)?;
+            let count = self.write_part(rt, rest)?;
             let (_, left) = rest.split_at(count);
             rest = left;
         }
         Ok(())
     }
 
-    /// Writes what is taken of bytes of answers whose sending has begun then.
-    fn write_part<R: Clock>(&mut self, rt: &R, begun: Instant, bytes: &[u8]) -> io::Result<usize>
+    /// Writes what is taken of bytes of answers until the deadline.
+    fn write_part<R: Clock>(&mut self, rt: &R, bytes: &[u8]) -> io::Result<usize>
         ensures count { WritesAtMost result bytes.now }
         ensures some { IfOk result (λ count. 0 < length bytes.now → 0 < count) }
         ensures bytes { WriteAppends (P.written self.old.peer) (P.written self.new.peer) result bytes.now }
         ensures unread { P.unread self.new.peer ≡ P.unread self.old.peer }
         ensures host { self.new.host ≡ self.old.host }
+        ensures deadline { self.new.deadline ≡ self.old.deadline }
     {
-        let seconds = time_left(rt, begun, self.patience.answers)?;
+        let now = Instant::now(rt)?;
+        let Some(seconds) = self.deadline.left(now) else {
+            return Err(io::Error::from(ErrorKind::TimedOut));
+        };
         self.peer.write(seconds, bytes)
     }
-}
-
-/// How many seconds are left of so many since then.
-///
-/// # Errors
-///
-/// None is, or the clock can't be read.
-fn time_left<R: Clock>(rt: &R, begun: Instant, limit: u64) -> io::Result<u64> {
-    let passed = Instant::now(rt)?.duration_since(begun);
-    seconds_left(passed, limit).ok_or(io::Error::from(ErrorKind::TimedOut))
 }
 
 /// Reads what has come over a connection, or waits for it. A read that a signal interrupted is done again.

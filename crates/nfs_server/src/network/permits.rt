@@ -7,6 +7,7 @@ ghost use Rattle.std.specs.Prelude.{◌<◌};
 
 use crate::exit::Exit;
 use crate::network::counters::{CountedEvent, Counters, Gauge};
+use crate::network::drain::Drain;
 use crate::network::tally::Tally;
 use crossbeam_channel::{Receiver, RecvTimeoutError, Sender};
 use nfs_machine::NameKey;
@@ -72,22 +73,25 @@ pub(crate) struct Permits<L: Ledger + Naming> {
     back: Sender<Permit<L>>,
     full: Sender<Permit<L>>,
     gathering: Arc<Gathering>,
+    drain: Arc<Drain>,
 }
 
 impl<L: Ledger + Naming> Permits<L> {
     /// Permits come from `free`, whose other end is `back`, and go to `back`, or where the era is to be ended to
-    /// `full`.
+    /// `full`. The program ends in order by the drain.
     pub(crate) fn new(
         free: Receiver<Permit<L>>,
         back: Sender<Permit<L>>,
         full: Sender<Permit<L>>,
         gathering: Arc<Gathering>,
+        drain: Arc<Drain>,
     ) -> Permits<L> {
         Permits {
             free,
             back,
             full,
             gathering,
+            drain,
         }
     }
 
@@ -102,6 +106,7 @@ impl<L: Ledger + Naming> Permits<L> {
             back: self.back.clone()?,
             full: self.full.clone()?,
             gathering: Arc::try_clone(&self.gathering)?,
+            drain: Arc::try_clone(&self.drain)?,
         })
     }
 
@@ -142,6 +147,18 @@ impl<L: Ledger + Naming> Permits<L> {
         let mut permit = self.take(rt);
         permit.is_last = true;
         drop(self.full.send(rt, permit));
+    }
+
+    /// Has the program end in order: nobody is let in or begins to answer any more, those who answer are waited for,
+    /// and then the last era ends.
+    pub(crate) fn end<R: Wait + Clock>(&self, rt: &R) {
+        self.drain.begin(rt);
+        self.finish(rt);
+    }
+
+    /// Where those who answer are counted, so that the program ends behind their answers.
+    pub(crate) fn drain(&self) -> &Drain {
+        &self.drain
     }
 
     /// Hands a permit in, so that the era is ended, and takes one that was handed out after that. One that it takes

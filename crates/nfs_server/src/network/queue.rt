@@ -1,8 +1,7 @@
 //! Messages that wait for one host, so many at most.
 
 ghost use Rattle.std.specs.Prelude.{◌≡◌};
-ghost use Rattle.std.specs.List.{position};
-ghost use Rattle.nfs_server.specs.Queued.{IsTaken, is_grant, is_result, put, with_grant};
+ghost use Rattle.nfs_server.specs.Queued.{IsTaken, count_of, is_grant, put, with_grant, with_last};
 
 use nfs_engine::Posted;
 use side_wire::Callback;
@@ -13,31 +12,35 @@ use std::marker::Model;
 /// How many messages wait for a host at most.
 pub(crate) const MOST_WAITING: usize = 1_000;
 
-/// Messages that wait for one host, the oldest first. To put one takes no memory.
+/// Messages that wait for one host, the oldest of each kind first. To put one takes no memory.
 #[derive(Drop)]
 pub(crate) struct Queue {
-    list: VecDeque<Posted>,
+    /// Grants, which are sent before all others.
+    grants: VecDeque<Posted>,
+    /// The results of calls.
+    results: VecDeque<Posted>,
 }
 
 impl Model for Queue {
-    ghost use Rattle.std.specs.Prelude.{◌≤◌, List};
+    ghost use Rattle.std.specs.Prelude.{◌+◌, ◌≤◌};
     ghost use Rattle.std.specs.VecDeque.{deque_capacity, deque_len};
     ghost use Rattle.std.specs.Coded.{codes};
     ghost use Rattle.nfs_engine.specs.contracts.outbox.Posted as posted;
-    ghost use Rattle.nfs_engine.specs.declared.outbox.Posted.{Posted};
+    ghost use Rattle.nfs_server.specs.Queued.{Waiting};
     ghost use Rattle.nfs_server.specs.declared.network.queue.TheConstants.{MOST_WAITING};
 
-    ghost Value = { List Posted };
+    ghost Value = { Waiting };
 
     ghost coded = { Prim.hlevel (codes, posted.the_row.coded) };
 
-    ghost view = { λ q. q.list.items };
+    ghost view = { λ q. record { grants = q.grants.items; results = q.results.items } };
 
-    ghost invariant = { λ q. (deque_len q.list ≤ MOST_WAITING) × (MOST_WAITING ≤ deque_capacity q.list) };
+    ghost invariant = { λ q. (deque_len q.grants + deque_len q.results ≤ MOST_WAITING)
+        × ((MOST_WAITING ≤ deque_capacity q.grants) × (MOST_WAITING ≤ deque_capacity q.results)) };
 }
 
 impl Queue {
-    ghost use Rattle.std.specs.Prelude.{[], ◌≤◌, ◌==◌, length, nat_lt, not, IfOk};
+    ghost use Rattle.std.specs.Prelude.{[], ◌<◌, ◌≤◌, ◌==◌, nat_lt, not, IfOk};
 
     /// Nothing waits.
     ///
@@ -45,29 +48,39 @@ impl Queue {
     ///
     /// There is no memory for so many messages.
     pub(crate) fn new(alloc: Global) -> Result<Queue, AllocError>
-        ensures { IfOk result (λ queue. queue ≡ []) }
+        ensures { IfOk result (λ queue. (queue.grants ≡ []) × (queue.results ≡ [])) }
     {
         Ok(Queue {
-            list: VecDeque::with_capacity(alloc, MOST_WAITING)?,
+            grants: VecDeque::with_capacity(alloc, MOST_WAITING)?,
+            results: VecDeque::with_capacity(alloc, MOST_WAITING)?,
         })
     }
 
     /// Whether nothing waits.
     pub(crate) fn is_empty(&self) -> bool
-        ensures { result ≡ (length self.now == 0) }
+        ensures { result ≡ (count_of self.now == 0) }
     {
-        self.list.is_empty()
+        self.len() == 0
     }
 
-    /// Puts a message behind those that wait. Where so many wait already a result of a call is dropped: this message,
-    /// or for a grant the oldest one that waits. Where grants alone wait it is dropped too. Whether one was dropped.
+    /// How many wait.
+    fn len(&self) -> usize
+        ensures count { result ≡ count_of self.now }
+        ensures bounded { result ≤ MOST_WAITING }
+    {
+        self.grants.len() + self.results.len()
+    }
+
+    /// Puts a message after those of its kind that wait. Where so many wait already a result of a call is dropped:
+    /// this message, or for a grant the oldest one that waits. Where grants alone wait it is dropped too. Whether one
+    /// was dropped.
     pub(crate) fn put(&mut self, posted: Posted) -> bool
         ensures puts { self.new ≡ put self.old posted }
-        ensures bounded { length self.new ≤ MOST_WAITING }
-        ensures dropped { result ≡ not (nat_lt (length self.old) MOST_WAITING) }
+        ensures bounded { count_of self.new ≤ MOST_WAITING }
+        ensures dropped { result ≡ not (nat_lt (count_of self.old) MOST_WAITING) }
     {
-        if self.list.len() < MOST_WAITING {
-            self.list.push_back_reserved(posted);
+        if self.len() < MOST_WAITING {
+            self.put_last(posted);
             return false;
         }
         if is_grant(&posted) {
@@ -78,32 +91,41 @@ impl Queue {
         true
     }
 
+    /// Puts a message after those of its kind.
+    fn put_last(&mut self, posted: Posted)
+        requires { count_of self.old < MOST_WAITING }
+        ensures { self.new ≡ with_last self.old posted }
+    {
+        if is_grant(&posted) {
+            self.grants.push_back_reserved(posted);
+        } else {
+            self.results.push_back_reserved(posted);
+        }
+    }
+
     /// Puts a grant, for which the oldest result is dropped. Where grants alone wait, this one is.
     fn put_grant(&mut self, posted: Posted)
-        requires { length self.old ≡ MOST_WAITING }
+        requires { count_of self.old ≡ MOST_WAITING }
         ensures { self.new ≡ with_grant self.old posted }
     {
-        match self.oldest_result() {
-            Some(place) => {
-                drop(self.list.remove(place));
-                self.list.push_back_reserved(posted);
+        match self.results.pop_front() {
+            Some(oldest) => {
+                drop(oldest);
+                self.grants.push_back_reserved(posted);
             }
             None => drop(posted),
         }
     }
 
-    /// Where the oldest result waits, if one does.
-    fn oldest_result(&self) -> Option<usize>
-        ensures { result ≡ position is_result self.now }
-    {
-        self.list.iter().position(|posted| !is_grant(posted))
-    }
-
-    /// Takes the oldest message.
+    /// Takes the oldest grant, or where none waits the oldest result.
     pub(crate) fn take(&mut self) -> Option<Posted>
         ensures { IsTaken self.old self.new result }
     {
-        self.list.pop_front()
+        if self.grants.is_empty() {
+            self.results.pop_front()
+        } else {
+            self.grants.pop_front()
+        }
     }
 }
 

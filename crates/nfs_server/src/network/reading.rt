@@ -4,6 +4,8 @@ ghost use Rattle.std.specs.Io.{ReadsAtMost};
 ghost use Rattle.std.specs.Io.KnownBytes.{Consumes};
 ghost use Rattle.std.specs.Prelude.{◌≡◌, ◌⊎◌, ℕ, List, Option, [], false, length, IfOk, OnErr, OnOk, take};
 ghost use Rattle.nfs_streams.specs.Connections.{IsNew, waiting};
+ghost use Rattle.std.specs.IoError.{error_kind};
+ghost use Rattle.nfs_server.specs.Closings.{closed_reading};
 ghost use Rattle.nfs_server.specs.Conversations.{GoesOn, IsCutOff};
 
 use crate::network::counters::CountedEvent;
@@ -14,6 +16,8 @@ use nfs_pool::Naming;
 use nfs_rpc::RecordError;
 use nfs_streams::Connection;
 use std::alloc::{AllocError, Global};
+use std::io;
+use std::io::ErrorKind;
 use std::rt::Clock;
 use std::sync::Wait;
 use std::sync::ledger::Ledger;
@@ -104,13 +108,20 @@ impl<L: Ledger + Naming, C: Clock, P: Peer> ConnectionThread<L, C, P> {
         ensures same { (self.new.link.host ≡ self.old.link.host)
             × (self.new.dispatcher.last ≡ self.old.dispatcher.last) }
     {
+        let since = now;
         let mut now = now;
         let patience = self.link.patience;
         'waits: for _ in rt.forever() {
             let seconds = watch.left(patience, now).ok_or(Closed::Late)?;
             // No wait is longer than that for a record: so in most reads the socket's own need not be set.
-            if let Some(count) = self.link.peer.read(seconds.min(patience.record), buffer)? {
-                return Ok(count);
+            match self
+                .link
+                .peer
+                .read(since, seconds.min(patience.record), buffer)
+            {
+                Ok(Some(count)) => return Ok(count),
+                Ok(None) => {}
+                Err(error) => return Err(failed_read(&error, watch)),
             }
             now = Instant::now(rt)?;
         }
@@ -139,7 +150,10 @@ impl<L: Ledger + Naming, C: Clock, P: Peer> ConnectionThread<L, C, P> {
         ensures host { self.new.link.host ≡ self.old.link.host }
     {
         let taken = connection.take_in(piece);
-        let is_refused = self.answer_piece(rt, alloc, connection)?;
+        self.dispatcher.permits.drain().enter(rt);
+        let answered = self.answer_piece(rt, alloc, connection);
+        self.dispatcher.permits.drain().leave();
+        let is_refused = answered?;
         match taken {
             Ok(()) => Ok(is_refused),
             Err(RecordError::TooLarge) => Err(Closed::Failed),
@@ -181,10 +195,21 @@ impl<L: Ledger + Naming, C: Clock, P: Peer> ConnectionThread<L, C, P> {
     }
 }
 
+/// Why a connection is closed over which a read failed so: a peer may reset it where it has sent no part of a record.
+fn failed_read(error: &io::Error, watch: &Watch) -> Closed
+    ensures { result ≡ closed_reading (error_kind error.now) watch.now }
+{
+    match error.kind() {
+        ErrorKind::ConnectionReset if watch.stage.is_between() => Closed::Left,
+        kind => Closed::of_kind(kind),
+    }
+}
+
 /// What is counted of the end of a connection.
 fn end_of(served: Result<(), Closed>) -> CountedEvent {
     match served {
-        Ok(()) => CountedEvent::Ended,
+        Ok(()) | Err(Closed::Left) => CountedEvent::Ended,
+        Err(Closed::GaveWay) => CountedEvent::GaveWay,
         Err(Closed::Failed) => CountedEvent::Failed,
         Err(Closed::Late) => CountedEvent::Late,
         Err(Closed::Memory) => CountedEvent::Starved,

@@ -1,6 +1,6 @@
 //! The thread that says how the server is: in lines on standard error.
 
-use crate::network::counters::{CountedEvent, Counters};
+use crate::network::counters::{CountedEvent, Counters, Gauge};
 use std::alloc::Global;
 use std::rt::Clock;
 use std::sync::{Arc, Wait};
@@ -18,13 +18,21 @@ struct Trouble {
 }
 
 /// How many kinds there are.
-const KINDS: usize = 6;
+const KINDS: usize = 8;
 
 /// The kinds of trouble.
 const TROUBLES: [Trouble; KINDS] = [
     Trouble {
         event: CountedEvent::TurnedAway,
-        text: "connections above --connections, closed at once",
+        text: "connections above --connections",
+    },
+    Trouble {
+        event: CountedEvent::NoDescriptor,
+        text: "times no descriptor was left to take a connection",
+    },
+    Trouble {
+        event: CountedEvent::NoThread,
+        text: "connections closed as no thread could be started",
     },
     Trouble {
         event: CountedEvent::Refused,
@@ -80,11 +88,21 @@ impl Reporter {
             let now = self.counters.of(trouble.event);
             let count = now.saturating_sub(*before);
             if count > 0 {
-                let text = trouble.text;
-                let _ = eprintln!(rt; "nfsd: {text}: {count}");
+                self.tell_trouble(rt, trouble, count);
             }
             *before = now;
         }
+    }
+
+    /// Says that there was this trouble so often.
+    fn tell_trouble<R: Eprint>(&self, rt: &R, trouble: &Trouble, count: u64) {
+        let text = trouble.text;
+        let _ = if let CountedEvent::TurnedAway = trouble.event {
+            let places = self.counters.level(Gauge::Places);
+            eprintln!(rt; "nfsd: {text} {places}, closed at once: {count}")
+        } else {
+            eprintln!(rt; "nfsd: {text}: {count}")
+        };
     }
 }
 

@@ -1,18 +1,22 @@
 //! The threads that send messages, each those to one host, and take in what it answers to GRANTED (RFC 1813, appendix
 //! II).
 
+ghost use Rattle.std.specs.Prelude.{◌≡◌, IfOk, IfSome};
+ghost use Rattle.nfs_server.specs.AnswersTo.{AnswersRecord};
+ghost use Rattle.nfs_server.specs.CalledBack.{IsGranted, IsTakenIn, IsUnrefused};
+
 use crate::callbacks::Callbacks;
 use crate::network::counters::CountedEvent;
-use crate::network::dispatcher::{Dispatcher, is_refusal};
+use crate::network::dispatcher::{Closed, Dispatcher};
 use crate::network::failures::Failures;
 use crate::network::mailbox::Mailbox;
-use crate::network::messages::{Letter, addressed, call_of_answer};
+use crate::network::messages::{Letter, addressed, call_of_answer, has_reply};
 use crate::network::peer::read_some;
 use crate::runtime::SystemNet;
 use nfs_engine::{Host, Posted};
 use nfs_pool::Naming;
 use nfs_rpc::{Record, RecordError, Records};
-use side_wire::Callback;
+use nfs_schedule::Answer;
 use std::alloc::Global;
 use std::io::Write;
 use std::net::{SocketAddr, TcpStream};
@@ -50,7 +54,7 @@ pub(crate) struct CallbackThread<L: Ledger + Naming, C> {
 }
 
 impl<L: Ledger + Naming, C: Clock> CallbackThread<L, C> {
-    /// Sends messages as they come, the oldest first.
+    /// Sends messages as they come: grants before results, and of each kind the oldest first.
     pub(crate) fn work<R: Wait + Clock + SystemNet>(&mut self, rt: &R, alloc: Global) {
         for _ in rt.forever() {
             let posted = self.mailbox.take(rt);
@@ -129,23 +133,26 @@ fn pass_over<R: Clock>(rt: &R, failures: &mut Failures, address: SocketAddr) {
     }
 }
 
-/// Sends a letter. The record that comes back; None where none does.
+/// Sends a letter, and waits for a reply where its host sends one. The record that comes back; None where none does.
 ///
 /// # Errors
 ///
-/// The connection failed, or no answer to GRANTED came in time. Other messages need no answer.
+/// The connection failed, or no answer to GRANTED came in time.
 fn asked<L: Ledger + Naming, C: Clock, R: Wait + Clock + SystemNet>(
     rt: &R,
     alloc: Global,
     dispatcher: &Dispatcher<L, C>,
     letter: &Letter<'_>,
     posted: &Posted,
-) -> io::Result<Option<Record>> {
+) -> io::Result<Option<Record>>
+    ensures { IfOk result (λ answer. IfSome answer (λ _. IsGranted posted.now.message.call)) }
+{
     let stream = connected(rt, letter.callback.address)?;
     (&stream).write_all(&letter.bytes)?;
-    match first_record(rt, alloc, dispatcher, &stream) {
-        Err(_) if !matches!(&posted.message.call, Callback::Granted(_)) => Ok(None),
-        answered => answered,
+    if has_reply(&posted.message) {
+        first_record(rt, alloc, dispatcher, &stream)
+    } else {
+        Ok(None)
     }
 }
 
@@ -208,38 +215,70 @@ impl<L: Ledger + Naming, C: Clock> Dispatcher<L, C> {
         answer: &Record,
     ) {
         for _ in 0..TRIES {
-            if self.is_settled(rt, alloc, host, posted, answer) {
-                return;
+            match self.enter(rt, alloc, host, posted, answer) {
+                Ok(told) => {
+                    drop(told);
+                    return;
+                }
+                Err(_) => self.make_room(rt),
             }
-            self.make_room(rt);
         }
     }
 
-    /// Whether an answer was taken in, or is none that comes in; else there was no memory for that.
-    fn is_settled<R: Wait>(
+    /// Has what a host answered to a message come in. What its call is answered; None where it comes in as nothing.
+    ///
+    /// # Errors
+    ///
+    /// There was no memory for that, or its call was refused.
+    fn enter<R: Wait>(
         &mut self,
         rt: &R,
         alloc: Global,
         host: &Host,
         posted: &Posted,
         answer: &Record,
-    ) -> bool {
-        match call_of_answer(alloc, posted, answer) {
-            Ok(Some(call)) => self.is_executed(rt, alloc, host, call),
-            Ok(None) => true,
-            Err(_) => false,
+    ) -> Result<Option<Answer>, Closed>
+        ensures { IfOk result (IsTakenIn self.old.last host.now posted.now.number posted.now.message answer.now) }
+    {
+        match call_of_answer(alloc, posted, answer)? {
+            Some(call) => Ok(Some(self.carry_out(rt, alloc, host, call)?)),
+            None => Ok(None),
         }
     }
 
-    /// Whether a call was taken in and not refused.
-    fn is_executed<R: Wait>(&mut self, rt: &R, alloc: Global, host: &Host, call: Record) -> bool {
-        match self.answer_alone(rt, alloc, host, call) {
-            Ok(answer) => {
-                let is_refused = is_refusal(&answer);
-                drop(answer);
-                !is_refused
-            }
-            Err(_) => false,
+    /// Answers a call that is not to be refused.
+    ///
+    /// # Errors
+    ///
+    /// It was refused, or there was no memory to answer it.
+    fn carry_out<R: Wait>(
+        &mut self,
+        rt: &R,
+        alloc: Global,
+        host: &Host,
+        call: Record,
+    ) -> Result<Answer, Closed>
+        ensures answers { IfOk result (AnswersRecord self.old.last host.now call) }
+        ensures unrefused { IfOk result IsUnrefused }
+    {
+        unrefused(self.answer_alone(rt, alloc, host, call)?)
+    }
+}
+
+/// An answer that is no refusal.
+///
+/// # Errors
+///
+/// It is one: there was no memory, or no number.
+fn unrefused(answer: Answer) -> Result<Answer, Closed>
+    ensures same { IfOk result (λ same. same ≡ answer) }
+    ensures unrefused { IfOk result IsUnrefused }
+{
+    match answer {
+        Answer::Refused(refused) => {
+            drop(refused);
+            Err(Closed::Memory)
         }
+        answer => Ok(answer),
     }
 }

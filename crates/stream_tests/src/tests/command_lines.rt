@@ -347,7 +347,7 @@ fn lines_of_an_operator(rt: HostRuntime) -> Result<(), Fail> {
     Ok(())
 }
 
-/// Four workers and 64 connections, for ever, and nobody says anything on standard input.
+/// Four workers and 1,024 connections, for ever, and nobody says anything on standard input.
 #[test]
 fn the_defaults_of_the_network(rt: HostRuntime) -> Result<(), Fail> {
     let options = options(rt.alloc(), &NETWORK[..5])?;
@@ -358,7 +358,7 @@ fn the_defaults_of_the_network(rt: HostRuntime) -> Result<(), Fail> {
                 udp: None,
                 control: false,
                 workers: 4,
-                connections: 64,
+                connections: 1024,
                 accept: 0,
                 stats: 0,
                 ..

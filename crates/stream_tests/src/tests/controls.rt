@@ -3,16 +3,17 @@
 use super::readers_and_writers::{Choppy, Course, Failing, Pace, Trouble, WRITES_ALL};
 use super::*;
 use nfs_rpc::stream::Counts;
-use nfs_server::{Applied, control};
+use nfs_server::{Applied, ControlEnd, control};
 
 /// What became of some lines: what was written, and how many bytes it were at each flush; how many exports each list
-/// had that was handed in; how many reads and writes failed.
+/// had that was handed in; how many reads and writes failed; and what ended it.
 #[derive(Drop)]
 struct Told {
     written: Vec<u8>,
     flushes: Vec<usize>,
     lists: Vec<usize>,
     failures: (u64, u64),
+    ended: ControlEnd,
 }
 
 impl Told {
@@ -24,7 +25,7 @@ impl Told {
 }
 
 /// Lines come in these pieces, of which so many reads are good, and the writer goes so. What is handed in is answered
-/// so.
+/// so. `/data` stands at first.
 fn tell(
     alloc: Global,
     [first, second, third]: [&[u8]; 3],
@@ -45,8 +46,10 @@ fn tell(
         flushes: Vec::new(alloc),
         course,
     });
-    control(
+    let standing = exports(alloc)?;
+    let ended = control(
         alloc,
+        standing,
         &mut reader,
         &mut writer,
         |exports| match lists.push(exports.list().len()) {
@@ -65,6 +68,7 @@ fn tell(
         flushes,
         lists,
         failures,
+        ended,
     })
 }
 
@@ -158,9 +162,13 @@ fn a_list_has_64_exports_at_most(rt: HostRuntime) -> Result<(), Fail> {
 /// A command is a whole line, and nothing else.
 #[test]
 fn other_lines_are_unknown(rt: HostRuntime) -> Result<(), Fail> {
-    let rows: [&[u8]; 8] = [
+    let rows: [&[u8]; 12] = [
         b"\n",
         b"add\n",
+        b"check \n",
+        b"checks\n",
+        b"End\n",
+        b" end\n",
         b"apply \n",
         b"apply\r\n",
         b" apply\n",
@@ -170,6 +178,98 @@ fn other_lines_are_unknown(rt: HostRuntime) -> Result<(), Fail> {
     ];
     for line in rows {
         assert!(rt; is_answered(rt.alloc(), line, b"unknown command\n", &[])?);
+    }
+    Ok(())
+}
+
+/// What `apply` would do is told, and the list stays. `/data` stands at first; once a list is handed in what it has
+/// does. A mode and hosts change no path.
+#[test]
+fn changes_are_told(rt: HostRuntime) -> Result<(), Fail> {
+    let rows: [(&[u8], &[u8], &[usize]); 9] = [
+        (b"check\n", b"keeps 0, drops /data\n", &[]),
+        (b"add /data,rw,*\ncheck\n", b"keeps 1\n", &[]),
+        (b"add /data,ro,10.0.0.1\ncheck\n", b"keeps 1\n", &[]),
+        (
+            b"add /new,rw,*\ncheck\n",
+            b"keeps 0, drops /data, adds /new\n",
+            &[],
+        ),
+        (
+            b"add /new,rw,*\nadd /data,rw,*\nadd /,rw,*\ncheck\ncheck\n",
+            b"keeps 1, adds /new, adds /\nkeeps 1, adds /new, adds /\n",
+            &[],
+        ),
+        (
+            b"add /new,rw,*\nadd /,rw,*\ncheck\napply\ncheck\n",
+            b"keeps 0, drops /data, adds /new, adds /\napplied\nkeeps 0, drops /new, drops /\n",
+            &[2],
+        ),
+        (
+            b"apply\ncheck\nadd /data,rw,*\ncheck\n",
+            b"applied\nkeeps 0\nkeeps 0, adds /data\n",
+            &[0],
+        ),
+        (
+            b"add /dat,rw,*\nadd /data/,rw,*\ncheck\n",
+            b"refused: export 2: bad path\n",
+            &[],
+        ),
+        (
+            b"add data,rw,*\ncheck\napply\ncheck\n",
+            b"refused: export 1: bad path\nrefused: export 1: bad path\nkeeps 0, drops /data\n",
+            &[],
+        ),
+    ];
+    for (lines, answers, lists) in rows {
+        assert!(rt; is_answered(rt.alloc(), lines, answers, lists)?);
+    }
+    Ok(())
+}
+
+/// Exports that are refused as they are handed in don't stand.
+#[test]
+fn what_is_refused_does_not_stand(rt: HostRuntime) -> Result<(), Fail> {
+    let told = tell(
+        rt.alloc(),
+        [b"add /new,rw,*\napply\ncheck\n", b"", b""],
+        u64::MAX,
+        WRITES_ALL,
+        Applied::Refused,
+    )?;
+    let answers = b"refused: out of memory\nkeeps 0, drops /data\n";
+    assert!(rt; told.is(answers, &[1], (0, 0)));
+    Ok(())
+}
+
+/// The end is asked for by a line `end`, also by one that no newline ends. It is not answered, and no line behind it is
+/// looked at.
+#[test]
+fn the_end_is_asked_for(rt: HostRuntime) -> Result<(), Fail> {
+    let rows: [(&[u8], &[u8], &[usize], ControlEnd); 6] = [
+        (b"end\n", b"", &[], ControlEnd::Asked),
+        (b"end", b"", &[], ControlEnd::Asked),
+        (
+            b"apply\nend\napply\n",
+            b"applied\n",
+            &[0],
+            ControlEnd::Asked,
+        ),
+        (b"add /data,rw,*\nend\nend\n", b"", &[], ControlEnd::Asked),
+        (b"apply\n", b"applied\n", &[0], ControlEnd::Input),
+        (b"ends\n", b"unknown command\n", &[], ControlEnd::Input),
+    ];
+    for (lines, answers, lists, ended) in rows {
+        let alloc = rt.alloc();
+        let told = tell(
+            alloc,
+            [lines, b"", b""],
+            u64::MAX,
+            WRITES_ALL,
+            Applied::Executed,
+        )?;
+        assert!(rt; told.is(answers, lists, (0, 0)));
+        assert_eq!(rt; told.ended, ended);
     }
     Ok(())
 }
@@ -262,6 +362,12 @@ fn reads_fail(rt: HostRuntime) -> Result<(), Fail> {
         let pieces: [&[u8]; 3] = [b"add /data,rw,*\n", b"apply\n", b"apply"];
         let told = tell(rt.alloc(), pieces, good, WRITES_ALL, Applied::Executed)?;
         assert!(rt; told.is(answers, lists, (failures, 0)), "{good} reads");
+        let ended = if failures > 0 {
+            ControlEnd::Read
+        } else {
+            ControlEnd::Input
+        };
+        assert_eq!(rt; told.ended, ended);
     }
     Ok(())
 }
@@ -292,6 +398,12 @@ fn writes_fail(rt: HostRuntime) -> Result<(), Fail> {
             told.is(answers, lists, (0, failures)),
             "{good} writes of {most}"
         );
+        let ended = if failures > 0 {
+            ControlEnd::Write
+        } else {
+            ControlEnd::Input
+        };
+        assert_eq!(rt; told.ended, ended);
     }
     Ok(())
 }
@@ -305,12 +417,22 @@ fn told_without_memory(alloc: Global, lines: &[u8]) -> Result<(Vec<u8>, u64), Al
     };
     let mut writer = Counted::new(room);
     let mut digits = 0u64;
-    control(alloc, &mut Counted::new(lines), &mut writer, |exports| {
-        digits = digits
-            .wrapping_mul(10)
-            .wrapping_add(exports.list().len() as u64);
-        Applied::Executed
-    });
+    let standing = match exports(alloc) {
+        Ok(standing) => standing,
+        Err(_) => exports(alloc)?,
+    };
+    control(
+        alloc,
+        standing,
+        &mut Counted::new(lines),
+        &mut writer,
+        |exports| {
+            digits = digits
+                .wrapping_mul(10)
+                .wrapping_add(exports.list().len() as u64);
+            Applied::Executed
+        },
+    );
     Ok((writer.into_inner(), digits))
 }
 

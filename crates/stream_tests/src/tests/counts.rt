@@ -33,16 +33,19 @@ const UNKNOWN: [u8; 24] = [
 /// What is called.
 const CALLS: [[u8; 24]; 5] = [GETATTR, EXPORT, GETATTR, FREE_ALL, UNKNOWN];
 
-/// What stands: 20 objects, and the replies to five calls of two hosts.
-const STANDS: [(Gauge, u64); 4] = [
+/// What stands: 1,024 places, 20 objects, and the replies to five calls of two hosts.
+const STANDS: [(Gauge, u64); 5] = [
+    (Gauge::Places, 1024),
     (Gauge::Objects, 20),
     (Gauge::KeptHosts, 2),
     (Gauge::KeptReplies, 5),
     (Gauge::KeptBytes, 1234),
 ];
 
-/// What happens: two connections come and one of them is given up, and of two datagrams one is dropped.
-const HAPPENED: [CountedEvent; 6] = [
+/// What happens: of three connections that come one is given up and one gives way, and of two datagrams one is dropped.
+const HAPPENED: [CountedEvent; 8] = [
+    CountedEvent::Opened,
+    CountedEvent::GaveWay,
     CountedEvent::Opened,
     CountedEvent::Datagram,
     CountedEvent::Opened,
@@ -51,14 +54,18 @@ const HAPPENED: [CountedEvent; 6] = [
     CountedEvent::DatagramDropped,
 ];
 
-const NOTHING: &str = " connections=0 repeated=0 refused=0 faulty=0 unanswered=0 \
-    opened=0 ended=0 failed=0 late=0 starved=0 turned_away=0 datagrams=0 datagrams_dropped=0 \
+const NOTHING: &str = " connections=0 places=0 repeated=0 refused=0 faulty=0 unanswered=0 \
+    mounts_refused=0 stale=0 jukebox=0 \
+    opened=0 ended=0 failed=0 late=0 starved=0 gave_way=0 no_thread=0 turned_away=0 no_descriptor=0 \
+    bytes_read=0 bytes_written=0 datagrams=0 datagrams_dropped=0 \
     messages_sent=0 messages_dropped=0 callbacks_failed=0 eras=0 \
     objects=0 kept_hosts=0 kept_replies=0 kept_bytes=0";
 
 const TOLD: &str = " nfs_getattr=2 mount_export=1 nlm_free_all=1 \
-    connections=1 repeated=0 refused=0 faulty=0 unanswered=0 \
-    opened=2 ended=0 failed=0 late=1 starved=0 turned_away=0 datagrams=2 datagrams_dropped=1 \
+    connections=1 places=1024 repeated=0 refused=0 faulty=0 unanswered=0 \
+    mounts_refused=0 stale=0 jukebox=0 \
+    opened=3 ended=0 failed=0 late=1 starved=0 gave_way=1 no_thread=0 turned_away=0 no_descriptor=0 \
+    bytes_read=40 bytes_written=0 datagrams=2 datagrams_dropped=1 \
     messages_sent=0 messages_dropped=0 callbacks_failed=0 eras=0 \
     objects=20 kept_hosts=2 kept_replies=5 kept_bytes=1234";
 
@@ -88,6 +95,7 @@ fn count_others(counters: &Counters) {
     for event in HAPPENED.iter() {
         counters.happened(*event);
     }
+    counters.add(CountedEvent::BytesRead, 40);
     for (gauge, value) in STANDS.iter() {
         counters.set(*gauge, *value);
     }

@@ -1,7 +1,7 @@
 //! What the program says as it ends.
 
 use nfs_machine::ExportError;
-use nfs_server::Exit;
+use nfs_server::{Exit, open_standard};
 use std::process::Abort;
 use std::test::Fail;
 
@@ -37,6 +37,7 @@ fn is_refused(rt: &(impl Abort + AllocGlobal), fault: ExportError, line: &str) -
 fn each_exit_has_a_status_and_a_line(rt: HostRuntime) -> Result<(), Fail> {
     is_told(&rt, &Exit::NoTransport, 2, "nfsd: no transport")?;
     is_told(&rt, &Exit::Memory, 1, "nfsd: out of memory")?;
+    is_told(&rt, &Exit::NoDescriptors, 1, "nfsd: cannot open /dev/null")?;
     is_told(&rt, &Exit::NoRandomBytes, 1, "nfsd: no random bytes")?;
     is_told(
         &rt,
@@ -68,4 +69,11 @@ fn each_fault_of_exports_has_its_line_and_status_1(rt: HostRuntime) -> Result<()
         "nfsd: export 2: double path",
     )?;
     is_refused(&rt, ExportError::TooMany, "nfsd: too many exports")
+}
+
+/// Standard input, output and error are open here, so what is opened has a number above theirs.
+#[test]
+fn standard_descriptors_are_open(rt: HostRuntime) -> Result<(), Fail> {
+    assert!(rt; open_standard(&rt).is_ok());
+    Ok(())
 }

@@ -8,6 +8,7 @@ parts-preserved g c = (
   writing_more _ _ _ _ _ _ c.in_ok-count.count c.parts.invariant.0 c.in_ok-count.ensures.bytes c.split_at.ensures.back,
   c.in_ok-count.ensures.unread ∙ c.parts.invariant.1,
   c.in_ok-count.ensures.host ∙ c.parts.invariant.2,
+  c.in_ok-count.ensures.deadline ∙ c.parts.invariant.3,
 )
 
 pub returns-in_err-count-clause-part : goal.returns-in_err-count-clause-part

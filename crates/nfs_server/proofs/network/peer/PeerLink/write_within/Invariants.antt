@@ -7,6 +7,7 @@ invariant-parts g l =
     Writing (g.P.Peer.written l.initial.self.peer) (g.P.Peer.written l.self.peer) l.bytes l.rest
     × (g.P.Peer.unread l.self.peer ≡ g.P.Peer.unread l.initial.self.peer)
     × (l.self.host ≡ l.initial.self.host)
+    × (l.self.deadline ≡ l.initial.self.deadline)
 
 abbrev pub decreases-parts : goal.decreases-parts
 decreases-parts g l = length l.rest
