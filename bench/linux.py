@@ -1,6 +1,6 @@
 #!/usr/bin/env python3
 """Tries the server with Linux' own client: its kernel mounts the export, in a machine of User Mode Linux (guests.py),
-with the words that README tells, and makes the checks of bench/linux_checks.sh; each that fails is named.
+with the words that docs/OPERATING.md tells, and makes the checks of bench/linux_checks.sh; each that fails is named.
 
 Wanted is what guests.py wants.
 
