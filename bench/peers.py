@@ -1,6 +1,7 @@
 #!/usr/bin/env python3
 """nfsd beside others: lets this build, nfs-ganesha over a tmpfs, and a server that does nothing take turns at the same
-calls over TCP, at one priority, and keeps what came of it by commit in bench/results/, with a page that shows it all.
+calls over TCP, at one priority, and keeps what came of it by commit in bench/results/. It writes bench/RESULTS.md, a
+page with all this and with the figures of other scripts that stand in bench/results/figures.tsv.
 
 nfs-ganesha is Debian's, and is installed where it isn't there, with rpcbind, which it asks for (`apt-get update`,
 `apt-get install`): use a machine that may have them. All servers run in a network and a file system view of their own
@@ -21,6 +22,7 @@ usage: bench/peers.py [--program PROGRAM] [--workloads A,B..] [--rounds N] [--se
                       [--mem] [--plain] [--render]
 """
 import contextlib
+import csv
 import datetime
 import hashlib
 import json
@@ -41,7 +43,8 @@ import turns
 
 ROOT = pathlib.Path(__file__).resolve().parent.parent
 RESULTS = ROOT / "bench/results"
-PAGE = RESULTS / "README.md"
+FIGURES = RESULTS / "figures.tsv"
+PAGE = ROOT / "bench/RESULTS.md"
 NFSD, GANESHA, NOTHING = "nfsd", "ganesha", "nothing"
 PACKAGES = ("nfs-ganesha", "nfs-ganesha-vfs", "nfs-ganesha-mem", "rpcbind")
 APART = "PEERS_APART"  # set where this runs in a view of its own
@@ -227,19 +230,36 @@ def page(results):
     """What the page says of these results, of which the last one is the newest."""
     newest = results[-1]
     lines = [
-        "# nfsd beside others", "",
-        "`bench/peers.py` writes this page, from the files beside it. Calls a second over TCP on one machine, medians",
-        "of the rounds; a ratio is the median of the rounds' ratios. `nothing` is a server that answers each call at",
-        "once and does nothing: what kernel, loopback and load generator allow at most. How much a page of",
-        "READDIRPLUS holds is each server's own choice.", "",
-        "## Now", "", *about(newest), "",
+        "# What was measured", "",
+        "`bench/peers.py` writes this page (`--render`), from `bench/results/`. Compare two programs by letting them",
+        "take turns on one machine (`bench/turns.py`), and not with a figure of this page.", "",
+        "## Now, next to others", "",
+        "Calls a second over TCP on one machine, medians of the rounds; a ratio is the median of the rounds' ratios.",
+        "`nothing` is a server that answers each call at once and does nothing: what kernel, loopback and load",
+        "generator allow at most. How much a page of READDIRPLUS holds is each server's own choice.", "",
+        *about(newest), "",
         "| | nfsd | ganesha | nothing | nfsd of nothing's | times ganesha's | µs of a processor: nfsd | ganesha |",
         "|---|---:|---:|---:|---:|---:|---:|---:|",
         *(row(workload, rounds) for workload, rounds in newest["workloads"].items()), "",
         "## By commit", "", *by_commit("of nothing's rate", results, NOTHING), "",
-        *by_commit("times nfs-ganesha's rate", results, GANESHA),
+        *by_commit("times nfs-ganesha's rate", results, GANESHA), "",
+        "## Other figures", "",
+        "Each was measured once, of the text of its commit or of one shortly before; this page, as that commit has",
+        "it, tells more. `by` is the script of `bench/` that measures it again.", "",
+        "| | figure | build | by | commit |", "|---|---|---|---|---|", *figures(),
     ]  # fmt: skip
     return "\n".join(lines) + "\n"
+
+
+def figures():
+    """A row for each figure that no file of a commit has, under the name of its topic."""
+    with FIGURES.open(newline="") as table:
+        rows = list(csv.DictReader(table, delimiter="\t", quoting=csv.QUOTE_NONE))
+    for number, told in enumerate(rows):
+        if number == 0 or told["topic"] != rows[number - 1]["topic"]:
+            yield f"| **{told['topic']}** | | | | |"
+        by = ", ".join(f"`{script}`" for script in told["by"].split(", ") if script)
+        yield f"| {told['what']} | {told['figure']} | {told['build']} | {by} | {told['commit']} |"
 
 
 def about(told):
