@@ -18,6 +18,7 @@ mod capacity;
 mod digest;
 mod key;
 pub mod laws;
+mod list;
 mod origins;
 mod replies;
 pub mod worked;
