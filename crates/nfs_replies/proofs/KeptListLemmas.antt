@@ -1,14 +1,9 @@
 -- Lists of kept replies: what is not kept stays so, and each record stays once.
 use Rattle.std.proofs.Common.{◌≡◌, ◌≤◌, ◌+◌, ℕ, zero, suc, Bool, true, false, cond, not, List, []}
 use Rattle.std.proofs.Common.{◌∷◌, ◌++◌, Option, Some, None, option_map, length, take, find, filter, refl}
-use Rattle.std.proofs.Common.{sym, ap, ◌∙◌, subst, arith}
-use Rattle.std.proofs.lemmas.List.{length-append}
-use Rattle.std.proofs.lemmas.List.Elements.{filter-append}
-use Rattle.std.proofs.lemmas.List.Sums.{length-filter}
-use Rattle.std.specs.Cmp.Lexicographic.{bytes_decides}
-use Rattle.nfs_replies.specs.Kept.{KeptReply, after, is_for, reply_for, same_bytes}
-use Rattle.nfs_replies.specs.Kept.ReplyEvent.{Replied, Repeated}
-
+use Rattle.std.proofs.Common.{ap, ◌∙◌, arith}
+use Rattle.nfs_replies.specs.Kept.{KeptReply, after, is_for, reply_for}
+use Rattle.nfs_replies.specs.Kept.ReplyEvent.{Repeated}
 
 module _ {X : Type 0} (p q : X → Bool) where
   -- what a list does not have, no part of it has
@@ -102,4 +97,3 @@ module _ (capacity : ℕ) (host bytes : List ℕ) where
       let empty = filter-none (is_for bytes) list (none-found (find (is_for bytes) list) none) in
       ap (λ front. front ++ filter (λ kept. not (is_for bytes kept)) list) empty
       ∙ others-all (is_for bytes) list empty
-

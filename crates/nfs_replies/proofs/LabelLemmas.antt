@@ -1,6 +1,6 @@
 -- A table of records by labels is the list of what it keeps: to find, to promote and to put are what events do to it.
-use Rattle.std.proofs.Common.{◌≡◌, ◌≤◌, ◌<◌, ◌-◌, ◌+◌, ◌^◌, ℕ, zero, suc, Bool, true, false, cond, not, ◌&&◌, nat_eq}
-use Rattle.std.proofs.Common.{List, [], ◌∷◌, ◌++◌, Option, Some, None, IsSome, option_map, length, take, map, find}
+use Rattle.std.proofs.Common.{◌≡◌, ◌≤◌, ◌<◌, ◌-◌, ◌+◌, ℕ, zero, suc, Bool, true, false, cond, not, ◌&&◌, nat_eq}
+use Rattle.std.proofs.Common.{List, [], ◌∷◌, ◌++◌, Option, Some, None, IsSome, option_map, length, take, find}
 use Rattle.std.proofs.Common.{filter, refl, sym, ap, ◌∙◌, subst, arith}
 use Rattle.std.proofs.lemmas.Bool.{and_parts, eq-eqb, eqb-true}
 use Rattle.std.proofs.lemmas.List.{length-append, map-append, take-map}
@@ -12,10 +12,10 @@ use Rattle.std.specs.Option.{option_map_or}
 use Rattle.lru.proofs.Pairs.{lookup-lookup_entry}
 use Rattle.lru.proofs.Splits.{all_both}
 use Rattle.lru.specs.LruCache.{LruCache, lru_cache, promoted, put_entries}
-use Rattle.nfs_replies.specs.Kept.{KeptReply, after, is_for, reply_for}
+use Rattle.nfs_replies.specs.Kept.{KeptReply, is_for, reply_for}
 use Rattle.nfs_replies.specs.Kept.ReplyEvent.{Replied, Repeated}
 use Rattle.nfs_replies.specs.Keys.{digest}
-use Rattle.nfs_replies.specs.Lists.{EachOnce, Entry, HasBytes, IsLabelled, IsList, KeptListValue, is_at, is_of}
+use Rattle.nfs_replies.specs.Lists.{Entry, HasBytes, IsLabelled, IsList, KeptListValue, is_at, is_of}
 use Rattle.nfs_replies.specs.Lists.{kept_entry, kept_in, left_by, same_label}
 use Rattle.nfs_replies.specs.declared.digest.RecordKey.{RecordKey}
 use Rattle.nfs_replies.specs.declared.list.KeptEntry.{KeptEntry}
@@ -227,7 +227,7 @@ module _ (bytes : List ℕ) (label : Label) where
         | true ↦ λ h. (let same : x.1.bytes ≡ bytes = cc in
             rw ((bytes_decides bytes x.1.bytes).1 (sym same)) (omega arith))
         | false ↦ λ h. (let on = has-counts es h in elim (is_of bytes x) as
-            (λ b. 0 < length (cond b (x ∷ rest) rest)) [ | true ↦ omega arith | false ↦ on ])
+            (λ b. 0 < length (cond b (x ∷ rest) rest)) [ true ↦ omega arith | false ↦ on ])
       ] has)
 
   all-fail : (es : Entries) → length (filter (is_at label) es) ≤ 0 → length (filter (is_of bytes) es) ≤ 0 →
@@ -306,9 +306,11 @@ module _ (key : RecordKey) (numbers : ℕ) (was : LruCache Label KeptEntry) (is 
       fails e labelled finds = (elim (is_of bytes e) as (λ b. is_of bytes e ≡ b → b ≡ false) [
         | true ↦ λ same. absurd (let is-it = (bytes_decides bytes e.1.bytes).0 same in
             none e.0.number labelled.below (
-              ap (λ hash. option_map (λ (e : KeptEntry). e.bytes) (lookup (same_label (record { hash = hash;
-              number = e.0.number })) was.entries)) (is-hash ∙ ap (digest key) is-it ∙ sym labelled.hash)
-              ∙ ap (option_map (λ (e : KeptEntry). e.bytes)) finds ∙ ap Some (sym is-it)))
+            ap (λ hash. option_map (λ (e : KeptEntry). e.bytes) (lookup (same_label (record {
+              hash = hash;
+              number = e.0.number;
+            })) was.entries)) (is-hash ∙ ap (digest key) is-it ∙ sym labelled.hash)
+            ∙ ap (option_map (λ (e : KeptEntry). e.bytes)) finds ∙ ap Some (sym is-it)))
         | false ↦ λ other. refl
       ]) refl
 
@@ -353,10 +355,10 @@ module _ (key : RecordKey) (numbers : ℕ) (was : LruCache Label KeptEntry) (is 
     pub promoted-left : list_of (lru_cache (promoted (same_label label) was.entries) was.cap) ≡
         left_by (Repeated [] bytes) (list_of was)
     promoted-left = ap (λ l. record { capacity = was.cap; replies = l }) (
-      ap kept_in halved ∙ map-append kept_entry front others
-      ∙ (λ i. filter-agrees bytes label (λ b. b) (λ b. b) (λ b. refl) was.entries agreed i ++
-      filter-agrees bytes label not not (λ b. refl) was.entries agreed i)
-    )
+        ap kept_in halved ∙ map-append kept_entry front others
+        ∙ (λ i. filter-agrees bytes label (λ b. b) (λ b. b) (λ b. refl) was.entries agreed i ++
+        filter-agrees bytes label not not (λ b. refl) was.entries agreed i)
+        )
 
   module _ (reply : List ℕ) (label : Label) (more : ℕ) (hashed : label.hash ≡ digest key bytes)
       (rises : numbers ≤ more) (below : label.number < more)
@@ -399,7 +401,7 @@ module _ (key : RecordKey) (numbers : ℕ) (was : LruCache Label KeptEntry) (is 
       labelled = (
         record { hash = hashed; below = below },
         all-taken (IsLabelled key more) (was.cap - 1) was.entries
-        (all-map (IsLabelled key numbers) (IsLabelled key more) wider was.entries is.labelled),
+            (all-map (IsLabelled key numbers) (IsLabelled key more) wider was.entries is.labelled),
       );
       once = record {
         labels = λ other. once-put (is_at other) (was.cap - 1) (label, new) was.entries (unlabelled other)

@@ -5,3 +5,4 @@ pub mod HostMapLemmas
 pub mod KeptListLemmas
 pub mod NotKeptLemmas
 pub mod LabelLemmas
+pub mod OriginLemmas

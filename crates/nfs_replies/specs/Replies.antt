@@ -1,5 +1,5 @@
 -- What a contract sees of the kept replies.
-use Rattle.std.specs.Prelude.{◌≡◌, ℕ, List, [], IfSome, Option, map, find}
+use Rattle.std.specs.Prelude.{◌≡◌, ℕ, List, [], IfSome, Option, find}
 use Rattle.std.specs.Map.{lookup}
 use Rattle.std.specs.Option.{option_map_or}
 use Rattle.nfs_replies.specs.Kept.{ReplyEvent, KeptReply, KeptLists, lists_after, same_bytes}

@@ -5,8 +5,9 @@ ghost use Rattle.std.proofs.lemmas.Bool.{and_parts, eqb-true};
 ghost use Rattle.std.specs.Cmp.{nat_eq_equiv};
 ghost use Rattle.std.specs.Cmp.Lexicographic.{bytes_decides, nat_list_eq_equiv};
 ghost use Rattle.std.specs.Hash as fed;
+ghost use Rattle.std.specs.Map.{lookup};
 ghost use Rattle.std.specs.Option.{option_map_or};
-ghost use Rattle.indexmap.specs.IndexMap.{get_by};
+ghost use Rattle.nfs_replies.specs.Entries.{same_key};
 ghost use Rattle.nfs_replies.specs.Kept.{same_bytes};
 ghost use Rattle.nfs_replies.specs.Origins.{Adds, Removes, is_among};
 
@@ -141,7 +142,8 @@ impl Origins {
     {
         let hash = sought.hash_under(self.key);
         let bytes = sought.bytes();
-        is_first(&self.first, OriginKeyRef { host, hash }, bytes) || is_other(&self.others, host, bytes)
+        is_first(&self.first, OriginKeyRef { host, hash }, bytes)
+            || is_other(&self.others, host, bytes)
     }
 
     /// Adds one.
@@ -159,7 +161,10 @@ impl Origins {
             return self.add_other(origin);
         }
         let Origin { host, bytes } = origin;
-        self.first.insert(OriginKey { host, hash }, bytes.into_bytes())?;
+        drop(
+            self.first
+                .insert(OriginKey { host, hash }, bytes.into_bytes())?,
+        );
         Ok(())
     }
 
@@ -181,10 +186,10 @@ impl Origins {
         let hash = origin.bytes.sought().hash_under(self.key);
         let host = &origin.host;
         let key = OriginKeyRef { host, hash };
+        remove_other(&mut self.others, origin);
         if is_first(&self.first, key, origin.bytes.bytes()) {
-            self.first.swap_remove(key);
+            drop(self.first.swap_remove(key));
         }
-        self.others.retain(|other| *other != *origin);
     }
 
     /// Takes out one that is among them. Its bytes are compared only where two records of a host have one hash.
@@ -197,13 +202,14 @@ impl Origins {
         }
         let hash = origin.bytes.sought().hash_under(self.key);
         let host = &origin.host;
-        self.first.swap_remove(OriginKeyRef { host, hash });
+        drop(self.first.swap_remove(OriginKeyRef { host, hash }));
     }
 }
 
 /// Whether the record that stands at this key has these bytes.
 fn is_first(first: &IndexMap<OriginKey, Bytes>, key: OriginKeyRef<'_>, bytes: &Bytes) -> bool
-    ensures { result ≡ option_map_or (same_bytes bytes.now) (get_by (λ at. same_bytes key.host.now at.host && nat_eq key.hash at.hash) first.now) false }
+    ensures { result ≡ option_map_or (same_bytes bytes.now)
+        (lookup (same_key (record { host = key.entry.host.now; hash = key.entry.hash })) first.now.entries) false }
 {
     match first.get(key) {
         Some(there) => *bytes == *there,
@@ -215,7 +221,12 @@ fn is_first(first: &IndexMap<OriginKey, Bytes>, key: OriginKeyRef<'_>, bytes: &B
 fn is_other(others: &[Origin], host: &Bytes, bytes: &Bytes) -> bool
     ensures { result ≡ is_among others.now (record { host = host.now; bytes = bytes.now }) }
 {
-    others
-        .iter()
-        .any(|other| *host == other.host && *bytes == *other.bytes.bytes())
+    others.iter().any(|other| *host == other.host && *bytes == *other.bytes.bytes())
+}
+
+/// Takes one out of these, if it is among them.
+fn remove_other(others: &mut Vec<Origin>, origin: &Origin)
+    ensures { Removes origin.now others.old.items others.new.items }
+{
+    others.retain(|other| *other != *origin);
 }

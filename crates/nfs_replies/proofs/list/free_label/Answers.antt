@@ -1,8 +1,8 @@
-use Rattle.std.proofs.Common.{◌≡◌, ◌<◌, ◌≤◌, ◌+◌, ℕ, Option, Some, None, IsSome, MatchOption, arith, refl, rules}
+use Rattle.std.proofs.Common.{◌<◌, ◌≤◌, ◌+◌, ℕ, Option, Some, None, IsSome, MatchOption, arith, refl, rules}
 use Rattle.std.specs.Map.{lookup}
 use Rattle.std.proofs.lemmas.Iterator.{first_from_Range}
 use Rattle.nfs_replies.specs.Lists.{same_label}
-use Rattle.nfs_replies.proofs.LabelLemmas.{all-taken_fit, none-kept}
+use Rattle.nfs_replies.proofs.LabelLemmas.{all-taken_fit}
 use Rattle.nfs_replies.proofs.list.free_label.Goals as goal
 
 pub unwrap-requires : goal.unwrap-requires

@@ -1,4 +1,4 @@
-use Rattle.std.proofs.Common.{◌≡◌, ◌<◌, ◌≤◌, ℕ, None, arith, rules}
+use Rattle.std.proofs.Common.{◌<◌, ◌≤◌, ℕ, None, arith, rules}
 use Rattle.std.proofs.lemmas.Iterator.{first_from_Range}
 use Rattle.nfs_replies.specs.Lists.{HasBytes}
 use Rattle.nfs_replies.proofs.list.label_of.Goals as goal

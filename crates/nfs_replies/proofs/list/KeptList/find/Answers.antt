@@ -1,7 +1,5 @@
-use Rattle.std.proofs.Common.{◌≡◌, [], Err, None, Ok, OnErr, Result, Some, refl, sym, ap, ◌∙◌, subst}
+use Rattle.std.proofs.Common.{◌≡◌, [], Err, None, Ok, OnErr, Result, Some, sym, ap, ◌∙◌, subst}
 use Rattle.std.specs.Option.{is_some, option_copied}
-use Rattle.lru.specs.LruCache.{lru_cache}
-use Rattle.nfs_replies.specs.Kept.ReplyEvent.{Repeated}
 use Rattle.nfs_replies.specs.Lists.{IsList, kept_in}
 use Rattle.nfs_replies.proofs.KeptListLemmas.{after-unkept}
 use Rattle.nfs_replies.proofs.LabelLemmas.{none-kept, promoted-left, promoted-list, reply-found, list_of}

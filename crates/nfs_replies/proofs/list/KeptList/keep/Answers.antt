@@ -1,5 +1,4 @@
-use Rattle.std.proofs.Common.{[], sym, subst, ◌∙◌, ap, arith}
-use Rattle.nfs_replies.specs.Kept.ReplyEvent.{Replied}
+use Rattle.std.proofs.Common.{sym, subst, ◌∙◌, ap, arith}
 use Rattle.nfs_replies.specs.Keys.{digest}
 use Rattle.nfs_replies.specs.Lists.{IsList}
 use Rattle.nfs_replies.proofs.LabelLemmas.{put-left, put-list, list_of}
