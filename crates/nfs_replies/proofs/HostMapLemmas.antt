@@ -49,6 +49,11 @@ kept_of-shown capacity hosts host = by (list_of (shown capacity hosts) host) (lo
     by None (Some list) e = cc
     by (Some h) None e = cc
 
+-- so it is of the list that stands at the host
+pub kept-at : (capacity : ℕ) (hosts : Hosts) (host : List ℕ) (list : KeptListValue) →
+    Some list ≡ lookup (same_bytes host) hosts → kept_of (shown capacity hosts) host ≡ list.replies
+kept-at capacity hosts host list found = kept_of-shown capacity hosts host ∙ ap listed (sym found)
+
 -- a host without a list stands nowhere, and the other way round
 module _ (capacity : ℕ) (hosts : Hosts) (host : List ℕ) where
   pub none-stands : list_of (shown capacity hosts) host ≡ None → lookup (same_bytes host) hosts ≡ None
@@ -150,13 +155,11 @@ module _ (capacity : ℕ) (event : ReplyEvent) (old new : TableValue (List ℕ) 
   bound : was.capacity ≡ capacity
   bound = subst (λ o. IfSome o (λ (l : KeptListValue). l.capacity ≡ capacity)) (sym found) (each (host_of event))
 
-  -- what was lent is what is kept of the host
-  pub kept-lent : kept_of (shown capacity (entries old)) (host_of event) ≡ was.replies
-  kept-lent = kept_of-shown capacity (entries old) (host_of event) ∙ ap listed (sym found)
-
-  pub is-after-lent : now ≡ left_by event was → IsAfter event (shown capacity (entries old)) (shown capacity (entries new))
+  pub is-after-lent : now ≡ left_by event was →
+      IsAfter event (shown capacity (entries old)) (shown capacity (entries new))
   is-after-lent left = is-after-written capacity event (entries old) (entries new) now writes
-      (ap (λ (l : KeptListValue). l.replies) left ∙ ap (λ n. after n event was.replies) bound ∙ ap (λ o. after capacity event (listed o)) found)
+      (ap (λ (l : KeptListValue). l.replies) left ∙ ap (λ n. after n event was.replies) bound
+      ∙ ap (λ o. after capacity event (listed o)) found)
 
   pub same-lent : now ≡ was → shown capacity (entries new) ≡ shown capacity (entries old)
   same-lent same = ap (shown capacity) (through.stays (sym found ∙ ap Some (sym same)))

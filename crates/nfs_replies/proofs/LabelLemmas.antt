@@ -16,7 +16,7 @@ use Rattle.nfs_replies.specs.Kept.{KeptReply, is_for, reply_for}
 use Rattle.nfs_replies.specs.Kept.ReplyEvent.{Replied, Repeated}
 use Rattle.nfs_replies.specs.Keys.{digest}
 use Rattle.nfs_replies.specs.Lists.{Entry, HasBytes, IsLabelled, IsList, KeptListValue, is_at, is_of}
-use Rattle.nfs_replies.specs.Lists.{kept_entry, kept_in, left_by, same_label}
+use Rattle.nfs_replies.specs.Lists.{kept_entry, kept_in, left_by, numbered, same_label}
 use Rattle.nfs_replies.specs.declared.digest.RecordKey.{RecordKey}
 use Rattle.nfs_replies.specs.declared.list.KeptEntry.{KeptEntry}
 use Rattle.nfs_replies.specs.declared.list.Label.{Label}
@@ -171,44 +171,41 @@ each-finds (x ∷ es) once = (
 
 -- ---- more labels than there are records are not all taken
 module _ (hash : ℕ) where
-  abbrev numbered : ℕ → Label
-  numbered n = record { hash = hash; number = n }
-
   left : (m n : ℕ) → n < m → (es : Entries) →
-      lookup (same_label (numbered n)) (remove_entry (same_label (numbered m)) es) ≡
-      lookup (same_label (numbered n)) es
+      lookup (same_label (numbered hash n)) (remove_entry (same_label (numbered hash m)) es) ≡
+      lookup (same_label (numbered hash n)) es
   left m n less [] = refl
-  left m n less (x ∷ es) = (elim (same_label (numbered m) x.0) as (λ b. same_label (numbered m) x.0 ≡ b →
-      lookup (same_label (numbered n)) (cond b es (x ∷ remove_entry (same_label (numbered m)) es)) ≡
-      lookup (same_label (numbered n)) (x ∷ es)) [
-        | true ↦ λ is. sym (ap (λ b. cond b (Some x.1) (lookup (same_label (numbered n)) es)) (apart is))
-        | false ↦ λ is. ap (cond (same_label (numbered n) x.0) (Some x.1)) (left m n less es)
+  left m n less (x ∷ es) = (elim (same_label (numbered hash m) x.0) as (λ b. same_label (numbered hash m) x.0 ≡ b →
+      lookup (same_label (numbered hash n)) (cond b es (x ∷ remove_entry (same_label (numbered hash m)) es)) ≡
+      lookup (same_label (numbered hash n)) (x ∷ es)) [
+        | true ↦ λ is. sym (ap (λ b. cond b (Some x.1) (lookup (same_label (numbered hash n)) es)) (apart is))
+        | false ↦ λ is. ap (cond (same_label (numbered hash n) x.0) (Some x.1)) (left m n less es)
       ]) refl
     where
-      apart : same_label (numbered m) x.0 ≡ true → same_label (numbered n) x.0 ≡ false
-      apart is = (elim (same_label (numbered n) x.0) as (λ b. same_label (numbered n) x.0 ≡ b → b ≡ false) [
-        | true ↦ λ too. (let one = ap (λ (l : Label). l.number) (label_equal (numbered m) x.0 is) in
-            let other = ap (λ (l : Label). l.number) (label_equal (numbered n) x.0 too) in
+      apart : same_label (numbered hash m) x.0 ≡ true → same_label (numbered hash n) x.0 ≡ false
+      apart is = (elim (same_label (numbered hash n) x.0) as (λ b. same_label (numbered hash n) x.0 ≡ b → b ≡ false) [
+        | true ↦ λ too. (let one = ap (λ (l : Label). l.number) (label_equal (numbered hash m) x.0 is) in
+            let other = ap (λ (l : Label). l.number) (label_equal (numbered hash n) x.0 too) in
             absurd (omega (arith, one, other, less)))
         | false ↦ λ too. refl
       ]) refl
 
-  one-less : (m : ℕ) (es : Entries) → IsSome (lookup (same_label (numbered m)) es) →
-      length es ≡ length (remove_entry (same_label (numbered m)) es) + 1
+  one-less : (m : ℕ) (es : Entries) → IsSome (lookup (same_label (numbered hash m)) es) →
+      length es ≡ length (remove_entry (same_label (numbered hash m)) es) + 1
   one-less m [] there = absurd cc
-  one-less m (x ∷ es) there = elim (same_label (numbered m) x.0) as (λ b.
-      IsSome (cond b (Some x.1) (lookup (same_label (numbered m)) es)) →
-      length (x ∷ es) ≡ length (cond b es (x ∷ remove_entry (same_label (numbered m)) es)) + 1) [
+  one-less m (x ∷ es) there = elim (same_label (numbered hash m) x.0) as (λ b.
+      IsSome (cond b (Some x.1) (lookup (same_label (numbered hash m)) es)) →
+      length (x ∷ es) ≡ length (cond b es (x ∷ remove_entry (same_label (numbered hash m)) es)) + 1) [
         | true ↦ λ t. omega arith
         | false ↦ λ t. (let on = one-less m es t in omega (arith, on))
       ] there
 
   pub all-taken_fit : (n : ℕ) (es : Entries) →
-      ((k : ℕ) → k < n → IsSome (lookup (same_label (numbered k)) es)) → n ≤ length es
+      ((k : ℕ) → k < n → IsSome (lookup (same_label (numbered hash k)) es)) → n ≤ length es
   all-taken_fit zero es there = omega arith
   all-taken_fit (suc n) es there =
       let less = one-less n es (there n (omega arith)) in
-      let rest = all-taken_fit n (remove_entry (same_label (numbered n)) es)
+      let rest = all-taken_fit n (remove_entry (same_label (numbered hash n)) es)
       (λ k below. subst IsSome (sym (left n k below es)) (there k (omega arith))) in
       omega (arith, less, rest)
 
@@ -297,7 +294,7 @@ module _ (key : RecordKey) (numbers : ℕ) (was : LruCache Label KeptEntry) (is 
 
   -- none is kept for a record which no label of its hash has
   pub none-kept : (hash : ℕ) → hash ≡ digest key bytes → ((number : ℕ) → number < numbers →
-      HasBytes bytes (record { hash = hash; number = number }) was.entries → ⊥) →
+      HasBytes bytes (numbered hash number) was.entries → ⊥) →
       reply_for bytes (kept_in was.entries) ≡ None
   none-kept hash is-hash none = ap (option_map (λ (kept : KeptReply). kept.reply))
       (by was.entries is.labelled (each-finds was.entries is.once.labels))

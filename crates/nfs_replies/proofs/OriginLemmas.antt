@@ -108,6 +108,10 @@ module _ (key : RecordKey) (o : Origin) where
   among (e ∷ es) unique hashed = among-more e es unique hashed
       (among es (IsDistinct-tail same_key e.0 (keys_of es) unique) (rest-hashed key e es unique hashed))
 
+pub none-first : (key : RecordKey) → AreFirst key []
+unfolding IsDistinct
+none-first key = record { unique = tt; hashed = λ at. tt }
+
 -- ---- what is seen of a table and of the others
 module _ (key : RecordKey) (o : Origin) where
   -- the key by which it is looked up
@@ -176,7 +180,8 @@ module _ (key : RecordKey) (o : Origin) (k : OriginKey) (is-key : k ≡ key_of k
         (same_origin o p || is_at key p (key_of key p) old)) [
           | true ↦ λ here. (let none = subst (λ q. lookup (same_key q) old ≡ None) (key_equal k (key_of key p) here)
               absent in
-              ap (same_bytes p.bytes) same ∙ by-bytes key o p (subst (λ q. same_key q (key_of key p) ≡ true) is-key here)
+              ap (same_bytes p.bytes) same
+              ∙ by-bytes key o p (subst (λ q. same_key q (key_of key p) ≡ true) is-key here)
               ∙ sym (or_false (same_origin o p))
               ∙ ap (λ found. same_origin o p || option_map_or (same_bytes p.bytes) found false) (sym none))
           | false ↦ λ other. ap (λ b. b || is_at key p (key_of key p) old) (sym (apart key o p

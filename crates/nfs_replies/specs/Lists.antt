@@ -20,6 +20,10 @@ abbrev pub left_by : ReplyEvent → KeptListValue → KeptListValue
 left_by event list = record list { replies = after list.capacity event list.replies }
 
 -- ---- labels
+-- the label of a hash with this number
+abbrev pub numbered : (hash number : ℕ) → Label
+numbered hash number = record { hash = hash; number = number }
+
 abbrev pub same_label : Label → Label → Bool
 same_label a b = nat_eq a.hash b.hash && nat_eq a.number b.number
 

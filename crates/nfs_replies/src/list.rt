@@ -1,11 +1,15 @@
 //! The replies that are kept of one host.
 
-ghost use Rattle.std.specs.Prelude.{◌≡◌, ◌+◌, ◌^◌, ◌<◌, ℕ, [], IfErr, IfOk, IsSome, MatchOption, None, OnErr, OnOk, Some};
+ghost use Rattle.std.specs.Prelude.{◌≡◌, ◌+◌, ◌^◌, ◌<◌, ℕ, [], nat_eq};
+ghost use Rattle.std.specs.Prelude.{IfErr, IfOk, IsSome, MatchOption, None, OnErr, OnOk, Some};
+ghost use Rattle.std.proofs.Common.{ap};
+ghost use Rattle.std.proofs.lemmas.Bool.{and_parts, eqb-true};
 ghost use Rattle.std.specs.Bool.{Decides};
+ghost use Rattle.std.specs.Hash as fed;
 ghost use Rattle.std.specs.Map.{lookup};
 ghost use Rattle.nfs_replies.specs.Kept.{reply_for};
 ghost use Rattle.nfs_replies.specs.Kept.ReplyEvent.{Replied, Repeated};
-ghost use Rattle.nfs_replies.specs.Lists.{HasBytes, left_by, same_label};
+ghost use Rattle.nfs_replies.specs.Lists.{HasBytes, left_by, numbered, same_label};
 
 use crate::capacity::Capacity;
 use crate::digest::RecordKey;
@@ -13,14 +17,26 @@ use crate::key::{Hashed, HashedRef};
 use bytes::Bytes;
 use lru::LruCache;
 use std::alloc::{AllocError, AllocFailed, Global};
+use std::hash::{Hash, Hasher};
 use std::marker::Model;
 
 /// Where a record stands in a list: the hash of its bytes, and a number that sets it apart from others of that hash.
 /// The number is 0 but where two records that differ have one hash.
-#[derive(Clone, Copy, PartialEq, Eq, Hash)]
+#[derive(Clone, Copy, PartialEq, Eq)]
 struct Label {
     hash: u64,
     number: u64,
+}
+
+impl Hash for Label {
+    ghost hash_input = { λ label. fed.u64 label.hash };
+
+    ghost respects_eq = { λ x y same.
+        ap fed.u64 (eqb-true x.hash y.hash (and_parts (nat_eq x.hash y.hash) (nat_eq x.number y.number) same).0) };
+
+    fn hash<H: Hasher>(&self, state: &mut H) {
+        state.write_u64(self.hash);
+    }
 }
 
 /// A record, and what it was answered.
@@ -139,7 +155,7 @@ fn label_of(
     bytes: &Bytes,
 ) -> Option<Label>
     ensures { MatchOption result
-        ((number : ℕ) → number < numbers → HasBytes bytes.now (record { hash = hash; number = number }) entries.now.entries → ⊥)
+        ((number : ℕ) → number < numbers → HasBytes bytes.now (numbered hash number) entries.now.entries → ⊥)
         (λ label. HasBytes bytes.now label entries.now.entries) }
 {
     let number = (0..numbers).find(|number| {

@@ -200,6 +200,9 @@ impl Origins {
         if !self.others.is_empty() {
             return self.remove(origin);
         }
+        if self.first.len() == 1 {
+            return self.first.clear();
+        }
         let hash = origin.bytes.sought().hash_under(self.key);
         let host = &origin.host;
         drop(self.first.swap_remove(OriginKeyRef { host, hash }));

@@ -1,7 +1,7 @@
 use Rattle.std.proofs.Common.{◌<◌, ◌≤◌, ◌+◌, ℕ, Option, Some, None, IsSome, MatchOption, arith, refl, rules}
 use Rattle.std.specs.Map.{lookup}
 use Rattle.std.proofs.lemmas.Iterator.{first_from_Range}
-use Rattle.nfs_replies.specs.Lists.{same_label}
+use Rattle.nfs_replies.specs.Lists.{numbered, same_label}
 use Rattle.nfs_replies.proofs.LabelLemmas.{all-taken_fit}
 use Rattle.nfs_replies.proofs.list.free_label.Goals as goal
 
@@ -10,7 +10,7 @@ unwrap-requires c = by c.find-number.result (first_from_Range _ _ _ c.find-numbe
     c.find-number.ensures.ran (λ x q k. tt) (λ x q k. search rules))
   where
     Taken : ℕ → Type 0
-    Taken number = IsSome (lookup (same_label (record { hash = c.args.hash; number = number })) c.args.entries.now.entries)
+    Taken number = IsSome (lookup (same_label (numbered c.args.hash number)) c.args.entries.now.entries)
 
     by : (o : Option ℕ) → MatchOption o ((k : ℕ) → 0 ≤ k → k < c.len.result + 1 → Taken k)
         (λ i. (0 ≤ i) × (i < c.len.result + 1) × Unit {0} × ((k : ℕ) → 0 ≤ k → k < i → Taken k)) → IsSome o

@@ -10,5 +10,6 @@ returns c =
     let o = c.args.origin.now in
     let others = c.args.others.now.items in
     subst (λ (left : List Origin). Removes o others left)
-    (sym (filter_same _ (λ (x : Origin). not (same_origin x o)) _ (λ x b f' k. search rules) _ _ c.retain.ensures.filtered))
+    (sym (filter_same _ (λ (x : Origin). not (same_origin x o)) _ (λ x b f' k. search rules) _ _
+    c.retain.ensures.filtered))
     (others-left o others)

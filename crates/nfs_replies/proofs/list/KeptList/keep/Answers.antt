@@ -8,10 +8,11 @@ pub invariant_of-self : goal.invariant_of-self
 invariant_of-self c =
     let fields = c.self.inside in
     let label = c.free_label-label.result in
-    subst (IsList fields.key c.max-self-inside.result) (sym c.in-Ok.ensures.entries) (rw c.into_bytes.ensures (put-list fields.key
-    fields.numbers fields.entries c.self.invariant c.args.bytes c.args.reply label c.max-self-inside.result
-    (c.free_label-label.ensures.hash ∙ c.hash_under.ensures ∙ ap (digest fields.key) c.sought.ensures) (omega arith)
-    (omega arith) c.free_label-label.ensures.free (rw (← c.self.view_is) at c.requires)))
+    subst (IsList fields.key c.max-self-inside.result) (sym c.in-Ok.ensures.entries) (rw c.into_bytes.ensures
+    (put-list fields.key fields.numbers fields.entries c.self.invariant c.args.bytes c.args.reply label
+    c.max-self-inside.result (c.free_label-label.ensures.hash ∙ c.hash_under.ensures
+    ∙ ap (digest fields.key) c.sought.ensures) (omega arith) (omega arith) c.free_label-label.ensures.free
+    (rw (← c.self.view_is) at c.requires)))
 
 pub returns-in-Ok-clause-front : goal.returns-in-Ok-clause-front
 returns-in-Ok-clause-front c =

@@ -3,14 +3,14 @@ use Rattle.std.specs.Option.{option_copied_mut}
 use Rattle.nfs_tables.specs.Tables.{entries}
 use Rattle.nfs_replies.specs.Kept.{reply_for}
 use Rattle.nfs_replies.specs.Kept.ReplyEvent.{Replied}
-use Rattle.nfs_replies.proofs.HostMapLemmas.{kept_of-shown, listed, listed-lent, no-list-at, on-ok-lent}
+use Rattle.nfs_replies.proofs.HostMapLemmas.{kept-at, listed-lent, no-list-at, on-ok-lent}
 use Rattle.nfs_replies.proofs.replies.Replies.keep.Goals as goal
 
 pub keep-requires : goal.keep-requires
 keep-requires c =
     let fields = c.self.inside in
-    ap (reply_for c.args.bytes) (ap listed (sym (ap option_copied_mut c.in-Some.is) ∙ c.get_mut.ensures.value)
-    ∙ sym (kept_of-shown fields.capacity (entries fields.lists) c.args.host.now)) ∙ rw (← c.self.view_is) at c.requires
+    ap (reply_for c.args.bytes) (sym (kept-at fields.capacity (entries fields.lists) c.args.host.now c.in-Some.list.now
+    (sym (ap option_copied_mut c.in-Some.is) ∙ c.get_mut.ensures.value))) ∙ rw (← c.self.view_is) at c.requires
 
 pub invariant_of-self : goal.invariant_of-self
 invariant_of-self c =
