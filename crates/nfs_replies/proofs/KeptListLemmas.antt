@@ -1,14 +1,9 @@
 -- Lists of kept replies: what is not kept stays so, and each record stays once.
 use Rattle.std.proofs.Common.{◌≡◌, ◌≤◌, ◌+◌, ℕ, zero, suc, Bool, true, false, cond, not, List, []}
 use Rattle.std.proofs.Common.{◌∷◌, ◌++◌, Option, Some, None, option_map, length, take, find, filter, refl}
-use Rattle.std.proofs.Common.{sym, ap, ◌∙◌, subst, arith}
-use Rattle.std.proofs.lemmas.List.{length-append}
-use Rattle.std.proofs.lemmas.List.Elements.{filter-append}
-use Rattle.std.proofs.lemmas.List.Sums.{length-filter}
-use Rattle.std.specs.Cmp.Lexicographic.{bytes_decides}
-use Rattle.nfs_replies.specs.Kept.{KeptReply, after, is_for, reply_for, same_bytes}
-use Rattle.nfs_replies.specs.Kept.ReplyEvent.{Replied, Repeated}
-use Rattle.nfs_replies.specs.Replies.{EachOnce}
+use Rattle.std.proofs.Common.{ap, ◌∙◌, arith}
+use Rattle.nfs_replies.specs.Kept.{KeptReply, after, is_for, reply_for}
+use Rattle.nfs_replies.specs.Kept.ReplyEvent.{Repeated}
 
 module _ {X : Type 0} (p q : X → Bool) where
   -- what a list does not have, no part of it has
@@ -102,29 +97,3 @@ module _ (capacity : ℕ) (host bytes : List ℕ) where
       let empty = filter-none (is_for bytes) list (none-found (find (is_for bytes) list) none) in
       ap (λ front. front ++ filter (λ kept. not (is_for bytes kept)) list) empty
       ∙ others-all (is_for bytes) list empty
-
-  pub once-repeated : (list : List KeptReply) → EachOnce list → EachOnce (after capacity (Repeated host bytes) list)
-  once-repeated list once other =
-      let p = is_for other in
-      let front = filter (is_for bytes) list in
-      let rest = filter (λ kept. not (is_for bytes kept)) list in
-      let joined = sym (length-filter p (front ++ rest)) ∙ ap length (filter-append p front rest)
-      ∙ length-append (filter p front) (filter p rest) ∙ length-filter_halves p (is_for bytes) list
-      ∙ length-filter p list in
-      rw joined (once other)
-
-  pub once-executed : (reply : List ℕ) (list : List KeptReply) → reply_for bytes list ≡ None → EachOnce list →
-      EachOnce (after capacity (Replied host bytes reply) list)
-  once-executed reply list none once other =
-      let p = is_for other in
-      let new : KeptReply = record { bytes = bytes; reply = reply } in
-      let fewer = length-filter_take p capacity (new ∷ list) in
-      let bound : length (filter p (new ∷ list)) ≤ 1 = (elim (same_bytes other bytes) as
-      (λ b. same_bytes other bytes ≡ b → length (cond b (new ∷ filter p list) (filter p list)) ≤ 1) [
-        | true ↦ λ same. (let is : other ≡ bytes = (bytes_decides other bytes).0 same in
-            let empty : filter p list ≡ [] = subst (λ b. filter (is_for b) list ≡ []) (sym is)
-            (filter-none (is_for bytes) list (none-found (find (is_for bytes) list) none)) in
-            rw empty (omega arith))
-        | false ↦ λ same. rw (length-filter p list) (once other)
-      ]) refl in
-      rw (sym (length-filter p (take capacity (new ∷ list)))) (omega (arith, fewer, bound))

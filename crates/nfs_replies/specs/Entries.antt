@@ -1,36 +1,25 @@
--- Records in a table: each has its hash under the table's key beside its bytes.
-use Rattle.std.specs.Prelude.{◌≡◌, ℕ, Bool, true, ◌&&◌, List, map, nat_eq}
-use Rattle.std.specs.List.{list_any}
+-- What calls in progress came with, in a table by host and hash.
+use Rattle.std.specs.Prelude.{◌≡◌, ℕ, Bool, ◌&&◌, IfSome, List, map, nat_eq}
+use Rattle.std.specs.List.{IsDistinct}
+use Rattle.std.specs.Map.{keys_of, lookup}
 use Rattle.nfs_replies.specs.Keys.{digest}
 use Rattle.nfs_replies.specs.Kept.{same_bytes}
 use Rattle.nfs_replies.specs.declared.digest.RecordKey.{RecordKey}
-use Rattle.nfs_replies.specs.declared.key.Keyed.{Keyed}
-use Rattle.nfs_replies.specs.declared.origins.OriginEntry.{OriginEntry}
+use Rattle.nfs_replies.specs.declared.origins.OriginKey.{OriginKey}
 use Rattle.nfs_replies.specs.declared.origins.Origin.{Origin}
 
--- a record as it is in a table with this key
-abbrev pub keyed : RecordKey → List ℕ → Keyed
-keyed key bytes = record { hash = digest key bytes; bytes = bytes }
+abbrev pub same_key : OriginKey → OriginKey → Bool
+same_key a b = same_bytes a.host b.host && nat_eq a.hash b.hash
 
--- two are the same for a table
-abbrev pub same_key : Keyed → Keyed → Bool
-same_key a b = nat_eq a.hash b.hash && same_bytes a.bytes b.bytes
-
--- its hash is that under this key
-abbrev pub IsHashed : RecordKey → Keyed → Type 0
-IsHashed key k = k.hash ≡ digest key k.bytes
+-- what a call came with stands at its host and the hash of its bytes under the table's key
+abbrev pub key_of : RecordKey → Origin → OriginKey
+key_of key origin = record { host = origin.host; hash = digest key origin.bytes }
 
 -- what calls came with
-abbrev pub origin_in_entry : OriginEntry → Origin
-origin_in_entry entry = record { host = entry.host; bytes = entry.sent.bytes }
+abbrev pub origins_in : List (OriginKey × List ℕ) → List Origin
+origins_in entries = map (λ entry. record { host = entry.0.host; bytes = entry.1 }) entries
 
-abbrev pub origins_of : List OriginEntry → List Origin
-origins_of entries = map origin_in_entry entries
-
--- two came with the same, for a table
-abbrev pub same_entry : OriginEntry → OriginEntry → Bool
-same_entry a b = same_bytes a.host b.host && same_key a.sent b.sent
-
--- the records of all are hashed under this key
-abbrev pub AreHashed : RecordKey → List OriginEntry → Type 0
-AreHashed key entries = (e : OriginEntry) → list_any (same_entry e) entries ≡ true → IsHashed key e.sent
+-- the records of a table that has this key: one for each host and hash, and each at its own hash
+pub record AreFirst (key : RecordKey) (entries : List (OriginKey × List ℕ)) : Type 0 where
+  pub unique : IsDistinct same_key (keys_of entries)
+  pub hashed : (at : OriginKey) → IfSome (lookup (same_key at) entries) (λ bytes. at.hash ≡ digest key bytes)

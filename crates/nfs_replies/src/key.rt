@@ -1,18 +1,13 @@
 //! Records as keys.
 
-ghost use Rattle.std.specs.Prelude.{◌≡◌, ◌&&◌, IfOk, nat_eq};
-ghost use Rattle.std.proofs.Common.{ap};
-ghost use Rattle.std.proofs.lemmas.Bool.{and_parts, eqb-true};
-ghost use Rattle.std.specs.Cmp.{nat_eq_equiv, partial_equiv_from_equiv};
+ghost use Rattle.std.specs.Prelude.{◌≡◌, IfOk, nat_eq};
+ghost use Rattle.std.specs.Cmp.{partial_equiv_from_equiv};
 ghost use Rattle.std.specs.Cmp.Lexicographic.{nat_list_eq_equiv, pointwise};
-ghost use Rattle.nfs_replies.specs.Keys.{digest, digest_input};
-ghost use Rattle.nfs_replies.specs.Kept.{same_bytes};
+ghost use Rattle.nfs_replies.specs.Keys.{digest};
 
 use crate::digest::{RecordKey, digest};
 use bytes::Bytes;
 use std::alloc::AllocError;
-use std::collections::hash_map::Equivalent;
-use std::hash::{Hash, Hasher};
 use std::marker::Model;
 
 /// The bytes of a record with their hash, which is taken once and kept beside them. A clause sees it as the bytes.
@@ -43,6 +38,14 @@ impl Hashed {
         Hashed { bytes, key, hash }
     }
 
+    /// These bytes, whose hash under this key is known.
+    pub(crate) fn with_hash(key: RecordKey, bytes: Bytes, hash: u64) -> Hashed
+        requires { hash ≡ digest key bytes }
+        ensures { result ≡ bytes }
+    {
+        Hashed { bytes, key, hash }
+    }
+
     /// One more owner of the same bytes, which are not read again.
     ///
     /// # Errors
@@ -65,6 +68,13 @@ impl Hashed {
         &self.bytes
     }
 
+    /// The bytes without their hash.
+    pub(crate) fn into_bytes(self) -> Bytes
+        ensures { result ≡ self }
+    {
+        self.bytes
+    }
+
     /// The same, to be looked up.
     pub fn sought(&self) -> HashedRef<'_>
         ensures { result.bytes.now ≡ self.now }
@@ -73,18 +83,6 @@ impl Hashed {
             bytes: &self.bytes,
             key: self.key,
             hash: self.hash,
-        }
-    }
-
-    /// The same in a table that has this key. The bytes are read again where it was hashed under another.
-    pub(crate) fn keyed(self, key: RecordKey) -> Keyed
-        ensures bytes { result.bytes ≡ self }
-        ensures hash { result.hash ≡ digest key self }
-    {
-        let hash = self.sought().hash_under(key);
-        Keyed {
-            hash,
-            bytes: self.bytes,
         }
     }
 }
@@ -121,20 +119,16 @@ impl<'a> HashedRef<'a> {
         HashedRef { bytes, key, hash }
     }
 
-    /// The same in a table that has this key. The bytes are read again where it was hashed under another.
-    pub(crate) fn probe(self, key: RecordKey) -> Probe<'a>
-        ensures bytes { result.bytes.now ≡ self.entry.bytes.now }
-        ensures hash { result.hash ≡ digest key self.entry.bytes.now }
+    /// The bytes.
+    pub(crate) fn bytes(self) -> &'a Bytes
+        ensures { result.now ≡ self.entry.bytes.now }
     {
-        Probe {
-            hash: self.hash_under(key),
-            bytes: self.bytes,
-        }
+        self.bytes
     }
 
-    /// Its hash under this key.
+    /// Its hash under this key. The bytes are read again where it was hashed under another.
     #[tactic(auto, using(crate::proofs::DigestLemmas::same_digest))]
-    fn hash_under(self, key: RecordKey) -> u64
+    pub(crate) fn hash_under(self, key: RecordKey) -> u64
         ensures { result ≡ digest key self.entry.bytes.now }
     {
         if self.key == key {
@@ -142,85 +136,5 @@ impl<'a> HashedRef<'a> {
         } else {
             digest(key, self.bytes.as_slice())
         }
-    }
-}
-
-/// A record in a table: its bytes, with their hash under the table's key.
-#[derive(Drop, PartialEq, Eq)]
-pub(crate) struct Keyed {
-    pub(crate) hash: u64,
-    pub(crate) bytes: Bytes,
-}
-
-impl Keyed {
-    /// The record out of a table that has this key.
-    pub(crate) fn into_hashed(self, key: RecordKey) -> Hashed
-        requires { self.hash ≡ digest key self.bytes }
-        ensures { result ≡ self.bytes }
-    {
-        Hashed {
-            bytes: self.bytes,
-            key,
-            hash: self.hash,
-        }
-    }
-}
-
-impl Hash for Keyed {
-    ghost hash_input = { λ keyed. digest_input keyed.hash };
-
-    ghost respects_eq = { λ x y same.
-        ap digest_input (eqb-true x.hash y.hash (and_parts (nat_eq x.hash y.hash)
-        (same_bytes x.bytes y.bytes) same).0) };
-
-    fn hash<H: Hasher>(&self, state: &mut H) {
-        state.write_u64(self.hash);
-    }
-}
-
-/// A record to look up in a table, with its hash under the table's key. It is hashed and compared as one that is
-/// `Keyed`.
-#[derive(Clone, Copy, PartialEq, Eq)]
-pub(crate) struct Probe<'a> {
-    pub(crate) hash: u64,
-    pub(crate) bytes: &'a Bytes,
-}
-
-impl<'a> Probe<'a> {
-    /// Whether it is this record.
-    pub(crate) fn is(&self, keyed: &Keyed) -> bool
-        ensures { result ≡ (nat_eq self.now.hash keyed.now.hash && same_bytes self.now.bytes.now keyed.now.bytes) }
-    {
-        self.hash == keyed.hash && *self.bytes == keyed.bytes
-    }
-}
-
-impl<'a> Hash for Probe<'a> {
-    ghost hash_input = { λ probe. digest_input probe.hash };
-
-    ghost respects_eq = { λ x y same.
-        ap digest_input (eqb-true x.hash y.hash (and_parts (nat_eq x.hash y.hash)
-        (same_bytes x.bytes.now y.bytes.now) same).0) };
-
-    fn hash<H: Hasher>(&self, state: &mut H) {
-        state.write_u64(self.hash);
-    }
-}
-
-impl<'a> Equivalent<Keyed> for Probe<'a> {
-    ghost equivalent = { λ probe keyed.
-        nat_eq probe.hash keyed.hash && same_bytes probe.bytes.now keyed.bytes };
-
-    ghost respects_hash = { λ probe keyed same.
-        ap digest_input (eqb-true probe.hash keyed.hash (and_parts (nat_eq probe.hash keyed.hash)
-        (same_bytes probe.bytes.now keyed.bytes) same).0) };
-
-    ghost respects_eq = { λ probe x y same i.
-        let parts = and_parts (nat_eq probe.hash x.hash) (same_bytes probe.bytes.now x.bytes) same in
-        nat_eq_equiv.congr probe.hash x.hash y.hash parts.0 i &&
-        nat_list_eq_equiv.congr probe.bytes.now x.bytes y.bytes parts.1 i };
-
-    fn equivalent(&self, keyed: &Keyed) -> bool {
-        self.is(keyed)
     }
 }

@@ -11,13 +11,14 @@
 //! Lists are found by the hash of the host, and replies by that of the record, which is taken once, of all its bytes
 //! and under a key that nobody else knows (`RecordKey`), and kept beside them. A look-up compares hashes first, and
 //! bytes only with those of a record that has the same hash: so many records are looked up as fast as others, however
-//! they were chosen.
+//! they were chosen. What makes way for a new reply, or ends, is not looked up by its bytes.
 #![tactic(auto)]
 
 mod capacity;
 mod digest;
 mod key;
 pub mod laws;
+mod list;
 mod origins;
 mod replies;
 pub mod worked;

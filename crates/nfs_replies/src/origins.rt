@@ -1,18 +1,20 @@
 //! What calls in progress came with, so that a call that comes again meanwhile is not begun once more.
 
-ghost use Rattle.std.specs.Prelude.{◌≡◌, ◌∷◌, ◌&&◌, [], true, IfOk, OnErr, OnOk, nat_eq};
+ghost use Rattle.std.specs.Prelude.{◌≡◌, ◌&&◌, ◌∷◌, [], false, true, IfOk, OnErr, OnOk, nat_eq};
 ghost use Rattle.std.proofs.lemmas.Bool.{and_parts, eqb-true};
 ghost use Rattle.std.specs.Cmp.{nat_eq_equiv};
 ghost use Rattle.std.specs.Cmp.Lexicographic.{bytes_decides, nat_list_eq_equiv};
+ghost use Rattle.std.specs.Hash as fed;
+ghost use Rattle.std.specs.Map.{lookup};
+ghost use Rattle.std.specs.Option.{option_map_or};
 ghost use Rattle.nfs_replies.specs.Entries.{same_key};
-ghost use Rattle.nfs_replies.specs.Keys.{digest_input};
 ghost use Rattle.nfs_replies.specs.Kept.{same_bytes};
 ghost use Rattle.nfs_replies.specs.Origins.{Adds, Removes, is_among};
 
 use crate::digest::RecordKey;
-use crate::key::{Hashed, HashedRef, Keyed, Probe};
+use crate::key::{Hashed, HashedRef};
 use bytes::Bytes;
-use indexmap::{Equivalent, IndexSet};
+use indexmap::{Equivalent, IndexMap};
 use std::alloc::{AllocError, Global};
 use std::hash::{Hash, Hasher};
 use std::marker::Model;
@@ -40,96 +42,86 @@ impl Origin {
     }
 }
 
-/// What a call came with, in a table: the record has its hash under the table's key.
+/// Where a record stands: its host, and the hash of its bytes.
 #[derive(Drop, PartialEq, Eq)]
-struct OriginEntry {
+struct OriginKey {
     host: Bytes,
-    sent: Keyed,
+    hash: u64,
 }
 
-impl Hash for OriginEntry {
-    ghost hash_input = { λ entry. entry.host ∷ digest_input entry.sent.hash };
+impl Hash for OriginKey {
+    ghost hash_input = { λ key. key.host ∷ fed.u64 key.hash };
 
     ghost respects_eq = { λ x y same i.
-        let parts = and_parts (same_bytes x.host y.host) (same_key x.sent y.sent) same in
-        let hashes = (and_parts (nat_eq x.sent.hash y.sent.hash) (same_bytes x.sent.bytes y.sent.bytes) parts.1).0 in
-        (bytes_decides x.host y.host).0 parts.0 i ∷ digest_input (eqb-true x.sent.hash y.sent.hash hashes i) };
+        let parts = and_parts (same_bytes x.host y.host) (nat_eq x.hash y.hash) same in
+        (bytes_decides x.host y.host).0 parts.0 i ∷ fed.u64 (eqb-true x.hash y.hash parts.1 i) };
 
     fn hash<H: Hasher>(&self, state: &mut H) {
         state.write(self.host.as_slice());
-        self.sent.hash(state);
+        state.write_u64(self.hash);
     }
 }
 
-/// What is looked up: a host, and a record. It is hashed and compared as an `OriginEntry` is.
+/// The same, to be looked up.
 #[derive(Clone, Copy, PartialEq, Eq)]
-struct OriginProbe<'a> {
+struct OriginKeyRef<'a> {
     host: &'a Bytes,
-    probe: Probe<'a>,
+    hash: u64,
 }
 
-impl<'a> Hash for OriginProbe<'a> {
-    ghost hash_input = { λ came. came.host.now ∷ digest_input came.probe.hash };
+impl<'a> Hash for OriginKeyRef<'a> {
+    ghost hash_input = { λ key. key.host.now ∷ fed.u64 key.hash };
 
     ghost respects_eq = { λ x y same i.
-        let parts = and_parts (same_bytes x.host.now y.host.now)
-        (nat_eq x.probe.hash y.probe.hash && same_bytes x.probe.bytes.now y.probe.bytes.now) same in
-        let hashes =
-        (and_parts (nat_eq x.probe.hash y.probe.hash) (same_bytes x.probe.bytes.now y.probe.bytes.now) parts.1).0 in
-        (bytes_decides x.host.now y.host.now).0 parts.0 i ∷
-        digest_input (eqb-true x.probe.hash y.probe.hash hashes i) };
+        let parts = and_parts (same_bytes x.host.now y.host.now) (nat_eq x.hash y.hash) same in
+        (bytes_decides x.host.now y.host.now).0 parts.0 i ∷ fed.u64 (eqb-true x.hash y.hash parts.1 i) };
 
     fn hash<H: Hasher>(&self, state: &mut H) {
         state.write(self.host.as_slice());
-        self.probe.hash(state);
+        state.write_u64(self.hash);
     }
 }
 
-impl<'a> Equivalent<OriginEntry> for OriginProbe<'a> {
-    ghost equivalent = { λ came entry. same_bytes came.host.now entry.host &&
-        (nat_eq came.probe.hash entry.sent.hash && same_bytes came.probe.bytes.now entry.sent.bytes) };
+impl<'a> Equivalent<OriginKey> for OriginKeyRef<'a> {
+    ghost equivalent = { λ sought key. same_bytes sought.host.now key.host && nat_eq sought.hash key.hash };
 
-    ghost respects_hash = { λ came entry same i.
-        let parts = and_parts (same_bytes came.host.now entry.host)
-        (nat_eq came.probe.hash entry.sent.hash && same_bytes came.probe.bytes.now entry.sent.bytes) same in
-        let hashes =
-        (and_parts (nat_eq came.probe.hash entry.sent.hash)
-        (same_bytes came.probe.bytes.now entry.sent.bytes) parts.1).0 in
-        (bytes_decides came.host.now entry.host).0 parts.0 i ∷
-        digest_input (eqb-true came.probe.hash entry.sent.hash hashes i) };
+    ghost respects_hash = { λ sought key same i.
+        let parts = and_parts (same_bytes sought.host.now key.host) (nat_eq sought.hash key.hash) same in
+        (bytes_decides sought.host.now key.host).0 parts.0 i ∷ fed.u64 (eqb-true sought.hash key.hash parts.1 i) };
 
-    ghost respects_eq = { λ came x y same i.
-        let parts = and_parts (same_bytes came.host.now x.host)
-        (nat_eq came.probe.hash x.sent.hash && same_bytes came.probe.bytes.now x.sent.bytes) same in
-        let sent =
-        and_parts (nat_eq came.probe.hash x.sent.hash) (same_bytes came.probe.bytes.now x.sent.bytes) parts.1 in
-        nat_list_eq_equiv.congr came.host.now x.host y.host parts.0 i &&
-        (nat_eq_equiv.congr came.probe.hash x.sent.hash y.sent.hash sent.0 i &&
-        nat_list_eq_equiv.congr came.probe.bytes.now x.sent.bytes y.sent.bytes sent.1 i) };
+    ghost respects_eq = { λ sought x y same i.
+        let parts = and_parts (same_bytes sought.host.now x.host) (nat_eq sought.hash x.hash) same in
+        nat_list_eq_equiv.congr sought.host.now x.host y.host parts.0 i &&
+        nat_eq_equiv.congr sought.hash x.hash y.hash parts.1 i };
 
-    fn equivalent(&self, entry: &OriginEntry) -> bool {
-        *self.host == entry.host && self.probe.is(&entry.sent)
+    fn equivalent(&self, key: &OriginKey) -> bool {
+        *self.host == key.host && self.hash == key.hash
     }
 }
 
-/// What calls in progress came with, each once. It is found by the hashes of the host and of the record, under this
-/// key.
+/// What calls in progress came with. A record is found by the hashes of the host and of its bytes, and compared only
+/// with one of this host that has its hash. So what is taken out is not compared with itself, but where two records
+/// that differ have one hash.
 #[derive(Drop)]
 pub struct Origins {
+    /// Under which records are hashed.
     key: RecordKey,
-    set: IndexSet<OriginEntry>,
+    /// The bytes of each record that came first of its host and hash.
+    first: IndexMap<OriginKey, Bytes>,
+    /// The others.
+    others: Vec<Origin>,
 }
 
 impl Model for Origins {
-    ghost use Rattle.std.specs.Prelude.{List};
-    ghost use Rattle.nfs_replies.specs.Entries.{AreHashed, origins_of};
+    ghost use Rattle.std.specs.Prelude.{List, ◌++◌};
+    ghost use Rattle.nfs_replies.specs.Entries.{AreFirst, origins_in};
     ghost use Rattle.nfs_replies.specs.declared.origins.Origin.{Origin as OriginValue};
 
     ghost Value = { List OriginValue };
 
-    ghost view = { λ o. origins_of o.set.keys };
+    ghost view = { λ o. origins_in o.first.entries ++ o.others.items };
 
-    ghost invariant = { λ o. AreHashed o.key o.set.keys };
+    ghost invariant = { λ o. AreFirst o.key o.first.entries };
 }
 
 impl Origins {
@@ -139,7 +131,8 @@ impl Origins {
     {
         Origins {
             key,
-            set: IndexSet::new(alloc),
+            first: IndexMap::new(alloc),
+            others: Vec::new(alloc),
         }
     }
 
@@ -147,8 +140,10 @@ impl Origins {
     pub fn has(&self, host: &Bytes, sought: HashedRef<'_>) -> bool
         ensures { result ≡ is_among self.now (record { host = host.now; bytes = sought.entry.bytes.now }) }
     {
-        let probe = sought.probe(self.key);
-        self.set.contains(OriginProbe { host, probe })
+        let hash = sought.hash_under(self.key);
+        let bytes = sought.bytes();
+        is_first(&self.first, OriginKeyRef { host, hash }, bytes)
+            || is_other(&self.others, host, bytes)
     }
 
     /// Adds one.
@@ -160,9 +155,27 @@ impl Origins {
         ensures added { OnOk result (Adds origin self.old self.new) }
         ensures err { OnErr result (self.new ≡ self.old) }
     {
+        let hash = origin.bytes.sought().hash_under(self.key);
+        let host = &origin.host;
+        if self.first.contains_key(OriginKeyRef { host, hash }) {
+            return self.add_other(origin);
+        }
         let Origin { host, bytes } = origin;
-        let sent = bytes.keyed(self.key);
-        self.set.insert(OriginEntry { host, sent })?;
+        drop(
+            self.first
+                .insert(OriginKey { host, hash }, bytes.into_bytes())?,
+        );
+        Ok(())
+    }
+
+    fn add_other(&mut self, origin: Origin) -> Result<(), AllocError>
+        ensures added { OnOk result (Adds origin self.old self.new) }
+        ensures err { OnErr result (self.new ≡ self.old) }
+    {
+        if self.has(&origin.host, origin.bytes.sought()) {
+            return Ok(());
+        }
+        self.others.push(origin)?;
         Ok(())
     }
 
@@ -170,20 +183,53 @@ impl Origins {
     pub fn remove(&mut self, origin: &Origin)
         ensures { Removes origin.now self.old self.new }
     {
-        let probe = origin.bytes.sought().probe(self.key);
+        let hash = origin.bytes.sought().hash_under(self.key);
         let host = &origin.host;
-        self.set.swap_remove(OriginProbe { host, probe });
+        let key = OriginKeyRef { host, hash };
+        remove_other(&mut self.others, origin);
+        if is_first(&self.first, key, origin.bytes.bytes()) {
+            drop(self.first.swap_remove(key));
+        }
     }
 
-    /// Takes out one that is among them. Where there is no other, its bytes are not compared.
+    /// Takes out one that is among them. Its bytes are compared only where two records of a host have one hash.
     pub fn take_out(&mut self, origin: &Origin)
         requires { is_among self.old origin.now ≡ true }
         ensures { Removes origin.now self.old self.new }
     {
-        if self.set.len() == 1 {
-            self.set.clear();
-            return;
+        if !self.others.is_empty() {
+            return self.remove(origin);
         }
-        self.remove(origin);
+        if self.first.len() == 1 {
+            return self.first.clear();
+        }
+        let hash = origin.bytes.sought().hash_under(self.key);
+        let host = &origin.host;
+        drop(self.first.swap_remove(OriginKeyRef { host, hash }));
     }
+}
+
+/// Whether the record that stands at this key has these bytes.
+fn is_first(first: &IndexMap<OriginKey, Bytes>, key: OriginKeyRef<'_>, bytes: &Bytes) -> bool
+    ensures { result ≡ option_map_or (same_bytes bytes.now)
+        (lookup (same_key (record { host = key.entry.host.now; hash = key.entry.hash })) first.now.entries) false }
+{
+    match first.get(key) {
+        Some(there) => *bytes == *there,
+        None => false,
+    }
+}
+
+/// Whether this record from this host is one of these.
+fn is_other(others: &[Origin], host: &Bytes, bytes: &Bytes) -> bool
+    ensures { result ≡ is_among others.now (record { host = host.now; bytes = bytes.now }) }
+{
+    others.iter().any(|other| *host == other.host && *bytes == *other.bytes.bytes())
+}
+
+/// Takes one out of these, if it is among them.
+fn remove_other(others: &mut Vec<Origin>, origin: &Origin)
+    ensures { Removes origin.now others.old.items others.new.items }
+{
+    others.retain(|other| *other != *origin);
 }

@@ -1,18 +1,15 @@
 //! The replies that are kept, a list for each host.
 
-ghost use Rattle.std.specs.Prelude.{◌≡◌, ◌<◌, [], IfErr, IfOk, IsSome, None, OnErr, OnOk};
-ghost use Rattle.std.specs.Option.{option_copied};
-ghost use Rattle.lru.specs.LruCache.{lru_cache, put_entries};
-ghost use Rattle.nfs_replies.specs.Entries.{keyed, same_key};
+ghost use Rattle.std.specs.Prelude.{◌≡◌, [], IfErr, IfOk, IsSome, None, OnErr, OnOk};
 ghost use Rattle.nfs_replies.specs.Kept.{reply_for};
 ghost use Rattle.nfs_replies.specs.Kept.ReplyEvent.{Replied, Repeated};
 ghost use Rattle.nfs_replies.specs.Replies.{IsAfter, kept_of, list_of};
 
 use crate::capacity::Capacity;
 use crate::digest::RecordKey;
-use crate::key::{Hashed, HashedRef, Keyed};
+use crate::key::{Hashed, HashedRef};
+use crate::list::KeptList;
 use bytes::Bytes;
-use lru::LruCache;
 use nfs_tables::{Placing, Table};
 use std::alloc::{AllocError, AllocFailed, Global};
 use std::marker::Model;
@@ -24,7 +21,7 @@ pub struct Replies {
     capacity: Capacity,
     /// Under which the records in the lists are hashed.
     key: RecordKey,
-    lists: Table<Bytes, LruCache<Keyed, Bytes>>,
+    lists: Table<Bytes, KeptList>,
 }
 
 impl Model for Replies {
@@ -36,7 +33,7 @@ impl Model for Replies {
 
     ghost view = { λ r. record { capacity = r.capacity; hosts = map host_replies (entries r.lists) } };
 
-    ghost invariant = { λ r. AreListed r.capacity r.key (entries r.lists) };
+    ghost invariant = { λ r. AreListed r.capacity (entries r.lists) };
 }
 
 impl Replies {
@@ -65,12 +62,10 @@ impl Replies {
         ensures refused { OnErr result (IsSome (reply_for sought.entry.bytes.now (kept_of self.old host.now))) }
         ensures err { OnErr result (self.new ≡ self.old) }
     {
-        let Some(reply) = self.reply(host, sought) else {
+        let Some(list) = self.lists.get_mut(host) else {
             return Ok(None);
         };
-        let reply = reply.clone()?;
-        self.bring_to_front(host, sought);
-        Ok(Some(reply))
+        list.find(sought)
     }
 
     /// Keeps the reply to this record from this host, in front of the host's list. Where the list exceeds
@@ -91,28 +86,9 @@ impl Replies {
         ensures returned { IfErr result (λ refused. refused.value ≡ (bytes, reply)) }
         ensures err { OnErr result (self.new ≡ self.old) }
     {
-        let key = self.key;
         match self.lists.get_mut(host) {
-            Some(list) => put(key, list, bytes, reply),
+            Some(list) => list.keep(bytes, reply),
             None => self.keep_first(alloc, host, bytes, reply),
-        }
-    }
-
-    /// The reply that is kept; the order stays.
-    fn reply(&self, host: &Bytes, sought: HashedRef<'_>) -> Option<&Bytes>
-        ensures { option_copied result ≡ reply_for sought.entry.bytes.now (kept_of self.now host.now) }
-    {
-        let list = self.lists.get(host)?;
-        list.peek(sought.probe(self.key))
-    }
-
-    /// What is kept for a record goes to the front of its host's list.
-    fn bring_to_front(&mut self, host: &Bytes, sought: HashedRef<'_>)
-        ensures { IsAfter (Repeated host.now sought.entry.bytes.now) self.old self.new }
-    {
-        let probe = sought.probe(self.key);
-        if let Some(list) = self.lists.get_mut(host) {
-            list.promote(probe);
         }
     }
 
@@ -134,58 +110,15 @@ impl Replies {
                 value: (bytes, reply),
             });
         };
-        let (host, list) = first_list(alloc, host, &self.capacity, self.key, bytes, reply)?;
+        let Ok((host, mut list)) = new_list(alloc, host, &self.capacity, self.key) else {
+            return Err(AllocFailed {
+                value: (bytes, reply),
+            });
+        };
+        list.keep(bytes, reply)?;
         self.lists.add(host, list).unwrap();
         Ok(())
     }
-}
-
-/// Puts a reply in front of a list whose records are hashed under this key. Where the memory is refused the list stays.
-fn put(
-    key: RecordKey,
-    list: &mut LruCache<Keyed, Bytes>,
-    bytes: Hashed,
-    reply: Bytes,
-) -> Result<(), AllocFailed<(Hashed, Bytes)>>
-    ensures put { OnOk result
-        (list.new ≡ lru_cache (put_entries same_key list.old (keyed key bytes) reply) list.old.cap) }
-    ensures returned { IfErr result (λ refused. refused.value ≡ (bytes, reply)) }
-    ensures err { OnErr result (list.new ≡ list.old) }
-{
-    match list.put(bytes.keyed(key), reply) {
-        Ok(_) => Ok(()),
-        Err(
-            AllocFailed {
-                value: (keyed, reply),
-            },
-        ) => Err(AllocFailed {
-            value: (keyed.into_hashed(key), reply),
-        }),
-    }
-}
-
-/// A list of this reply alone, with the host that it will be of.
-fn first_list(
-    alloc: Global,
-    host: &Bytes,
-    capacity: &Capacity,
-    key: RecordKey,
-    bytes: Hashed,
-    reply: Bytes,
-) -> Result<(Bytes, LruCache<Keyed, Bytes>), AllocFailed<(Hashed, Bytes)>>
-    ensures host { IfOk result (λ made. made.0 ≡ host.now) }
-    ensures list { IfOk result (λ made. made.1 ≡ lru_cache
-        (put_entries same_key (lru_cache [] capacity.now) (keyed key bytes) reply) capacity.now) }
-    ensures some { OnOk result (0 < capacity.now) }
-    ensures returned { IfErr result (λ refused. refused.value ≡ (bytes, reply)) }
-{
-    let Ok((host, mut list)) = new_list(alloc, host, capacity) else {
-        return Err(AllocFailed {
-            value: (bytes, reply),
-        });
-    };
-    put(key, &mut list, bytes, reply)?;
-    Ok((host, list))
 }
 
 /// An empty list, with the host that it will be of. The host is copied, so that it keeps nothing alive that it was cut
@@ -194,12 +127,12 @@ fn new_list(
     alloc: Global,
     host: &Bytes,
     capacity: &Capacity,
-) -> Result<(Bytes, LruCache<Keyed, Bytes>), AllocError>
+    key: RecordKey,
+) -> Result<(Bytes, KeptList), AllocError>
     ensures host { IfOk result (λ made. made.0 ≡ host.now) }
-    ensures list { IfOk result (λ made. made.1 ≡ lru_cache [] capacity.now) }
-    ensures some { OnOk result (0 < capacity.now) }
+    ensures list { IfOk result (λ made. made.1 ≡ record { capacity = capacity.now; replies = [] }) }
 {
     let host = Bytes::copy_from_slice(alloc, host.as_slice())?;
-    let list = LruCache::sparse(alloc, capacity.get())?;
+    let list = KeptList::new(alloc, capacity, key)?;
     Ok((host, list))
 }
