@@ -19,7 +19,7 @@ DEAF, EACH = 24, 3
 STRANGER = "127.0.0.3"
 MOUNTS, BATCH = 65_536, 64
 PACE = 0.001  # seconds between two calls of the other client
-MOST = 350e6  # bytes that they may take: the budget, one answer more, and those of an era
+MOST = 350e6  # bytes that they may take: the budget, one answer more, and what goes beside them
 
 
 def fill(port):

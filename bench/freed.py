@@ -1,18 +1,18 @@
 #!/usr/bin/env python3
-"""Prints the resident memory of nfsd as it starts, with files of 1 MiB each, once they are removed, and after as many
-GETATTRs as end two eras. Also what files of 1 GiB without data take. A benchmark, not a test.
+"""Prints the resident memory of nfsd as it starts, with files of 1 MiB each, once they are removed, and some seconds
+later, when what they left is swept. Also what files of 1 GiB without data take. A benchmark, not a test.
 
 usage: bench/freed.py [--files N] [PROGRAM]
 """
 import struct
+import time
 
 import nfsd
 import network
 
 PART, PARTS = 65_536, 16  # the bytes of a WRITE, and how many fill a file
 GIBIBYTE = 1 << 30
-ERAS = 131_072  # calls that end two eras
-BATCH = 1_024
+SETTLES = 5.0  # seconds until what they left is swept
 
 
 def write(xid, file, offset):
@@ -53,10 +53,8 @@ def data(program, files):
             xid += 1
             asked(connection, nfsd.remove(xid, name))
         told("once they are removed", server)
-        records = b"".join(nfsd.call(xid, nfsd.GETATTR, nfsd.ROOT) for xid in range(BATCH))
-        for _ in range(ERAS // BATCH):
-            connection.answer(records, BATCH * nfsd.SHOWN)
-        told("and two eras later", server)
+        time.sleep(SETTLES)
+        told(f"and {SETTLES:g} seconds later", server)
 
 
 def sizes(program, files):

@@ -1,7 +1,7 @@
 #!/usr/bin/env python3
 """Prints the resident memory of `nfsd --stdio` before and after it made names by CREATEs whose records have 70,000
-bytes behind their arguments. No record may stay when its era is over, which is here after 16 records, but that of the
-one reply that is kept: a name keeps some hundred bytes. A benchmark, not a test.
+bytes behind their arguments. No record may stay but that of the one reply that is kept: a name keeps some hundred
+bytes. A benchmark, not a test.
 
 usage: bench/memory.py [NAMES] [PROGRAM]
 """

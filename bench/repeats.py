@@ -38,11 +38,9 @@ def rates(program, kept):
         file = server.make(b"x")
         records = [setattr(file, xid) for xid in range(1, kept)]
         answer(server, records)
-        # The era may be full then: this ends it, so that no record of it is let go while repeats are measured.
-        server.answer([nfsd.call(0, nfsd.GETATTR, nfsd.ROOT)], nfsd.SHOWN)
         in_order = [records[number % len(records)] for number in range(REPEATS)]
         scattered = [records[number * 7919 % len(records)] for number in range(REPEATS)]
-        answer(server, in_order)  # what the end of the era left to the allocator is put in order meanwhile
+        answer(server, in_order)  # the first time is not measured
         return {
             ("in order", kept): REPEATS / answer(server, in_order),
             ("one by one", kept): REPEATS / answer(server, scattered, 1),

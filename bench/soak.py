@@ -433,10 +433,8 @@ def compare_counts(counts, all_seen, twice, again, era):
     print("the counts add up to what the clients saw")
 
 
-def count(server, counts, first, told, era):
-    """Ends an era behind the last call, and compares what is counted."""
-    for _ in range(era + 1):
-        first.ask(0, b"", False)
+def count(counts, first, told, era):
+    """Compares what is counted, once it is told."""
     time.sleep(3)
     all_seen = [each.seen for each in told] + [seen(first)]
     twice, again = (sum(getattr(each, name) for each in [*told, first]) for name in ("twice", "again"))
@@ -465,7 +463,7 @@ def soak(server, connections, seconds, era):
     if not faults:
         compare_shared(first, shared, told)
     if counts and not faults:
-        count(server, counts, first, told, era)
+        count(counts, first, told, era)
     return faults
 
 

@@ -1,10 +1,9 @@
 #!/usr/bin/env python3
-"""Prints the resident memory of nfsd after some calls of GETATTR and after many more. What was executed is kept for an
-era and then let go: so the second figure is the first. A benchmark, not a test.
+"""Prints the resident memory of nfsd after some calls of GETATTR and after many more. Nothing is kept of them, so the
+second figure is the first. A benchmark, not a test.
 
 Over standard input it is asked after 100,000 calls and after a million. With --tcp four connections send 100,000 calls
-a second for a minute, or as many as it answers, and it is asked after 1 second, 10, and so on. While an era is let go
-the next one fills, so the figures are those of one era or of two.
+a second for a minute, or as many as it answers, and it is asked after 1 second, 10, and so on.
 
 usage: bench/steady.py [--tcp] [--seconds S] [--era N] [PROGRAM]
 """
@@ -17,7 +16,7 @@ import network
 
 BATCH = 1_000
 EARLY, LATE = 100_000, 1_000_000
-LARGER, TWO_ERAS = 1.1, 2.2  # what may be told of a memory that stays
+LARGER = 1.1  # what may be told of a memory that stays
 CONNECTIONS, RATE = 4, 100_000
 INTERVAL = 10  # seconds
 
@@ -64,7 +63,7 @@ def over_tcp(program, era, seconds):
             print(f"{told[-1] / 1e6:,.1f} MB after {moment:g} s")
         calls = sum(each.result() for each in sent)
         print(f"{calls:,} calls, {calls / seconds:,.0f} a second, at most {server.resident('VmHWM') / 1e6:,.1f} MB")
-    return max(told) <= told[0] * TWO_ERAS
+    return max(told) <= told[0] * LARGER
 
 
 def main():

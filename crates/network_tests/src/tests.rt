@@ -123,7 +123,7 @@ fn is_watched<R: Runtime + AllocGlobal + Eprint + Net<Listener = TcpListener, St
     match Sockets::bind(&rt, rt.alloc(), &options) {
         Ok(sockets) => {
             let (is_well, ended) = serve_beside(rt, options, sockets, counters, visit);
-            let has_ended = has_ended(&ended, patience);
+            let has_ended = ended.is_ok();
             drop(ended);
             Ok(is_well && has_ended)
         }
@@ -132,14 +132,6 @@ fn is_watched<R: Runtime + AllocGlobal + Eprint + Net<Listener = TcpListener, St
             drop(options);
             Ok(false)
         }
-    }
-}
-
-/// Whether a server ended as it has to: well, or where it waits for no permit as where one was lost.
-fn has_ended(ended: &Result<(), Exit>, patience: Patience) -> bool {
-    match ended {
-        Ok(()) => patience.permit > 0,
-        Err(exit) => patience.permit == 0 && matches!(exit, Exit::Receipts),
     }
 }
 

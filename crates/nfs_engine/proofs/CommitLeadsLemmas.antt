@@ -184,11 +184,9 @@ journal_commits j k l q r c d setting era_records f same writes keeps ended =
     let records : l.records ≡ record j.records {
       list = j.records.list ++ record_of f ∷ [];
       bytes = min (j.records.bytes + counted_bytes f) (2 ^ 64 - 1);
-      room = l.records.room;
     } = writes.records ∙ ap (λ (x : RecordsValue). let y : RecordsValue = record x {
       list = x.list ++ record_of f ∷ [];
       bytes = min (x.bytes + counted_bytes f) (2 ^ 64 - 1);
-      room = l.records.room;
     } in y) same.records in
     let outbox : l.outbox ≡ record j.outbox {
       waiting = j.outbox.waiting ++ f.done.change.messages;

@@ -1,7 +1,7 @@
 -- The book: the present store, what led to it, and which calls are in progress.
 use Rattle.std.specs.Prelude.{◌≡◌, ◌≢◌, ◌⊎◌, ◌+◌, ◌-◌, ◌^◌, ℕ, min, List, [], ◌∷◌}
 use Rattle.std.specs.Prelude.{◌++◌, length}
-use Rattle.std.specs.Prelude.{map, Option, Some}
+use Rattle.std.specs.Prelude.{Option, Some}
 use Rattle.std.specs.Prelude.{None, Result, Ok, Err, Bool, true, ◌||◌, nat_le, IfSome, IsSome}
 use Rattle.side_wire.specs.declared.message.Message.{Message}
 use Rattle.nfs_machine.specs.Changing.{is_changing}
@@ -20,12 +20,12 @@ use Rattle.nfs_objects.specs.declared.usage.Usage.{Usage}
 use Rattle.nfs_replies.specs.Kept.ReplyEvent.{Repeated}
 use Rattle.nfs_replies.specs.Replies.{IsAfter, RepliesValue}
 use Rattle.nfs_replies.specs.declared.origins.Origin.{Origin}
-use Rattle.nfs_engine.specs.Arrivals.{ArrivalValue, incoming_value, shared_value}
+use Rattle.nfs_engine.specs.Arrivals.{ArrivalValue, incoming_value}
 use Rattle.nfs_engine.specs.Asked.{IsAskedBy}
 use Rattle.nfs_engine.specs.Bounds.{IsWithinBounds}
 use Rattle.nfs_engine.specs.Calls.{FinishedValue, IsUnder, PendingValue, TxnValue}
 use Rattle.nfs_engine.specs.Commits.{counted_bytes, record_of}
-use Rattle.nfs_engine.specs.Journal.{JournalValue}
+use Rattle.nfs_engine.specs.Journal.{EraValue, JournalValue}
 use Rattle.nfs_engine.specs.Repeats.{Keeps, NoneIsKept, RepeatValue, kept_for, origin_in, origin_of}
 use Rattle.nfs_engine.specs.Running.{CallsValue, IsInProgress, Joins, origin_at, running_at}
 use Rattle.nfs_engine.specs.Running.{without_call}
@@ -40,7 +40,6 @@ use Rattle.nfs_engine.specs.declared.book.Recalled.TheVariants as recalled
 use Rattle.nfs_engine.specs.declared.candidate.Prepared.{Prepared}
 use Rattle.nfs_engine.specs.declared.candidate.Prepared.TheVariants as prepared
 use Rattle.nfs_engine.specs.declared.outbox.Posted.{Posted}
-use Rattle.nfs_engine.specs.declared.records.Era.{Era}
 use Rattle.nfs_engine.specs.declared.running.AdmitError.{AdmitError}
 use Rattle.nfs_engine.specs.declared.running.AdmitError.TheVariants.{Memory, Spent}
 use Rattle.nfs_engine.specs.declared.running.Running.{Running}
@@ -267,9 +266,9 @@ TakesMessage old new (Some posted) =
     (new ≡ record old { outbox = new.outbox; taken = old.taken + 1 })
 
 -- the records are the era's, and the next one has none and begins with the present store
-pub record TakesEra (old new : BookValue) (era : Era) : Type 0 where
+pub record TakesEra (old new : BookValue) (era : EraValue) : Type 0 where
   pub before : era.before ≡ old.before
-  pub records : map shared_value era.records.items ≡ old.records
+  pub records : era.records ≡ old.records
   pub rest : new ≡ record old {
     base = old.objects;
     records = [];

@@ -10,7 +10,7 @@ use Rattle.nfs_objects.specs.declared.address.Addr.{Addr}
 use Rattle.nfs_objects.specs.declared.object.Object.{Object}
 use Rattle.nfs_engine.specs.Arrivals.{shared_value}
 use Rattle.nfs_engine.specs.Calls.{FinishedValue}
-use Rattle.nfs_engine.specs.Journal.{JournalValue, TakesPosted}
+use Rattle.nfs_engine.specs.Journal.{EraValue, JournalValue, TakesPosted}
 use Rattle.nfs_engine.specs.Posting.{HaveForms, posted_bytes}
 use Rattle.nfs_engine.specs.Releases.{ReleaseValue}
 use Rattle.nfs_engine.specs.Tables.{slots_needed, store_of}
@@ -18,7 +18,6 @@ use Rattle.nfs_engine.specs.declared.journal.Committed.{Committed}
 use Rattle.nfs_engine.specs.declared.journal.Numbered.{Numbered}
 use Rattle.nfs_engine.specs.declared.journal.Receipt.{Receipt}
 use Rattle.nfs_engine.specs.declared.outbox.Posted.{Posted}
-use Rattle.nfs_engine.specs.declared.records.Era.{Era}
 use Rattle.nfs_engine.specs.declared.release.Then.TheVariants.{Ended}
 
 -- what is recorded of a call
@@ -50,14 +49,13 @@ pub record HasNumbers (j : JournalValue) (f : FinishedValue) (number : ℕ) : Ty
 -- room may have been made, and nothing else
 pub record SameJournal (old new : JournalValue) : Type 0 where
   pub objects : new.objects.slots ≡ old.objects.slots
-  pub records : new.records ≡ record old.records { room = new.records.room }
+  pub records : new.records ≡ old.records
   pub outbox : new.outbox ≡ record old.outbox { room = new.outbox.room }
   pub base : new.base ≡ old.base
 
--- there is room for the slots that these writes need, for so many messages, and for one more record
+-- there is room for the slots that these writes need, and for so many messages
 pub record HasRoom (j : JournalValue) (writes : List (Addr × Option Object)) (messages : ℕ) : Type 0 where
   pub objects : slots_needed j.objects.slots writes ≤ j.objects.room
-  pub records : 0 < j.records.room
   pub outbox : messages ≤ j.outbox.room
 
 -- the call's record has its number and its answer, and there is room
@@ -73,7 +71,6 @@ pub record Writes (old new : JournalValue) (f : FinishedValue) : Type 0 where
   pub records : new.records ≡ record old.records {
     list = old.records.list ++ record_of f ∷ [];
     bytes = min (old.records.bytes + counted_bytes f) (2 ^ 64 - 1);
-    room = new.records.room;
   }
   pub outbox : new.outbox ≡ record old.outbox {
     waiting = old.outbox.waiting ++ f.done.change.messages;
@@ -105,15 +102,14 @@ pub record TakesMessage (old new : JournalValue) (posted : Option Posted) : Type
   pub rest : new ≡ record old { outbox = new.outbox }
 
 -- the records are the era's, and the next one has none and begins with the present store
-pub record TakesEra (old new : JournalValue) (era : Era) : Type 0 where
+pub record TakesEra (old new : JournalValue) (era : EraValue) : Type 0 where
   pub before : era.before ≡ old.records.before
-  pub records : map shared_value era.records.items ≡ old.records.list
+  pub records : era.records ≡ old.records.list
   pub rest : new ≡ record old {
     records = record {
       list = [];
       before = old.records.before + length old.records.list;
       bytes = 0;
-      room = new.records.room;
     };
     base = old.objects.slots;
   }

@@ -1,20 +1,30 @@
 -- What the present store is, what led to it, and which messages are to be sent.
-use Rattle.std.specs.Prelude.{◌≡◌, ℕ, ◌+◌, ◌<◌, ◌^◌, List, [], ◌∷◌, length, Option, Some}
+use Rattle.std.specs.Prelude.{◌≡◌, ℕ, ◌+◌, ◌<◌, ◌^◌, List, [], ◌∷◌, ◌++◌, length, Option, Some}
 use Rattle.std.specs.Prelude.{None}
 use Rattle.side_wire.specs.declared.message.Message.{Message}
 use Rattle.nfs_machine.specs.Run.{Record}
 use Rattle.nfs_objects.specs.declared.address.Addr.{Addr}
+use Rattle.nfs_engine.specs.Arrivals.{record_value}
 use Rattle.nfs_engine.specs.Posting.{HaveForms}
 use Rattle.nfs_engine.specs.Tables.{KeptValue, ObjectsValue}
 use Rattle.nfs_engine.specs.declared.outbox.Posted.{Posted}
+use Rattle.nfs_engine.specs.declared.records.Past.{After', Nothing, Past}
 
--- what was executed since the era began, how many records were before, how many bytes are counted, and how many more
--- records take no memory
+-- the records of what was executed, the newest last
+abbrev pub records_in : Past → List Record
+records_in Nothing = []
+records_in (After' shape before executed) = records_in before ++ record_value executed.value ∷ []
+
+-- what was executed since the era began, how many records were before, and how many bytes are counted
 pub record RecordsValue : Type 0 where
   pub list : List Record
   pub before : ℕ
   pub bytes : ℕ
-  pub room : ℕ
+
+-- an era that is over: how many records were before it, and its own
+pub record EraValue : Type 0 where
+  pub before : ℕ
+  pub records : List Record
 
 -- the messages that were not yet taken, how many were, and how many more take no memory
 pub record OutboxValue : Type 0 where

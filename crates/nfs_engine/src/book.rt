@@ -6,7 +6,6 @@ ghost use Rattle.std.specs.Prelude.{slice_get};
 ghost use Rattle.std.specs.Arc.{arc_value};
 ghost use Rattle.std.specs.Bool.{Decides};
 ghost use Rattle.std.specs.List.{AllByRecursion};
-ghost use Rattle.nfs_engine.specs.Arrivals.{shared_value};
 ghost use Rattle.nfs_engine.specs.Book.{Admits, Commits, GivesUp, IsNoRepeat, IsRun, IsWant, LeadsBook, MayCommit};
 ghost use Rattle.nfs_engine.specs.Book.{Rebases, Recalls, Steps, TakesEra, TakesMessage, is_full, store_in};
 ghost use Rattle.nfs_engine.specs.Calls.{IsUnder};
@@ -26,7 +25,7 @@ ghost use Rattle.nfs_engine.specs.declared.arrival.Reading.TheVariants as readin
 ghost use Rattle.nfs_engine.specs.declared.asking.Asked.{Asked};
 
 use crate::admission::{Admission, Refused};
-use crate::arrival::{Arrival, Executed, Incoming};
+use crate::arrival::{Arrival, Incoming};
 use crate::calls::{Finished, Pending, Txn};
 use crate::candidate::{Candidate, Prepared};
 use crate::journal::{Committed, Journal};
@@ -51,9 +50,9 @@ use std::sync::Arc;
 /// At how many bytes an era is full.
 const ERA_BYTES: u64 = 67_108_864;
 
-/// The present store, what was executed since the era began, the messages that are to be sent, the replies that are
+/// The present store, how much was executed since the era began, the messages that are to be sent, the replies that are
 /// kept, and the calls in progress. Its type keeps that the records are a run of the machine to the store, and that no
-/// reply is kept for what a call in progress came with.
+/// reply is kept for what a call in progress came with. Clauses alone know the records.
 #[derive(Drop)]
 pub struct Book {
     journal: Journal,
@@ -399,12 +398,12 @@ impl Book {
         self.journal.take_message()
     }
 
-    /// Ends the era, whose records are handed out, and begins the next. All else goes on.
-    pub fn new_era(&mut self, alloc: Global) -> Era
+    /// Ends the era, and begins the next. All else goes on. It takes no memory.
+    pub fn new_era(&mut self) -> Era
         ensures era { TakesEra self.old self.new result }
         ensures rebases { Rebases self.old self.new }
     {
-        self.journal.new_era(alloc)
+        self.journal.new_era()
     }
 
     /// Makes a sweep: nothing that the store stands for changes. It takes no memory.
@@ -423,7 +422,7 @@ impl Book {
         ensures { result ≡ (length self.now.records, self.now.bytes) }
     {
         let records = self.journal.records();
-        (records.len() as u64, records.bytes())
+        (records.count(), records.bytes())
     }
 
     /// Whether the era has as many records as it may have, or 67,108,864 bytes.
@@ -448,13 +447,6 @@ impl Book {
         ensures numbers { self.now.before + length self.now.records < 2 ^ 64 }
     {
         self.journal.records().before()
-    }
-
-    /// What was executed since the era began, in order.
-    pub fn executed(&self) -> &[Arc<Executed>]
-        ensures { map shared_value result.now ≡ self.now.records }
-    {
-        self.journal.records().list()
     }
 
     /// How many calls are in progress.

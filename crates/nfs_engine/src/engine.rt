@@ -314,14 +314,14 @@ impl Engine {
         self.book.take_message()
     }
 
-    /// Ends the era, whose records are handed out, and begins the next. All else goes on.
-    pub fn new_era(&mut self, alloc: Global) -> Era
+    /// Ends the era, and begins the next. All else goes on. It takes no memory.
+    pub fn new_era(&mut self) -> Era
         ensures era { TakesEra self.old.book self.new.book result }
         ensures rebases { Rebases self.old.book self.new.book }
         ensures others { KeepsAll self.old self.new }
         ensures shards { self.new.shards ≡ self.old.shards }
     {
-        self.book.new_era(alloc)
+        self.book.new_era()
     }
 
     /// Sweeps the last map page of the file at a number, if that is dead: whether nothing is left of the file then.

@@ -35,7 +35,7 @@ use std::sync::Arc;
 pub struct Receipt {
     /// The record's number, from 1 over all eras.
     pub number: u64,
-    /// What was executed, shared with the record.
+    /// What was executed.
     pub executed: Arc<Executed>,
     /// The bytes of the answer, shared with the reply that is kept.
     pub answer: Bytes,
@@ -101,7 +101,7 @@ impl Journal {
         let began = Snapshot::of(&objects);
         Journal {
             objects,
-            records: EraRecords::new(alloc),
+            records: EraRecords::new(),
             outbox: Outbox::new(alloc),
             began,
         }
@@ -139,15 +139,14 @@ impl Journal {
         Some(Numbered { number, answer })
     }
 
-    /// Makes room for these writes, for so many messages, and for one more record. Where the room is there, no more is
-    /// asked for. An error changes nothing.
+    /// Makes room for these writes, and for so many messages. Where the room is there, no more is asked for. An error
+    /// changes nothing.
     fn make_room(&mut self, writes: &[Write], messages: usize) -> Result<(), AllocError>
         ensures same { SameJournal self.old self.new }
         ensures room { OnOk result (HasRoom self.new (map write_value writes.now) messages) }
         ensures enough { HasRoom self.old (map write_value writes.now) messages → IsOk result }
     {
         self.objects.make_room(writes)?;
-        self.records.make_room()?;
         self.outbox.make_room(messages)?;
         Ok(())
     }
@@ -165,7 +164,7 @@ impl Journal {
             request,
             view,
             writes: own,
-            executed: record,
+            executed,
             ready,
         } = finished;
         let Ready {
@@ -173,13 +172,12 @@ impl Journal {
             writes,
             messages,
             posted,
-            executed,
         } = ready;
         drop(spelled);
         let bytes = counted(request.received.size(), answer.len(), posted);
         self.objects.install(writes, &own);
         self.outbox.post(messages);
-        self.records.push(record, bytes);
+        self.records.push(&executed, bytes);
         Committed {
             receipt: Receipt {
                 number,
@@ -217,12 +215,12 @@ impl Journal {
         self.outbox.take()
     }
 
-    /// Ends the era, and begins the next, with the present store.
-    pub(crate) fn new_era(&mut self, alloc: Global) -> Era
+    /// Ends the era, and begins the next, with the present store. It takes no memory.
+    pub(crate) fn new_era(&mut self) -> Era
         ensures { TakesEra self.old self.new result }
     {
         self.began = Snapshot::of(&self.objects);
-        self.records.take(alloc)
+        self.records.take()
     }
 }
 

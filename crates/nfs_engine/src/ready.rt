@@ -2,7 +2,7 @@
 
 ghost use Rattle.std.specs.Prelude.{◌≡◌, IfOk, IfSome, map};
 ghost use Rattle.nfs_objects.specs.Values.{write_value};
-ghost use Rattle.nfs_engine.specs.Arrivals.{shared_value};
+ghost use Rattle.nfs_engine.specs.Arrivals.{record_value};
 ghost use Rattle.nfs_engine.specs.Made.{IsMade};
 ghost use Rattle.nfs_machine.specs.RpcReplies.{success_message};
 
@@ -15,7 +15,6 @@ use bytes::Bytes;
 use nfs_objects::Write;
 use side_wire::Message;
 use std::alloc::{AllocError, Global};
-use std::sync::Arc;
 
 /// What a commit gives away. It is made before the commit, which has little left to do.
 #[derive(Drop)]
@@ -28,8 +27,6 @@ pub(crate) struct Ready {
     pub messages: Vec<Message>,
     /// In how many bytes the messages are sent.
     pub posted: u64,
-    /// One more owner of what is recorded.
-    pub executed: Arc<Executed>,
 }
 
 /// The bytes of the answer with this xid, where they can be told without the state.
@@ -52,16 +49,15 @@ impl Ready {
         alloc: Global,
         xid: u32,
         writes: &[Write],
-        recorded: &Arc<Executed>,
+        recorded: &Executed,
     ) -> Result<Ready, AllocError>
-        ensures { IfOk result (IsMade xid (map write_value writes.now) (shared_value recorded.now)) }
+        ensures { IfOk result (IsMade xid (map write_value writes.now) (record_value recorded.now)) }
     {
         Ok(Ready {
             answer: spell(alloc, xid, recorded)?,
             writes: copy_writes(alloc, writes)?,
             messages: copy_messages(alloc, &recorded.messages)?,
             posted: messages_size(&recorded.messages),
-            executed: Arc::try_clone(recorded)?,
         })
     }
 }

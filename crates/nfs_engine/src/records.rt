@@ -1,66 +1,115 @@
-//! The records of an era.
+//! The records of an era. None is kept: clauses alone know them.
 
 ghost use Rattle.std.specs.Prelude.{◌≡◌, ◌+◌, ◌-◌, ◌<◌, ◌^◌, [], ◌∷◌, ◌++◌, length};
-ghost use Rattle.std.specs.Prelude.{map, min, IsOk, MatchOption, OnOk};
-ghost use Rattle.nfs_engine.specs.Arrivals.{shared_value};
+ghost use Rattle.std.specs.Prelude.{min, MatchOption};
+ghost use Rattle.nfs_engine.specs.Arrivals.{record_value};
+ghost use Rattle.nfs_engine.specs.Journal.{records_in};
 
 use crate::arrival::Executed;
-use std::alloc::{AllocError, Global};
 use std::marker::Model;
 use std::mem;
-use std::sync::Arc;
+use std::snapshot::Snapshot;
 
-/// The records of an era that is over.
+/// What was executed, the newest last. Clauses alone read it.
+#[derive(Drop)]
+pub(crate) enum Past {
+    /// Nothing yet.
+    Nothing,
+    /// This, and behind it what is newest.
+    After(Snapshot<Past>, Snapshot<Executed>),
+}
+
+impl Past {
+    /// Nothing was executed yet.
+    fn nothing() -> Snapshot<Past>
+        ensures { records_in result.value ≡ [] }
+    {
+        Snapshot::of(&Past::Nothing)
+    }
+
+    /// This was executed, and then that.
+    fn after(past: Snapshot<Past>, executed: &Executed) -> Snapshot<Past>
+        ensures { records_in result.value ≡ records_in past.value ++ record_value executed.now ∷ [] }
+    {
+        Snapshot::of(&Past::After(past, Snapshot::of(executed)))
+    }
+}
+
+/// An era that is over. Its records were not kept: what is known of them is how many they were, and their numbers.
 #[derive(Drop)]
 pub struct Era {
+    before: u64,
+    count: u64,
+    /// The records. Clauses alone read them: they have no bytes.
+    past: Snapshot<Past>,
+}
+
+impl Model for Era {
+    ghost use Rattle.std.specs.Prelude.{◌≡◌, length};
+    ghost use Rattle.nfs_engine.specs.Journal.{EraValue, records_in};
+
+    ghost Value = { EraValue };
+
+    ghost view = { λ e. record { before = e.before; records = records_in e.past.value } };
+
+    ghost invariant = { λ e. e.count ≡ length (records_in e.past.value) };
+}
+
+impl Era {
     /// How many records there were before it: the number of its first is one above.
-    pub before: u64,
-    pub records: Vec<Arc<Executed>>,
+    pub fn before(&self) -> u64
+        ensures { result ≡ self.now.before }
+    {
+        self.before
+    }
+
+    /// How many records it has.
+    pub fn count(&self) -> u64
+        ensures { result ≡ length self.now.records }
+    {
+        self.count
+    }
 }
 
 /// What was executed since the era began, in order. Records are numbered from 1, over all eras.
 #[derive(Drop)]
 pub(crate) struct EraRecords {
-    list: Vec<Arc<Executed>>,
+    /// The records. Clauses alone read them: they have no bytes.
+    past: Snapshot<Past>,
+    count: u64,
     before: u64,
     bytes: u64,
 }
 
 impl Model for EraRecords {
-    ghost use Rattle.std.specs.Prelude.{◌+◌, ◌-◌, ◌<◌, ◌^◌, length, map};
-    ghost use Rattle.std.specs.Vec.{vec_capacity};
-    ghost use Rattle.nfs_engine.specs.Arrivals.{shared_value};
-    ghost use Rattle.nfs_engine.specs.Journal.{RecordsValue};
+    ghost use Rattle.std.specs.Prelude.{◌≡◌, ◌+◌, ◌<◌, ◌^◌, length};
+    ghost use Rattle.nfs_engine.specs.Journal.{RecordsValue, records_in};
 
     ghost Value = { RecordsValue };
 
-    ghost view = { λ r. record {
-      list = map shared_value r.list.items;
-      before = r.before;
-      bytes = r.bytes;
-      room = vec_capacity r.list - length r.list.items;
-    } };
+    ghost view = { λ r. record { list = records_in r.past.value; before = r.before; bytes = r.bytes } };
 
-    ghost invariant = { λ r. r.before + length r.list.items < 2 ^ 64 };
+    ghost invariant = { λ r. (r.count ≡ length (records_in r.past.value)) × (r.before + r.count < 2 ^ 64) };
 }
 
 impl EraRecords {
     /// No record yet, in the first era.
-    pub(crate) fn new(alloc: Global) -> EraRecords
+    pub(crate) fn new() -> EraRecords
         ensures { (result.list ≡ []) × (result.before ≡ 0) × (result.bytes ≡ 0) }
     {
         EraRecords {
-            list: Vec::new(alloc),
+            past: Past::nothing(),
+            count: 0,
             before: 0,
             bytes: 0,
         }
     }
 
     /// How many there are.
-    pub(crate) fn len(&self) -> usize
+    pub(crate) fn count(&self) -> u64
         ensures { result ≡ length self.now.list }
     {
-        self.list.len()
+        self.count
     }
 
     /// How many there were before the era.
@@ -69,13 +118,6 @@ impl EraRecords {
         ensures numbers { self.now.before + length self.now.list < 2 ^ 64 }
     {
         self.before
-    }
-
-    /// They, in order.
-    pub(crate) fn list(&self) -> &[Arc<Executed>]
-        ensures { map shared_value result.now ≡ self.now.list }
-    {
-        &self.list
     }
 
     /// How many bytes they are counted as.
@@ -90,42 +132,37 @@ impl EraRecords {
         ensures { MatchOption result (self.now.before + length self.now.list + 1 ≡ 2 ^ 64)
             (λ number. number ≡ self.now.before + length self.now.list + 1) }
     {
-        (self.before + self.list.len() as u64).checked_add(1)
+        (self.before + self.count).checked_add(1)
     }
 
-    /// Makes room for one record, where there is none.
-    pub(crate) fn make_room(&mut self) -> Result<(), AllocError>
-        ensures same { self.new ≡ record self.old { room = self.new.room } }
-        ensures room { OnOk result (0 < self.new.room) }
-        ensures enough { 0 < self.old.room → IsOk result }
-    {
-        self.list.reserve(1)
-    }
-
-    /// Adds a record, for which there is room, and counts so many bytes.
-    pub(crate) fn push(&mut self, executed: Arc<Executed>, bytes: u64)
-        requires room { 0 < self.old.room }
-        requires number { self.old.before + length self.old.list + 1 < 2 ^ 64 }
+    /// Adds a record, and counts so many bytes. It takes no memory.
+    pub(crate) fn push(&mut self, executed: &Executed, bytes: u64)
+        requires { self.old.before + length self.old.list + 1 < 2 ^ 64 }
         ensures { self.new ≡ record self.old {
-          list = self.old.list ++ shared_value executed ∷ [];
+          list = self.old.list ++ record_value executed.now ∷ [];
           bytes = min (self.old.bytes + bytes) (2 ^ 64 - 1);
-          room = self.new.room;
         } }
     {
-        self.list.push(executed).unwrap();
+        let past = mem::replace(&mut self.past, Past::nothing());
+        self.past = Past::after(past, executed);
+        self.count += 1;
         self.bytes = self.bytes.saturating_add(bytes);
     }
 
-    /// Ends the era, and begins the next.
-    pub(crate) fn take(&mut self, alloc: Global) -> Era
-        ensures era { (result.before ≡ self.old.before) × (map shared_value result.records.items ≡ self.old.list) }
+    /// Ends the era, and begins the next. It takes no memory.
+    pub(crate) fn take(&mut self) -> Era
+        ensures era { result ≡ record { before = self.old.before; records = self.old.list } }
         ensures new { self.new ≡ record
-            { list = []; before = self.old.before + length self.old.list; bytes = 0; room = self.new.room } }
+            { list = []; before = self.old.before + length self.old.list; bytes = 0 } }
     {
-        let before = self.before;
-        let records = mem::replace(&mut self.list, Vec::new(alloc));
-        self.before = before + records.len() as u64;
+        let era = Era {
+            before: self.before,
+            count: self.count,
+            past: mem::replace(&mut self.past, Past::nothing()),
+        };
+        self.before = era.before + era.count;
+        self.count = 0;
         self.bytes = 0;
-        Era { before, records }
+        era
     }
 }

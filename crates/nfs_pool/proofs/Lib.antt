@@ -1,14 +1,13 @@
 pub mod CrossingLemmas
 pub mod MarksStayLemmas
 pub mod CommitLetsGoLemmas
-pub mod CountsLemmas
+pub mod HistoryLemmas
 pub mod MarkedWritesLemmas
 pub mod NotesBesideLemmas
-pub mod ReceiptNumberLemmas
-pub mod ReceiptOrderLemmas
 pub mod ReadsOnLemmas
+pub mod ReceiptLemmas
 pub mod SeatLemmas
+pub mod SeatOrderLemmas
 pub mod ShownEntryLemmas
 pub mod OpeningMarksLemmas
-pub mod TakenReceiptsLemmas
 pub mod UnmarkedLemmas

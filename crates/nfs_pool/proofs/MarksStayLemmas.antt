@@ -9,7 +9,7 @@ use Rattle.nfs_engine.specs.declared.shard.ReserveError.{ReserveError}
 use Rattle.nfs_engine.specs.declared.shard.ReserveError.TheVariants.{Memory, Spent}
 use Rattle.nfs_engine.specs.declared.taking.Got.{Got}
 use Rattle.nfs_engine.specs.declared.taking.Got.TheVariants as got
-use Rattle.nfs_stamps.specs.Marking.{MarksValue}
+use Rattle.nfs_history.specs.Marking.{MarksValue}
 use Rattle.nfs_pool.specs.Marked.{AreMarksIn}
 
 -- ---- a shard

@@ -2,7 +2,7 @@
 use Rattle.std.proofs.Common.{◌≡◌, List, [], ◌∷◌}
 use Rattle.std.proofs.Common.{arith}
 use Rattle.nfs_objects.specs.Values.{Seen}
-use Rattle.nfs_stamps.specs.Marking.{AreNotes, NotesValue}
+use Rattle.nfs_history.specs.Marking.{AreNotes, NotesValue}
 
 -- none
 pub none-noted : (notes : NotesValue) (entries : List Seen) → notes ≡ [] → AreNotes notes entries

@@ -1,5 +1,5 @@
 -- Marks that are taken away.
-use Rattle.std.proofs.Common.{◌≡◌, ℕ, ◌≤◌, ◌+◌, ◌*◌, ◌/◌, ◌==◌, ◌&&◌, true, false, cond, Option, Some, None, arith}
+use Rattle.std.proofs.Common.{◌≡◌, ℕ, ◌+◌, ◌*◌, ◌/◌, ◌==◌, ◌&&◌, true, false, cond, Option, Some, None, arith}
 use Rattle.std.proofs.Common.{refl, sym, ◌∙◌, ap, subst}
 use Rattle.std.proofs.lemmas.Bool.{and_parts}
 use Rattle.std.specs.Cmp.{unsigned_Decides}
@@ -11,7 +11,7 @@ use Rattle.nfs_objects.specs.declared.address.Addr.TheVariants.{Exports, Inode, 
 use Rattle.nfs_objects.specs.declared.address.Addr.TheVariants.{Locks}
 use Rattle.nfs_objects.specs.declared.object.Object.{Object}
 use Rattle.nfs_engine.specs.Sweeps.{SweepValue, is_of_page, swept_at}
-use Rattle.nfs_stamps.specs.Marking.{AreMarks, IsMarked, MarksValue, Puts, Writes, stamp_at}
+use Rattle.nfs_history.specs.Marking.{AreMarks, IsMarked, MarksValue, Puts, Writes, stamp_at}
 use Rattle.nfs_pool.specs.Marked.{NoMark, Unmarks}
 
 -- one mark goes, and none comes

@@ -1,4 +1,6 @@
+pub mod Desks
 pub mod Eras
+pub mod Laws
 pub mod Marked
 pub mod Passes
 pub mod Seats

@@ -1,12 +1,15 @@
 -- Marks of the objects of a shard, and what a commit makes of them.
-use Rattle.std.specs.Prelude.{◌≡◌, ◌==◌, ◌&&◌, ◌<◌, ◌≤◌, ℕ, Bool, true, Option, Some, None, IfSome, if◌then◌else◌}
+use Rattle.std.specs.Prelude.{◌≡◌, ◌==◌, ◌&&◌, ◌<◌, ◌≤◌, ℕ, Bool, true, Option, Some, None, if◌then◌else◌}
 use Rattle.nfs_objects.specs.Values.{is_addr, written_at}
-use Rattle.nfs_objects.specs.Store.{Store}
 use Rattle.nfs_objects.specs.declared.address.Addr.{Addr}
 use Rattle.nfs_objects.specs.declared.address.Addr.TheVariants.{Block, Exports, Inode, Map, Mounts}
 use Rattle.nfs_objects.specs.declared.object.Object.{Object}
+use Rattle.nfs_engine.specs.Book.{BookValue, store_in}
 use Rattle.nfs_engine.specs.Shards.{ShardValue, shard_of, slot_at}
-use Rattle.nfs_stamps.specs.Marking.{AreMarks, MarksValue, Writes, stamp_at}
+use Rattle.nfs_engine.specs.Sweeps.{SweepValue, Sweeps, SweepsShard}
+use Rattle.nfs_engine.specs.declared.clearing.Looked.{Looked}
+use Rattle.nfs_engine.specs.declared.clearing.Looked.TheVariants.{Swept, Passed, Ended}
+use Rattle.nfs_history.specs.Marking.{AreMarks, MarksValue, Writes, stamp_at}
 
 -- what has a mark in a shard was put by that commit
 abbrev pub AreMarksIn : MarksValue → ShardValue → Type 0
@@ -17,15 +20,15 @@ abbrev pub is_among : Option ℕ → Addr → Bool
 is_among None a = true
 is_among (Some index) a = shard_of a == index
 
--- at these addresses the commit with this stamp, if there is one, leaves what these writes leave
-abbrev pub AreStampsOf : Option ℕ → Option Writes → Writes → Type 0
-AreStampsOf among stamp writes = IfSome stamp
-    (λ s. (a : Addr) → is_among among a ≡ true → written_at None s a ≡ written_at None writes a)
+-- at these addresses the commit with this stamp leaves what these writes leave
+abbrev pub AreStampsOf : Option ℕ → (stamp : Writes) → Writes → Type 0
+AreStampsOf among stamp writes =
+    (a : Addr) → is_among among a ≡ true → written_at None stamp a ≡ written_at None writes a
 
 -- if it is at such an address, it has this mark, or none, and others have the marks that they had
-abbrev pub IsMarkedAmong : Option ℕ → Option Writes → (old new : MarksValue) → Addr → Type 0
+abbrev pub IsMarkedAmong : Option ℕ → (stamp : Writes) → (old new : MarksValue) → Addr → Type 0
 IsMarkedAmong among stamp old new a = (b : Addr) (s : Writes) → stamp_at new b ≡ Some s →
-    (if is_among among a && is_addr a b then stamp else stamp_at old b) ≡ Some s
+    (if is_among among a && is_addr a b then Some stamp else stamp_at old b) ≡ Some s
 
 -- at these addresses the writes were made, and elsewhere nothing
 abbrev pub MakesAmong : Option ℕ → (old new : Addr → Option Object) → Writes → Type 0
@@ -33,22 +36,24 @@ MakesAmong among old new writes = (a : Addr) → Some (new a) ≡
     (if is_among among a then written_at (Some (old a)) writes a else Some (old a))
 
 -- ---- the opening
--- what stands at an address of a store stands in this shard
-abbrev pub IsSameIn : Store → ShardValue → Addr → Type 0
-IsSameIn s shard a = (slot_at shard a).object ≡ s.at a
+-- exports and mounts have this mark
+abbrev pub opening_mark : (opening : Writes) → Addr → Option Writes
+opening_mark opening Exports = Some opening
+opening_mark opening Mounts = Some opening
+opening_mark opening a = None
 
--- these stamps, of exports and mounts, are the marks
-abbrev pub opening_mark : (exports mounts : Option Writes) → Addr → Option Writes
-opening_mark exports mounts Exports = exports
-opening_mark exports mounts Mounts = mounts
-opening_mark exports mounts a = None
-
--- there are no other marks
-abbrev pub OpensMarked : MarksValue → (exports mounts : Option Writes) → Type 0
-OpensMarked marks exports mounts = (a : Addr) (s : Writes) → stamp_at marks a ≡ Some s →
-    opening_mark exports mounts a ≡ Some s
+-- and there are no others
+abbrev pub OpensMarked : MarksValue → (opening : Writes) → Type 0
+OpensMarked marks opening = (a : Addr) (s : Writes) → stamp_at marks a ≡ Some s → opening_mark opening a ≡ Some s
 
 -- ---- sweeps
+-- a page went from the book and from a shard, or from none
+abbrev pub SweepsBoth : (old new : BookValue) → (before after : ShardValue) → Looked → Type 0
+SweepsBoth old new before after Swept =
+    (w : SweepValue) × Sweeps (store_in old) (store_in new) w × SweepsShard before after w
+SweepsBoth old new before after Passed = (new ≡ old) × (after ≡ before)
+SweepsBoth old new before after Ended = (new ≡ old) × (after ≡ before)
+
 -- an address has no mark
 abbrev pub NoMark : MarksValue → Addr → Type 0
 NoMark marks a = (s : Writes) → stamp_at marks a ≡ Some s → ⊥

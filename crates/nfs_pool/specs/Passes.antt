@@ -1,11 +1,10 @@
 -- Passes of a call: what it reads, and what it comes to.
-use Rattle.std.specs.Prelude.{◌≡◌, ℕ, ◌+◌, ◌^◌, ◌<◌, Option, Some, None}
+use Rattle.std.specs.Prelude.{◌≡◌, Option, Some, None}
 use Rattle.nfs_machine.specs.Run.{Arrival}
 use Rattle.nfs_engine.specs.Calls.{PendingValue, TxnValue}
-use Rattle.nfs_engine.specs.declared.journal.Receipt.{Receipt}
 use Rattle.nfs_engine.specs.declared.release.Then.{Then}
 use Rattle.nfs_engine.specs.declared.release.Then.TheVariants as then
-use Rattle.nfs_pool.specs.Seats.{IsReceiptOf}
+use Rattle.nfs_pool.specs.Seats.{Gains, IsReceiptOf, SeatValue}
 use Rattle.nfs_pool.specs.Steps.{IsGivenUp}
 use Rattle.nfs_pool.specs.declared.carrying.CallEnd.{CallEnd}
 use Rattle.nfs_pool.specs.declared.carrying.CallEnd.TheVariants as ends
@@ -23,18 +22,12 @@ abbrev pub LeadsOut : Then → Option PendingValue → Type 0
 LeadsOut t None = t ≡ then.Ended
 LeadsOut t (Some p) = t ≡ then.Aborted p
 
--- the receipt is of what came in, above that number, and is counted
-pub record IsNext (r : Arrival) (last before after : ℕ) (receipt : Receipt) : Type 0 where
-  pub of_call : IsReceiptOf r receipt
-  pub above : last < receipt.number
-  pub counted : after ≡ before + 2 ^ 64
-
--- one pass: it is executed; or in progress still, as it came
-abbrev pub ComesTo : Arrival → (last before after : ℕ) → PassEnd → Type 0
-ComesTo r last before after (passed.Executed receipt) = IsNext r last before after receipt
-ComesTo r last before after (passed.Again p) = (p.received ≡ r) × (after ≡ before)
-ComesTo r last before after (passed.Failed p) = (p.received ≡ r) × (after ≡ before)
-ComesTo r last before after (passed.Taken p a m) = (p.received ≡ r) × (after ≡ before)
+-- one pass: it is executed, as the seat's next commit; or in progress still, as it came, and the seat is as it was
+abbrev pub ComesTo : Arrival → (old new : SeatValue) → PassEnd → Type 0
+ComesTo r old new (passed.Executed receipt) = IsReceiptOf r receipt × Gains old new receipt
+ComesTo r old new (passed.Again p) = (p.received ≡ r) × (new ≡ old)
+ComesTo r old new (passed.Failed p) = (p.received ≡ r) × (new ≡ old)
+ComesTo r old new (passed.Taken p a m) = (p.received ≡ r) × (new ≡ old)
 
 -- in progress still, as it came
 abbrev pub Retreats : Arrival → PassEnd → Type 0
@@ -44,6 +37,6 @@ Retreats r (passed.Failed p) = p.received ≡ r
 Retreats r (passed.Taken p a m) = p.received ≡ r
 
 -- all passes: it is executed, or given up
-abbrev pub EndsWith : Arrival → (last before after : ℕ) → CallEnd → Type 0
-EndsWith r last before after (ends.Executed receipt) = IsNext r last before after receipt
-EndsWith r last before after (ends.Refused refused) = IsGivenUp r refused × (after ≡ before)
+abbrev pub EndsWith : Arrival → (old new : SeatValue) → CallEnd → Type 0
+EndsWith r old new (ends.Executed receipt) = IsReceiptOf r receipt × Gains old new receipt
+EndsWith r old new (ends.Refused refused) = IsGivenUp r refused × (new ≡ old)

@@ -1,5 +1,5 @@
 -- The steps of a call in a pool: what they do to the call, whatever stands in the book and the shards.
-use Rattle.std.specs.Prelude.{◌≡◌, ℕ, ◌<◌, ◌&&◌, Bool, nat_le, List, [], length, slice_index_or, true}
+use Rattle.std.specs.Prelude.{◌≡◌, ℕ, ◌&&◌, Bool, nat_le, List, [], length, slice_index_or, true}
 use Rattle.std.specs.Prelude.{false, map}
 use Rattle.std.specs.Prelude.{Option, Result, Ok, Err}
 use Rattle.nfs_machine.specs.Run.{Arrival}
@@ -9,7 +9,7 @@ use Rattle.nfs_objects.specs.declared.modes.Mode.{Mode}
 use Rattle.nfs_objects.specs.declared.object.Object.{Object}
 use Rattle.nfs_engine.specs.Arrivals.{ArrivalValue, incoming_value}
 use Rattle.nfs_engine.specs.Asked.{IsAskedBy}
-use Rattle.nfs_engine.specs.Book.{Admits, BookValue, is_full}
+use Rattle.nfs_engine.specs.Book.{Admits, is_full}
 use Rattle.nfs_engine.specs.Calls.{FinishedValue, IsCalled, TxnValue}
 use Rattle.nfs_engine.specs.Commits.{IsReceipt}
 use Rattle.nfs_engine.specs.Engine.{is_written}
@@ -26,6 +26,8 @@ use Rattle.nfs_engine.specs.declared.release.Then.TheVariants as then
 use Rattle.nfs_engine.specs.declared.running.AdmitError.{AdmitError}
 use Rattle.nfs_engine.specs.declared.taking.Got.{Got}
 use Rattle.nfs_engine.specs.declared.taking.Got.TheVariants as got
+use Rattle.nfs_pool.specs.Desks.{DeskValue, GoesOn}
+use Rattle.nfs_pool.specs.declared.sent.EraEnd.TheVariants.{ByCaller}
 use Rattle.nfs_pool.specs.declared.sent.Unadmitted.{Unadmitted}
 use Rattle.nfs_pool.specs.declared.sent.Unadmitted.TheVariants as unadmitted
 
@@ -48,12 +50,15 @@ AdmitsFrom a (Ok (admission.Early fault)) =
 AdmitsFrom a (Err (unadmitted.EraFull back)) = back ≡ a
 AdmitsFrom a (Err (unadmitted.Refused back)) = (back ≡ a) × AsksSome a
 
--- Where the era is full the book is as it was, and what came in is handed back; else the book admits it.
-abbrev pub AdmitsUnlessFull : (old new : BookValue) → ArrivalValue → Result Admission Unadmitted → Type 0
-AdmitsUnlessFull old new a (Ok admission) = (is_full old ≡ false) × Admits old new a (Ok admission)
-AdmitsUnlessFull old new a (Err (unadmitted.EraFull back)) = (is_full old ≡ true) × (back ≡ a) × (new ≡ old)
-AdmitsUnlessFull old new a (Err (unadmitted.Refused back)) =
-    (is_full old ≡ false) × (error : AdmitError) × Admits old new a (Err (error, back))
+-- Where the era is full, and a caller ends it, all is as it was, and what came in is handed back. Else the book admits
+-- it, after it began the next era if need be.
+abbrev pub AdmitsUnlessFull : (old new : DeskValue) → ArrivalValue → Result Admission Unadmitted → Type 0
+AdmitsUnlessFull old new a (Ok admission) = (now : DeskValue) × GoesOn old now ×
+    Admits now.book new.book a (Ok admission) × (new ≡ record now { book = new.book })
+AdmitsUnlessFull old new a (Err (unadmitted.EraFull back)) =
+    (is_full old.book ≡ true) × (old.ending ≡ ByCaller) × (back ≡ a) × (new ≡ old)
+AdmitsUnlessFull old new a (Err (unadmitted.Refused back)) = (now : DeskValue) × GoesOn old now ×
+    (error : AdmitError) × Admits now.book new.book a (Err (error, back)) × (new ≡ record now { book = new.book })
 
 -- ---- what a call does in one shard
 -- the address is in the view, in this mode, with whatever stands there; or the call is as it was
@@ -79,11 +84,10 @@ pub record LetGoFrom (index : ℕ) (writes : List (Addr × Option Object)) (done
   pub sixteen : length done ≡ 16
   pub are : (k : ℕ) → slice_index_or done k false ≡ nat_le index k && is_written writes k
 
--- the receipt is of this call, which is what came in asks, under a number above that one
-pub record IsMadeAbove (last : ℕ) (f : FinishedValue) (receipt : Receipt) : Type 0 where
+-- the receipt is of this call, which is what came in asks
+pub record IsMade (f : FinishedValue) (receipt : Receipt) : Type 0 where
   pub called : IsCalled f.received f.xid f.done.call f.done.ctx
   pub made : IsReceipt receipt.number f receipt
-  pub above : last < receipt.number
 
 -- what is given up is what came in, and what that asks
 pub record IsGivenUp (r : Arrival) (refused : Refused) : Type 0 where

@@ -24,12 +24,12 @@ use nfs_engine::{
     Admission, Arrival, Got, Incoming, Next, Pending, Reading, Receipt, Refused, Release, SHARDS,
     Txn,
 };
+use nfs_history::Naming;
 use nfs_objects::{Addr, Change, Mode};
 use nfs_schedule::{Considered, Course, NextStep, RefusalReply, consider, decline, next_step};
-use nfs_stamps::Naming;
 use std::alloc::Global;
 use std::sync::Wait;
-use std::sync::ledger::{Ledger, Share};
+use std::sync::ledger::Ledger;
 
 /// 2^64 parted by the golden section.
 const STRIDE: u64 = 0x9e37_79b9_7f4a_7c15;
@@ -43,8 +43,6 @@ struct CallDriver<'a, R, S, G> {
     gate: &'a G,
     /// Of which shard the call's new numbers are.
     shard: usize,
-    /// The number of the seat's last receipt.
-    last: u64,
 }
 
 /// What a call that began comes to.
@@ -68,7 +66,7 @@ enum PassEnd {
 ///
 /// # Errors
 ///
-/// There is no memory for one more receipt in the seat, or the era is full. Nothing is executed.
+/// The era is full. Nothing is executed.
 pub fn run_call<L: Ledger + Naming, R: Wait, S: Steps<L>, G: Gate>(
     rt: &R,
     alloc: Global,
@@ -79,16 +77,12 @@ pub fn run_call<L: Ledger + Naming, R: Wait, S: Steps<L>, G: Gate>(
 ) -> Result<Sent, PoolError>
     ensures { Tells arrival seat.old seat.new result }
 {
-    let Ok(()) = seat.receipts.reserve(1) else {
-        return Err(PoolError::Memory(arrival));
-    };
     let driver = CallDriver {
         rt,
         alloc,
         steps,
         gate,
         shard: shard_in_turn(seat.shard, seat.last),
-        last: seat.last,
     };
     gate.before(Step::Admit);
     let txn = match steps.admit(rt, alloc, arrival) {
@@ -99,14 +93,8 @@ pub fn run_call<L: Ledger + Naming, R: Wait, S: Steps<L>, G: Gate>(
         Err(Unadmitted::EraFull(arrival)) => return Err(PoolError::EraFull(arrival)),
         Err(Unadmitted::Refused(arrival)) => return Ok(refuse(alloc, arrival)),
     };
-    match carry_out(&driver, &mut seat.share, txn) {
-        CallEnd::Executed(receipt) => {
-            seat.last = receipt.number;
-            let Ok(()) = seat.receipts.push(receipt) else {
-                unreachable!();
-            };
-            Ok(Sent::Executed)
-        }
+    match carry_out(&driver, seat, txn) {
+        CallEnd::Executed(receipt) => Ok(Sent::Executed(receipt)),
         CallEnd::Refused(refused) => {
             let Refused { received, asked } = refused;
             Ok(Sent::Refused(decline(alloc, received, asked)))
@@ -114,7 +102,7 @@ pub fn run_call<L: Ledger + Naming, R: Wait, S: Steps<L>, G: Gate>(
     }
 }
 
-/// Of which shard the new numbers of a seat's next call are, behind the call of this number. So that the numbers of
+/// Of which shard the new numbers of a seat's next call are, after the call of this number. So that the numbers of
 /// what went are used again whoever made it, they are of all shards in turn; those of a seat's first call are of its
 /// own.
 fn shard_in_turn(own: usize, last: u64) -> usize
@@ -150,20 +138,18 @@ fn refuse(alloc: Global, arrival: Arrival) -> Sent
 /// Brings a call that began to its end.
 fn carry_out<L: Ledger + Naming, R: Wait, S: Steps<L>, G: Gate>(
     driver: &CallDriver<R, S, G>,
-    mine: &mut Share<L>,
+    seat: &mut Seat<L>,
     txn: Txn,
 ) -> CallEnd
-    requires part { mine.old.parts ≡ 1 }
     requires shard { driver.now.shard < SHARDS }
     requires unread { IsUnread txn }
-    ensures parts { mine.new.parts ≡ mine.old.parts }
-    ensures ended { EndsWith txn.received driver.now.last mine.old.amount mine.new.amount result }
+    ensures { EndsWith txn.received seat.old seat.new result }
 {
     let mut txn = txn;
     let mut first = true;
     let mut awaited = None;
     'passes: for _ in driver.rt.forever() {
-        match pass(driver, mine, first, txn) {
+        match pass(driver, seat, first, txn) {
             PassEnd::Executed(receipt) => {
                 withdraw(driver, awaited);
                 return CallEnd::Executed(receipt);
@@ -226,20 +212,18 @@ fn give_up<L: Ledger + Naming, R: Wait, S: Steps<L>, G: Gate>(
 /// One pass of a call that has read nothing: to its commit, or until it has to let go. In its first it gives way.
 fn pass<L: Ledger + Naming, R: Wait, S: Steps<L>, G: Gate>(
     driver: &CallDriver<R, S, G>,
-    mine: &mut Share<L>,
+    seat: &mut Seat<L>,
     first: bool,
     txn: Txn,
 ) -> PassEnd
-    requires part { mine.old.parts ≡ 1 }
     requires shard { driver.now.shard < SHARDS }
     requires unread { IsUnread txn }
-    ensures parts { mine.new.parts ≡ mine.old.parts }
-    ensures comes { ComesTo txn.received driver.now.last mine.old.amount mine.new.amount result }
+    ensures { ComesTo txn.received seat.old seat.new result }
 {
     let mut txn = NotedTxn::new(driver.alloc, txn);
     match run(driver, first, &mut txn) {
         Ok(change) => match txn.done(driver.alloc, change) {
-            Ok(finished) => commit(driver, mine, finished),
+            Ok(finished) => commit(driver, seat, finished),
             Err(txn) => retreat(driver, txn.into_txn(), Reason::Memory),
         },
         Err(reason) => retreat(driver, txn.into_txn(), reason),
@@ -249,16 +233,17 @@ fn pass<L: Ledger + Naming, R: Wait, S: Steps<L>, G: Gate>(
 /// Commits a call, and lets go what it still holds.
 fn commit<L: Ledger + Naming, R: Wait, S: Steps<L>, G: Gate>(
     driver: &CallDriver<R, S, G>,
-    mine: &mut Share<L>,
+    seat: &mut Seat<L>,
     finished: NotedFinished<L>,
 ) -> PassEnd
-    requires part { mine.old.parts ≡ 1 }
-    ensures parts { mine.new.parts ≡ mine.old.parts }
-    ensures comes { ComesTo finished.received driver.now.last mine.old.amount mine.new.amount result }
+    ensures { ComesTo finished.received seat.old seat.new result }
 {
     driver.gate.before(Step::Commit);
     let (finished, notes) = finished.into_parts();
-    match driver.steps.commit(driver.rt, driver.alloc, mine, driver.last, finished, &notes) {
+    match driver
+        .steps
+        .commit(driver.rt, driver.alloc, seat, finished, &notes)
+    {
         Ok((receipt, release)) => match let_go(driver, release) {
             None => PassEnd::Executed(receipt),
             Some(_) => unreachable!(),

@@ -1,7 +1,6 @@
 //! The commit of a call, in the holds of the shards that it writes.
 
-ghost use Rattle.std.specs.Prelude.{◌≡◌, ◌+◌, ◌^◌, ◌<◌, ◌≤◌, ℕ, IfErr, IfOk, OnErr, OnOk, false, map};
-ghost use Rattle.std.specs.Prelude.{IfSome, None, option_copied, slice_index_or, true};
+ghost use Rattle.std.specs.Prelude.{◌≡◌, ◌<◌, ◌≤◌, ℕ, IfErr, IfOk, None, OnErr, false, map, slice_index_or, true};
 ghost use Rattle.std.specs.List.{AllByRecursion};
 ghost use Rattle.nfs_objects.specs.Values.{write_value, written_at};
 ghost use Rattle.nfs_objects.specs.declared.address.Addr.{Addr};
@@ -9,66 +8,62 @@ ghost use Rattle.nfs_engine.specs.Engine.{ArePlaces};
 ghost use Rattle.nfs_engine.specs.Settling.{HoldsWritten};
 ghost use Rattle.nfs_engine.specs.Shards.{shard_of};
 ghost use Rattle.nfs_engine.specs.declared.release.Then.TheVariants as then;
-ghost use Rattle.nfs_stamps.specs.Marking.{AreNotes};
-ghost use Rattle.nfs_pool.specs.Steps.{IsMadeAbove, LetGoFrom, addresses};
+ghost use Rattle.nfs_history.specs.Marking.{AreNotes};
+ghost use Rattle.nfs_pool.specs.Seats.{Gains};
+ghost use Rattle.nfs_pool.specs.Steps.{IsMade, LetGoFrom, addresses};
 
 use crate::locking::lock_spinning;
 use crate::pool::Pool;
+use crate::seat::Seat;
 use crate::sent::{Reason, Uncommitted};
 use nfs_engine::{Committed, Finished, SHARDS, Shard, shard_index};
+use nfs_history::{Naming, Notes, Stamp};
 use nfs_objects::Write;
-use nfs_stamps::{Naming, Notes, Stamp};
 use std::alloc::Global;
 use std::sync::Wait;
-use std::sync::ledger::{Ledger, Share};
+use std::sync::ledger::Ledger;
 
 /// What the commit of a call goes by, beside the call.
 #[derive(Drop)]
 pub(crate) struct CommitTerms<'a, L: Naming> {
-    /// The number of the seat's last receipt.
-    pub(crate) last: u64,
     /// How the values that were read are marked.
     pub(crate) notes: &'a Notes<L>,
-    /// What tells the values that are written, where one is large.
-    pub(crate) stamp: Option<&'a Stamp<L>>,
     /// Which shards are written in.
     pub(crate) written: &'a [bool; SHARDS],
 }
 
 impl<L: Ledger + Naming> Pool<L> {
     /// Takes the locks of the written shards from this one on, and then commits. What a call has written in a shard is
-    /// made, and what it holds there is let go, before the shard's lock is.
+    /// made, and what it holds there is let go, before the shard's lock is. Handed out is its stamp too.
     pub(crate) fn commit_from<R: Wait>(
         &self,
         rt: &R,
         alloc: Global,
-        mine: &mut Share<L>,
+        seat: &mut Seat<L>,
         terms: &CommitTerms<'_, L>,
         finished: Finished,
         index: usize,
-    ) -> Result<Committed, Uncommitted>
-        requires parts { 0 < mine.old.parts }
+    ) -> Result<(Committed, Stamp<L>), Uncommitted>
         requires index { index ≤ SHARDS }
         requires written { ArePlaces finished.done.change.writes terms.now.written.now }
         requires notes { AreNotes terms.now.notes.now finished.done.view.entries }
-        requires stamp { IfSome (option_copied terms.now.stamp) (λ s. s ≡ finished.done.change.writes) }
-        ensures parts { mine.new.parts ≡ mine.old.parts }
-        ensures counted { OnOk result (mine.new.amount ≡ mine.old.amount + 2 ^ 64) }
-        ensures uncounted { OnErr result (mine.new.amount ≡ mine.old.amount) }
-        ensures receipt { IfOk result (λ c. IsMadeAbove terms.now.last finished c.receipt) }
-        ensures over { IfOk result (λ c. c.release.after ≡ then.Ended) }
-        ensures free { IfOk result (λ c. LetGoFrom index finished.done.change.writes c.release.done) }
+        ensures gains { IfOk result (λ r. Gains seat.old seat.new r.0.receipt) }
+        ensures receipt { IfOk result (λ r. IsMade finished r.0.receipt) }
+        ensures stamp { IfOk result (λ r. r.1 ≡ finished.done.change.writes) }
+        ensures over { IfOk result (λ r. r.0.release.after ≡ then.Ended) }
+        ensures free { IfOk result (λ r. LetGoFrom index finished.done.change.writes r.0.release.done) }
         ensures places { IfOk result
-            (λ c. addresses (map write_value c.writes.items) ≡ addresses finished.done.change.writes) }
-        ensures writes { IfOk result (λ c. (a : Addr) → shard_of a < index →
-            written_at None (map write_value c.writes.items) a ≡ written_at None finished.done.change.writes a) }
+            (λ r. addresses (map write_value r.0.writes.items) ≡ addresses finished.done.change.writes) }
+        ensures writes { IfOk result (λ r. (a : Addr) → shard_of a < index →
+            written_at None (map write_value r.0.writes.items) a ≡ written_at None finished.done.change.writes a) }
         ensures back { IfErr result (λ u. u.finished ≡ finished) }
+        ensures same { OnErr result (seat.new ≡ seat.old) }
     {
         let index = next_written(terms.written, index);
         if index == SHARDS {
             let mut guard = lock_spinning(rt, &self.desk);
             let desk = &mut *guard;
-            return desk.commit(alloc, mine, terms.last, finished, terms.notes, terms.stamp);
+            return desk.commit(rt, alloc, seat, finished, terms.notes);
         }
         let mut guard = lock_spinning(rt, &self.places[index].placed);
         let placed = &mut *guard;
@@ -84,11 +79,11 @@ impl<L: Ledger + Naming> Pool<L> {
                 reason: Reason::Memory,
             });
         }
-        match self.commit_from(rt, alloc, mine, terms, finished, index + 1) {
-            Ok(committed) => {
-                let committed = placed.settle(committed, terms.stamp);
+        match self.commit_from(rt, alloc, seat, terms, finished, index + 1) {
+            Ok((committed, stamp)) => {
+                let committed = placed.settle(committed, &stamp);
                 self.places[index].released.notify_all();
-                Ok(committed)
+                Ok((committed, stamp))
             }
             Err(uncommitted) => Err(uncommitted),
         }

@@ -1,91 +1,115 @@
 //! What lies under the book's lock.
 
-ghost use Rattle.std.specs.Prelude.{◌≡◌, ◌+◌, ◌*◌, ◌^◌, ◌<◌, ◌≤◌, ℕ, [], IfErr, IfOk, IfSome, OnErr, OnOk, length};
-ghost use Rattle.std.specs.Prelude.{option_copied, slice_get};
+ghost use Rattle.std.specs.Prelude.{◌≡◌, ◌++◌, ◌∷◌, [], IfErr, IfOk, IfSome, MatchBool, OnErr, OnOk, length, slice_get};
+ghost use Rattle.std.specs.Prelude.{true};
 ghost use Rattle.std.specs.Bool.{Decides};
-ghost use Rattle.nfs_engine.specs.Book.{Commits, GivesUp, MayCommit, TakesMessage, store_in};
+ghost use Rattle.std.specs.List.{AllByRecursion};
+ghost use mathlib.Core.List.{IsPrefix};
+ghost use Rattle.nfs_engine.specs.Book.{Commits, GivesUp, IsRun, MayCommit, Rebases, TakesEra, TakesMessage};
+ghost use Rattle.nfs_engine.specs.Book.{is_full, store_in};
 ghost use Rattle.nfs_engine.specs.Commits.{Leaves};
 ghost use Rattle.nfs_engine.specs.Standing.{HasObjects};
 ghost use Rattle.nfs_engine.specs.Sweeps.{MaySweep, Sweeps};
 ghost use Rattle.nfs_engine.specs.Tables.{Stands};
 ghost use Rattle.nfs_engine.specs.declared.release.Then.TheVariants as then;
-ghost use Rattle.nfs_stamps.specs.Marking.{AreMarks, AreNotes};
-ghost use Rattle.nfs_pool.specs.Eras.{LeavesEra};
-ghost use Rattle.nfs_pool.specs.Seats.{Counts};
-ghost use Rattle.nfs_pool.specs.Steps.{AdmitsUnlessFull, IsMadeAbove};
+ghost use Rattle.nfs_history.specs.Entries.{commit_entry, opening_entry};
+ghost use Rattle.nfs_history.specs.Marking.{AreMarks, AreNotes};
+ghost use Rattle.nfs_pool.specs.Desks.{GoesOn, IsHistoryOf};
+ghost use Rattle.nfs_pool.specs.Seats.{AreNumbered, AreOf, Gains, IsKnownIn, MadeAll};
+ghost use Rattle.nfs_pool.specs.Steps.{AdmitsUnlessFull, IsMade};
 
 use crate::marking::mark_written;
-use crate::sent::{Reason, Unadmitted, Uncommitted};
+use crate::seat::{Seat, audit};
+use crate::sent::{EraEnd, Reason, Unadmitted, Uncommitted};
 use crate::sweeping::unmark;
 use nfs_engine::{
     Admission, Arrival, Book, Candidate, Committed, Dead, Era, Finished, Pending, Posted, Refused,
     Sweep,
 };
-use nfs_stamps::{Marks, Naming, Notes, Stamp, is_large};
+use nfs_history::{History, Known, Marks, Naming, Notes, Stamp, is_large};
 use std::alloc::{AllocError, Global};
+use std::marker::Model;
 use std::sync::atomic::{AtomicU64, Ordering};
-use std::sync::ledger;
 use std::sync::ledger::{Ledger, Share};
+use std::sync::{Wait, ledger};
 
-/// The book, and a ledger of its records: each counts for the seat that has its receipt. The type of `Book` keeps that
-/// the records are a run of the machine to its store; so it is whenever the lock is free. What is counted is never
-/// taken back, and tells the records of the era from those of eras that are over: so no book without them has its place
-/// here. Beside the store stands by which commits its large objects were put.
+/// The book, and the history of its commits, each of which counts for the seat whose call it was. The type of `Book`
+/// keeps that the records are a run of the machine to its store; so it is whenever the lock is free. The history begins
+/// with what the pool opened with, and ends with the book's records. Beside the store stands by which commits its large
+/// objects were put. A clause sees book and history.
 #[derive(Drop)]
 pub struct Desk<L: Ledger + Naming> {
-    pub(crate) book: Book,
+    book: Book,
+    history: History,
     marks: Marks<L>,
     /// The files that may be dead and not yet swept.
     dead: Dead,
     /// How many large objects were compared by value.
     compared: AtomicU64,
-    /// How many records of eras that are over are counted.
-    past: u64,
+    ending: EraEnd,
+    /// How many eras the pool began by itself.
+    eras: u64,
     counted: ledger::Book<L>,
     /// A share of nothing, to begin others from.
     nothing: Share<L>,
-    ghost counts: { counted.total ≡ 2 ^ 64 * (past + length book.records) + past },
-    ghost over: { past ≤ book.before },
-    ghost empty: { nothing.parts ≡ 0 },
-    ghost none: { nothing.amount ≡ 0 },
-    ghost marked: { AreMarks marks (store_in book).at },
+}
+
+impl<L: Ledger + Naming> Model for Desk<L> {
+    ghost use Rattle.std.specs.Prelude.{◌≡◌, length};
+    ghost use Rattle.nfs_engine.specs.Book.{store_in};
+    ghost use Rattle.nfs_history.specs.Entries.{commits_in};
+    ghost use Rattle.nfs_history.specs.Marking.{AreMarks};
+    ghost use Rattle.nfs_pool.specs.Desks.{DeskValue, IsHistoryOf};
+
+    ghost Value = { DeskValue };
+
+    ghost view = { λ d. record { book = d.book; history = d.history.log; ending = d.ending } };
+
+    ghost invariant = { λ d. IsHistoryOf d.book.before d.book.records d.history.log × (d.history.book ≡ L.book)
+        × (d.counted.total ≡ length (commits_in d.history.log))
+        × (d.nothing.parts ≡ 0) × (d.nothing.amount ≡ 0) × AreMarks d.marks (store_in d.book).at };
 }
 
 impl<L: Ledger + Naming> Desk<L> {
-    /// The book of an engine without records, with these marks.
+    /// The book of an engine without records, with these marks, and the history that was opened with it.
     pub(crate) fn new(
         alloc: Global,
         book: Book,
+        history: History,
         counted: ledger::Book<L>,
         nothing: Share<L>,
         marks: Marks<L>,
+        ending: EraEnd,
     ) -> Desk<L>
         requires total { counted.total ≡ 0 }
         requires records { book.records ≡ [] }
+        requires history { (history.book ≡ L.book) × (history.log ≡ opening_entry book ∷ []) }
         requires nothing { (nothing.parts ≡ 0) × (nothing.amount ≡ 0) }
         requires marked { AreMarks marks (store_in book).at }
-        ensures { result.book ≡ book }
+        ensures { result ≡ record { book = book; history = history.log; ending = ending } }
     {
         Desk {
             book,
+            history,
             marks,
             dead: Dead::new(alloc),
             compared: AtomicU64::new(0),
-            past: 0,
+            ending,
+            eras: 0,
             counted,
             nothing,
         }
     }
 
-    /// Admits a record that came in, unless the era is full.
+    /// Admits a record that came in. Where the era is full the next one begins, if it ends by itself.
     ///
     /// # Errors
     ///
-    /// The era is full; or there is no memory, or no number. Nothing is changed.
+    /// The era is full; or there is no memory, or no number. Nothing is changed, but that an era may have begun.
     pub fn admit(&mut self, alloc: Global, arrival: Arrival) -> Result<Admission, Unadmitted>
-        ensures { AdmitsUnlessFull self.old.book self.new.book arrival result }
+        ensures { AdmitsUnlessFull self.old self.new arrival result }
     {
-        if self.book.era_is_full() {
+        if !self.has_room() {
             return Err(Unadmitted::EraFull(arrival));
         }
         match self.book.admit(alloc, arrival) {
@@ -97,7 +121,8 @@ impl<L: Ledger + Naming> Desk<L> {
         }
     }
 
-    /// Admits a record that asks a call, for which all is made, unless the era is full.
+    /// Admits a record that asks a call, for which all is made. Where the era is full the next one begins, if it ends
+    /// by itself.
     ///
     /// # Errors
     ///
@@ -107,10 +132,9 @@ impl<L: Ledger + Naming> Desk<L> {
         alloc: Global,
         candidate: Candidate,
     ) -> Result<Admission, Unadmitted>
-        ensures { AdmitsUnlessFull self.old.book self.new.book candidate result }
+        ensures { AdmitsUnlessFull self.old self.new candidate result }
     {
-        let full = self.book.era_is_full();
-        if full {
+        if !self.has_room() {
             return Err(Unadmitted::EraFull(candidate.into_arrival()));
         }
         match self.book.admit_call(alloc, candidate) {
@@ -122,54 +146,77 @@ impl<L: Ledger + Naming> Desk<L> {
         }
     }
 
+    /// Whether the era takes one more call in. Where it is full the next one begins, if it ends by itself.
+    fn has_room(&mut self) -> bool
+        ensures { MatchBool result (GoesOn self.old self.new)
+            ((is_full self.old.book ≡ true) × (self.old.ending ≡ EraEnd.ByCaller) × (self.new ≡ self.old)) }
+    {
+        if !self.book.era_is_full() {
+            return true;
+        }
+        match self.ending {
+            EraEnd::ByCaller => false,
+            EraEnd::ByItself => {
+                drop(self.new_era());
+                self.eras = self.eras.wrapping_add(1);
+                true
+            }
+        }
+    }
+
+    /// How many eras the pool began by itself.
+    pub(crate) fn eras(&self) -> u64 {
+        self.eras
+    }
+
     /// Gives a call up.
     pub fn give_up(&mut self, pending: Pending) -> Refused
-        ensures { GivesUp self.old.book self.new.book pending result }
+        ensures gives { GivesUp self.old.book self.new.book pending result }
+        ensures rest { self.new ≡ record self.old { book = self.new.book } }
     {
         self.book.give_up(pending)
     }
 
     /// Takes the oldest message that was not yet taken.
     pub fn take_message(&mut self) -> Option<Posted>
-        ensures { TakesMessage self.old.book self.new.book result }
+        ensures takes { TakesMessage self.old.book self.new.book result }
+        ensures rest { self.new ≡ record self.old { book = self.new.book } }
     {
         self.book.take_message()
     }
 
-    /// Commits a call whose view fits the present store, under a number above this one; it counts for the caller. Notes
-    /// tell by which commits what it has read was put; what it puts gets this stamp, if there is one.
+    /// Commits a call of this seat whose view fits the present store, under a number above its last one; it is the
+    /// history's last commit then. Notes tell by which commits what it has read was put. Handed out is its stamp too.
     ///
     /// # Errors
     ///
-    /// The book is as it was, and the call is handed back.
-    pub fn commit(
+    /// Book, history and seat are as they were, and the call is handed back.
+    pub fn commit<R: Wait>(
         &mut self,
+        rt: &R,
         alloc: Global,
-        mine: &mut Share<L>,
-        last: u64,
+        seat: &mut Seat<L>,
         finished: Finished,
         notes: &Notes<L>,
-        stamp: Option<&Stamp<L>>,
-    ) -> Result<Committed, Uncommitted>
-        requires parts { 0 < mine.old.parts }
+    ) -> Result<(Committed, Stamp<L>), Uncommitted>
         requires notes { AreNotes notes.now finished.done.view.entries }
-        requires stamp { IfSome (option_copied stamp) (λ s. s ≡ finished.done.change.writes) }
-        ensures parts { mine.new.parts ≡ mine.old.parts }
-        ensures counted { OnOk result (mine.new.amount ≡ mine.old.amount + 2 ^ 64) }
-        ensures uncounted { OnErr result (mine.new.amount ≡ mine.old.amount) }
         ensures commits { OnOk result (Commits self.old.book self.new.book finished) }
-        ensures receipt { IfOk result (λ c. IsMadeAbove last finished c.receipt) }
-        ensures leaves { IfOk result (Leaves finished) }
-        ensures over { IfOk result (λ c. c.release.after ≡ then.Ended) }
+        ensures history { IfOk result (λ r.
+            self.new.history ≡ self.old.history ++ commit_entry seat.old.number r.0 ∷ []) }
+        ensures gains { IfOk result (λ r. Gains seat.old seat.new r.0.receipt) }
+        ensures receipt { IfOk result (λ r. IsMade finished r.0.receipt) }
+        ensures stamp { IfOk result (λ r. r.1 ≡ finished.done.change.writes) }
+        ensures leaves { IfOk result (λ r. Leaves finished r.0) }
+        ensures over { IfOk result (λ r. r.0.release.after ≡ then.Ended) }
         ensures back { IfErr result (λ u. u.finished ≡ finished) }
-        ensures same { OnErr result (self.new.book ≡ self.old.book) }
+        ensures same { OnErr result ((self.new ≡ self.old) × (seat.new ≡ seat.old)) }
     {
         // It brings that the call is what its record asks.
         finished.show_finished();
         let Some(number) = self.book.next_number() else {
             return Err(handed_back(finished, Reason::Memory));
         };
-        if number <= last || !self.fits(&finished, notes) {
+        if number <= seat.last || !self.fits(&finished, notes) {
             return Err(handed_back(finished, Reason::Stale));
         }
         if self.dead.make_room(finished.writes()).is_err() {
@@ -177,23 +224,23 @@ impl<L: Ledger + Naming> Desk<L> {
         }
         let Desk {
             book,
+            history,
             marks,
             dead,
             compared: _,
-            past: _,
+            ending: _,
+            eras: _,
             counted,
             nothing: _,
         } = self;
-        match book.commit(alloc, finished) {
-            Ok(committed) => {
-                mark_written(marks, None, &committed.writes, stamp);
-                dead.note(&committed.writes);
-                counted.add(mine, u64::MAX);
-                counted.add(mine, 1);
-                Ok(committed)
-            }
-            Err(finished) => Err(handed_back(finished, Reason::Memory)),
-        }
+        let committed = match book.commit(alloc, finished) {
+            Ok(committed) => committed,
+            Err(finished) => return Err(handed_back(finished, Reason::Memory)),
+        };
+        let stamp = seat.enter(rt, history, counted, &committed);
+        mark_written(marks, None, &committed.writes, &stamp);
+        dead.note(&committed.writes);
+        Ok((committed, stamp))
     }
 
     /// Whether a call may be committed, as `Book::fits`. It compares by value only what it does not know by its stamp.
@@ -239,43 +286,39 @@ impl<L: Ledger + Naming> Desk<L> {
         self.book.objects()
     }
 
-    /// A share of nothing.
-    pub(crate) fn no_share(&mut self) -> Share<L>
-        ensures share { (result.parts ≡ 0) × (result.amount ≡ 0) }
-        ensures book { self.new.book ≡ self.old.book }
+    /// What is known of the history: all of it.
+    pub(crate) fn known(&self) -> Known<L>
+        ensures { result ≡ self.now.history }
     {
-        self.nothing.empty()
+        self.history.known()
     }
 
-    /// Ends the era, and begins the next. The share that has every part counts each record of the era, and then none:
-    /// they are of an era that is over.
-    pub(crate) fn new_era(&mut self, alloc: Global, all: &mut Share<L>) -> Era
-        requires parts { all.old.parts ≡ L.parts }
-        ensures parts { all.new.parts ≡ all.old.parts }
-        ensures none { Counts 0 all.new.amount }
-        ensures leaves { (receipts : ℕ) → Counts receipts all.old.amount →
-            LeavesEra self.old.book self.new.book receipts result }
+    /// Tells that each of these seats, which are all of the pool, made just the commits that the history has under its
+    /// number, and that no other made any. Nothing is changed.
+    pub(crate) fn audit<R: Wait>(&mut self, rt: &R, seats: &mut Vec<Seat<L>>)
+        requires numbered { AreNumbered 0 seats.old.items }
+        requires all { length seats.old.items ≡ L.parts }
+        ensures same { (self.new ≡ self.old) × (seats.new.items ≡ seats.old.items) }
+        ensures made { MadeAll self.old.history seats.old.items }
+        ensures whole { AreOf self.old.history (length seats.old.items) }
+    {
+        let mut known = self.history.known::<L>();
+        learn_all(&mut known, &*seats);
+        self.history.show_all(rt, &mut known);
+        let mut all = self.nothing.empty();
+        audit(&mut self.counted, seats, &mut all);
+    }
+
+    /// Ends the era, and begins the next.
+    pub(crate) fn new_era(&mut self) -> Era
+        ensures run { IsRun self.old.book }
+        ensures history { IsHistoryOf self.old.book.before self.old.book.records self.old.history }
+        ensures takes { TakesEra self.old.book self.new.book result }
+        ensures rebases { Rebases self.old.book self.new.book }
+        ensures rest { self.new ≡ record self.old { book = self.new.book } }
     {
         self.book.show_run();
-        // It brings that there are fewer records than 2^64.
-        self.book.before();
-        let count = self.book.executed().len() as u64;
-        let Desk {
-            book,
-            marks: _,
-            dead: _,
-            compared: _,
-            past,
-            counted,
-            nothing: _,
-        } = self;
-        counted.audit(all);
-        // Without a record there may be no part to count for.
-        if count > 0 {
-            counted.add(all, count);
-            *past += count;
-        }
-        book.new_era(alloc)
+        self.book.new_era()
     }
 
     /// Whether there are files that may be dead and not yet swept.
@@ -288,9 +331,9 @@ impl<L: Ledger + Naming> Desk<L> {
         self.dead.next()
     }
 
-    /// Goes on behind that one, of which nothing is left to be swept.
+    /// Goes on after that one, of which nothing is left to be swept.
     pub(crate) fn go_on(&mut self)
-        ensures { self.new.book ≡ self.old.book }
+        ensures { self.new ≡ self.old }
     {
         self.dead.go_on();
     }
@@ -310,14 +353,17 @@ impl<L: Ledger + Naming> Desk<L> {
     pub(crate) fn sweep(&mut self, sweep: Sweep)
         requires { MaySweep (store_in self.old.book) sweep }
         ensures sweeps { Sweeps (store_in self.old.book) (store_in self.new.book) sweep }
-        ensures rest { self.new.book ≡ record self.old.book { objects = self.new.book.objects } }
+        ensures rest { self.new ≡ record self.old
+            { book = record self.old.book { objects = self.new.book.objects } } }
     {
         let Desk {
             book,
+            history: _,
             marks,
             dead,
             compared: _,
-            past: _,
+            ending: _,
+            eras: _,
             counted: _,
             nothing: _,
         } = self;
@@ -339,4 +385,14 @@ fn handed_back(finished: Finished, reason: Reason) -> Uncommitted
     ensures { result ≡ record { finished = finished; reason = reason } }
 {
     Uncommitted { finished, reason }
+}
+
+/// What these seats know is known too.
+fn learn_all<L: Ledger + Naming>(known: &mut Known<L>, seats: &[Seat<L>])
+    ensures old { IsPrefix known.old known.new }
+    ensures seats { AllByRecursion (IsKnownIn known.new) seats.now }
+{
+    for seat in seats {
+        known.learn(&seat.known);
+    }
 }

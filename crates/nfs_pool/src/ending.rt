@@ -1,113 +1,82 @@
 //! The end of an era, and of a pool.
 
-ghost use Rattle.std.specs.Prelude.{IfErr, IfOk, OnErr, ◌≡◌, ◌≤◌, length};
-ghost use Rattle.nfs_engine.specs.Book.{IsRun};
-ghost use Rattle.nfs_pool.specs.Eras.{AreNew, EndsEra, EndsIn, EndsSome, IfMissing, LeaveOut, LeavesEra, TellAll};
-ghost use Rattle.nfs_pool.specs.Eras.{told_by};
+ghost use Rattle.std.specs.Prelude.{IfErr, IfOk, IsPermutation, OnErr, ◌≡◌, false, length, true};
+ghost use Rattle.std.specs.Bool.{Decides};
+ghost use Rattle.nfs_pool.specs.Eras.{EndsEra, EndsIn, EndsSome};
+ghost use Rattle.std.specs.List.Sorted.{IsNonDecreasingBy};
+ghost use Rattle.nfs_pool.specs.Seats.{AreAll, AreNumbered, SeatValue};
 
-use crate::comparing::{begin_so, told_in_order};
 use crate::counting::Count;
 use crate::desk::Desk;
-use crate::ended::Ended;
 use crate::pool::Pool;
-use crate::room::EraRoom;
-use crate::seat::{Seat, leave_all, new_seats};
+use crate::seat::Seat;
 use crate::sent::FinishError;
 use nfs_engine::{Book, Era};
-use nfs_stamps::Naming;
-use std::alloc::Global;
-use std::sync::Mutex;
+use nfs_history::Naming;
 use std::sync::ledger::Ledger;
+use std::sync::{Mutex, Wait};
 
 impl<L: Ledger + Naming> Pool<L> {
-    /// Ends the pool, where the receipts of these seats are the records of the era. The records are handed out, and the
-    /// book without them.
+    /// Ends the pool, where these are all its seats. The era is handed out, and the book after it. Nothing is compared:
+    /// each seat made just the commits that the history of all commits has under its number, and no other made any.
     ///
     /// # Errors
     ///
-    /// As `turn_era`. All is handed back as it was.
-    pub fn finish(
+    /// A seat of the pool is not given. All is handed back as it was.
+    pub fn finish<R: Wait>(
         self,
-        alloc: Global,
+        rt: &R,
         seats: Vec<Seat<L>>,
     ) -> Result<(Era, Book), (FinishError, Pool<L>, Vec<Seat<L>>)>
-        ensures era { IfOk result (λ r. EndsIn r.1 (told_by seats.items) r.0) }
-        ensures missing { IfErr result (λ e. IfMissing e.0
-            (length seats.items ≡ L.parts → LeaveOut (told_by seats.items))) }
-        ensures back { IfErr result (λ e. e.2.items ≡ seats.items) }
+        ensures era { IfOk result (λ r. EndsIn r.1 seats.items r.0) }
+        ensures missing { IfErr result (λ _. length seats.items ≡ L.parts → AreAll seats.items → ⊥) }
+        ensures back { IfErr result (λ e. IsPermutation seats.items e.2.items) }
     {
         let Pool {
             desk,
             places,
             count,
-            log,
             key,
         } = self;
         let mut desk = desk.into_inner();
-        match close_era(alloc, &mut desk, &count, seats) {
-            Ok((era, _)) => Ok((era, desk.into_book())),
-            Err((error, seats)) => {
+        match close_era(rt, &mut desk, &count, seats) {
+            Ok((era, seats)) => {
+                drop(seats);
+                drop(places);
+                Ok((era, desk.into_book()))
+            }
+            Err(seats) => {
                 let desk = Mutex::new(desk);
-                Err((
-                    error,
-                    Pool {
-                        desk,
-                        places,
-                        count,
-                        log,
-                        key,
-                    },
-                    seats,
-                ))
+                let pool = Pool {
+                    desk,
+                    places,
+                    count,
+                    key,
+                };
+                Err((FinishError::Missing, pool, seats))
             }
         }
     }
 
-    /// Ends the era, where the receipts of these seats are its records, and begins the next, with as many new seats.
+    /// Ends the era, where these are all seats, and begins the next, in which the same seats go on.
     ///
     /// # Errors
     ///
-    /// A seat of the pool is not given, or a record has no equal receipt in those that are (`Missing`); or there is no
-    /// memory to compare them, or for the new seats. The pool is as it was, and the seats are handed back.
-    pub fn turn_era(
+    /// A seat of the pool is not given. The pool is as it was, and the seats are handed back.
+    pub fn turn_era<R: Wait>(
         &mut self,
-        alloc: Global,
+        rt: &R,
         seats: Vec<Seat<L>>,
     ) -> Result<(Era, Vec<Seat<L>>), (FinishError, Vec<Seat<L>>)>
-        ensures era { IfOk result (λ r. EndsSome (told_by seats.items) r.0) }
-        ensures seats { IfOk result (λ r. AreNew r.1.items (length seats.items)) }
-        ensures missing { IfErr result (λ e. IfMissing e.0
-            (length seats.items ≡ L.parts → LeaveOut (told_by seats.items))) }
-        ensures back { IfErr result (λ e. e.1.items ≡ seats.items) }
+        ensures era { IfOk result (λ r. EndsSome seats.items r.0) }
+        ensures seats { IfOk result (λ r. IsPermutation seats.items r.1.items) }
+        ensures missing { IfErr result (λ _. length seats.items ≡ L.parts → AreAll seats.items → ⊥) }
+        ensures back { IfErr result (λ e. IsPermutation seats.items e.1.items) }
     {
-        close_era(alloc, self.desk.get_mut(), &self.count, seats)
-    }
-
-    /// Ends the era, and begins the next, with as many new seats. That the receipts of these seats are its records is
-    /// left to be compared, so that callers need not wait for it. What they leave stands in this room, which the era
-    /// that is over gives back. Of dead files a few pages are swept, where there is memory for that: what stood there
-    /// goes with the era. Its time goes by the number of seats and of these pages, and for no want of memory it fails.
-    ///
-    /// # Errors
-    ///
-    /// A seat of the pool is not given, or the room is for fewer seats. The pool is as it was, and seats and room are
-    /// handed back.
-    pub fn next_era(
-        &mut self,
-        alloc: Global,
-        seats: Vec<Seat<L>>,
-        room: EraRoom,
-    ) -> Result<(Ended, Vec<Seat<L>>), (Vec<Seat<L>>, EraRoom)>
-        ensures ended { IfOk result (λ r. r.0.receipts ≡ told_by seats.items) }
-        ensures room { IfOk result (λ r. r.0.room ≡ room) }
-        ensures seats { IfOk result (λ r. AreNew r.1.items (length seats.items)) }
-        ensures missing { IfErr result (λ _. length seats.items ≡ L.parts → length seats.items ≤ room → ⊥) }
-        ensures back { IfErr result (λ e. (e.0.items ≡ seats.items) × (e.1 ≡ room)) }
-    {
-        let desk = self.desk.get_mut();
-        let (mut ended, seats) = leave_era(alloc, desk, &self.count, seats, room)?;
-        ended.sweep(alloc, self);
-        Ok((ended, seats))
+        match close_era(rt, self.desk.get_mut(), &self.count, seats) {
+            Ok(closed) => Ok(closed),
+            Err(seats) => Err((FinishError::Missing, seats)),
+        }
     }
 
     /// Ends the pool: its book is handed out. It takes no memory.
@@ -116,88 +85,67 @@ impl<L: Ledger + Naming> Pool<L> {
             desk,
             places,
             count: _,
-            log,
             key: _,
         } = self;
         drop(places);
-        drop(log);
         desk.into_inner().into_book()
     }
 }
 
-/// Ends the era, where the receipts of these seats are its records, and begins the next, with as many new seats.
+/// Ends the era, where these are all seats, and begins the next. The seats are in the order of their numbers then.
 ///
 /// # Errors
 ///
-/// They are not all seats, or not all its records; or there is no memory. Nothing is changed.
-fn close_era<L: Ledger + Naming>(
-    alloc: Global,
+/// They are not all seats. Nothing is changed.
+fn close_era<L: Ledger + Naming, R: Wait>(
+    rt: &R,
     desk: &mut Desk<L>,
     count: &Count<L>,
     seats: Vec<Seat<L>>,
-) -> Result<(Era, Vec<Seat<L>>), (FinishError, Vec<Seat<L>>)>
-    ensures era { IfOk result (λ r. EndsEra desk.old.book desk.new.book (told_by seats.items) r.0) }
-    ensures seats { IfOk result (λ r. AreNew r.1.items (length seats.items)) }
-    ensures missing { IfErr result (λ e. IfMissing e.0 (length seats.items ≡ L.parts →
-        TellAll desk.old.book.before desk.old.book.records (told_by seats.items) → ⊥)) }
-    ensures back { IfErr result (λ e. e.1.items ≡ seats.items) }
-    ensures run { IsRun desk.old.book }
-    ensures same { OnErr result (desk.new.book ≡ desk.old.book) }
+) -> Result<(Era, Vec<Seat<L>>), Vec<Seat<L>>>
+    ensures era { IfOk result (λ r. EndsEra desk.old.book desk.new.book desk.old.history seats.items r.0) }
+    ensures seats { IfOk result (λ r. IsPermutation seats.items r.1.items) }
+    ensures missing { IfErr result (λ _. length seats.items ≡ L.parts → AreAll seats.items → ⊥) }
+    ensures back { IfErr result (λ back. IsPermutation seats.items back.items) }
+    ensures same { OnErr result (desk.new ≡ desk.old) }
 {
-    // It brings that the records are a run.
-    desk.book.show_run();
-    let Ok(tells) = told_in_order(alloc, &seats) else {
-        return Err((FinishError::Memory, seats));
-    };
-    if !begin_so(desk.book.before(), desk.book.executed(), &tells) {
-        return Err((FinishError::Missing, seats));
+    let mut seats = seats;
+    if !count.is(seats.len()) {
+        return Err(seats);
     }
-    let Ok(room) = EraRoom::new(alloc, seats.len()) else {
-        return Err((FinishError::Memory, seats));
-    };
-    match leave_era(alloc, desk, count, seats, room) {
-        Ok((ended, seats)) => {
-            let (era, room) = ended.into_parts();
-            drop(room);
-            Ok((era, seats))
-        }
-        Err((seats, room)) => {
-            drop(room);
-            Err((FinishError::Missing, seats))
-        }
+    if !put_in_order(&mut seats) {
+        return Err(seats);
     }
+    desk.audit(rt, &mut seats);
+    Ok((desk.new_era(), seats))
 }
 
-/// Ends the era, and begins the next, with as many new seats. It takes no memory: what the seats leave stands in this
-/// room, and the new ones where they stood.
-///
-/// # Errors
-///
-/// They are not all seats, or the room is for fewer. Nothing is changed.
-fn leave_era<L: Ledger + Naming>(
-    alloc: Global,
-    desk: &mut Desk<L>,
-    count: &Count<L>,
-    seats: Vec<Seat<L>>,
-    room: EraRoom,
-) -> Result<(Ended, Vec<Seat<L>>), (Vec<Seat<L>>, EraRoom)>
-    ensures ended { IfOk result (λ r. r.0.receipts ≡ told_by seats.items) }
-    ensures room { IfOk result (λ r. r.0.room ≡ room) }
-    ensures leaves { IfOk result (λ r.
-        LeavesEra desk.old.book desk.new.book (length r.0.receipts) r.0.era) }
-    ensures seats { IfOk result (λ r. AreNew r.1.items (length seats.items)) }
-    ensures missing { IfErr result (λ _. length seats.items ≡ L.parts → length seats.items ≤ room → ⊥) }
-    ensures back { IfErr result (λ e. (e.0.items ≡ seats.items) × (e.1 ≡ room)) }
-    ensures same { OnErr result (desk.new.book ≡ desk.old.book) }
+/// Puts these seats in the order of their numbers, and tells whether these are those from 0 on.
+fn put_in_order<L: Ledger + Naming>(seats: &mut Vec<Seat<L>>) -> bool
+    ensures order { IsPermutation seats.old.items seats.new.items }
+    ensures numbered { result ≡ true → AreNumbered 0 seats.new.items }
+    ensures missing { result ≡ false → AreAll seats.old.items → ⊥ }
 {
-    let number = seats.len();
-    if !count.is(number) || !room.is_for(number) {
-        return Err((seats, room));
+    sort_by_number(seats);
+    are_numbered(seats)
+}
+
+/// Puts these seats in the order of their numbers.
+fn sort_by_number<L: Ledger + Naming>(seats: &mut Vec<Seat<L>>)
+    ensures order { IsPermutation seats.old.items seats.new.items }
+    ensures rises { IsNonDecreasingBy (λ (s : SeatValue). s.number) seats.new.items }
+{
+    seats.sort_unstable_by_key(|seat| seat.number());
+}
+
+/// Whether these seats have the numbers from 0 on, in order.
+fn are_numbered<L: Ledger + Naming>(seats: &[Seat<L>]) -> bool
+    ensures { Decides result (AreNumbered 0 seats.now) }
+{
+    for index in 0..seats.len() {
+        if seats[index].number() != index as u64 {
+            return false;
+        }
     }
-    let mut all = desk.no_share();
-    let (places, gone) = room.into_parts();
-    let (lists, emptied) = leave_all(seats, places, &mut all);
-    let era = desk.new_era(alloc, &mut all);
-    let seats = new_seats(alloc, emptied, all, number);
-    Ok((Ended::new(era, lists, gone), seats))
+    true
 }

@@ -2,26 +2,24 @@
 //!
 //! A call lives on its caller's thread: what it has read, what it asks for and what it is to write are values of that
 //! thread, and its proof goes by them alone (`run_call`). Each step of it (`Steps`) holds the lock of one shard, or the
-//! book's; a commit holds those of the shards that it writes, rising, and then the book's. A caller has a `Seat`, which
-//! keeps a receipt of each of its calls of the era that was executed. The end of an era shows that the receipts of all
-//! seats are its records, each once.
+//! book's; a commit holds those of the shards that it writes, rising, and then the book's. A caller has a `Seat`. Each
+//! commit is added to one history of all commits, which exists in the proofs alone. The end of an era shows that each
+//! seat made just the commits that the history has of it.
 #![tactic(auto)]
 
 mod carrying;
 mod committing;
-mod comparing;
 mod counting;
 mod desk;
-mod ended;
 mod ending;
 mod gate;
+pub mod laws;
 mod locking;
 mod marked_shard;
 mod marking;
 mod noted;
 mod opening;
 mod pool;
-mod room;
 mod seat;
 mod sent;
 mod steps;
@@ -30,12 +28,10 @@ mod waiting;
 
 pub use carrying::run_call;
 pub use desk::Desk;
-pub use ended::Ended;
 pub use gate::{Gate, Open, Step};
-pub use nfs_stamps::{Naming, Notes, Opened};
+pub use nfs_history::{History, Naming, Notes};
 pub use noted::{NotedFinished, NotedTxn};
 pub use pool::Pool;
-pub use room::EraRoom;
 pub use seat::Seat;
-pub use sent::{FinishError, PoolError, Reason, Sent, Unadmitted, Uncommitted};
+pub use sent::{EraEnd, FinishError, PoolError, Reason, Sent, Unadmitted, Uncommitted};
 pub use steps::Steps;

@@ -2,8 +2,8 @@
 
 use crate::marked_shard::MarkedShard;
 use crate::waiting::Awaited;
+use nfs_history::Naming;
 use nfs_objects::{Addr, Mode};
-use nfs_stamps::Naming;
 use std::hint::spin_loop;
 use std::sync::{Condvar, Mutex, MutexGuard, Wait};
 

@@ -9,14 +9,14 @@ ghost use Rattle.nfs_engine.specs.Settling.{AreHeldIn, spent_in};
 ghost use Rattle.nfs_engine.specs.Shards.{slot_at};
 ghost use Rattle.nfs_engine.specs.Sweeps.{SweepsShard};
 ghost use Rattle.nfs_engine.specs.Taking.{IsGot};
-ghost use Rattle.nfs_stamps.specs.Marking.{Puts};
+ghost use Rattle.nfs_history.specs.Marking.{Puts};
 ghost use Rattle.nfs_pool.specs.Marked.{AreMarksIn, AreStampsOf};
 
 use crate::marking::mark_written;
 use crate::sweeping::unmark;
 use nfs_engine::{Committed, Finished, Got, Release, ReserveError, Shard, Sweep, Txn};
+use nfs_history::{Marks, Naming, Stamp};
 use nfs_objects::{Addr, Mode, Object};
-use nfs_stamps::{Marks, Naming, Stamp};
 use std::alloc::{AllocError, Global};
 use std::sync::Arc;
 
@@ -89,11 +89,10 @@ impl<L: Naming> MarkedShard<L> {
         finished.make_room_in(&mut self.shard)
     }
 
-    /// Makes what a call has written here, and lets go what it has read here. Large objects get the stamp, if there is
-    /// one.
-    pub(crate) fn settle(&mut self, committed: Committed, stamp: Option<&Stamp<L>>) -> Committed
+    /// Makes what a call has written here, and lets go what it has read here. Large objects get the stamp.
+    pub(crate) fn settle(&mut self, committed: Committed, stamp: &Stamp<L>) -> Committed
         requires held { AreHeldIn self.old.shard self.old.shard.index (map write_value committed.writes.items) }
-        requires stamp { AreStampsOf (Some self.old.shard.index) (option_copied stamp)
+        requires stamp { AreStampsOf (Some self.old.shard.index) stamp.now
             (map write_value committed.writes.items) }
         ensures receipt { result.receipt ≡ committed.receipt }
         ensures release { result.release ≡ freed_more committed.release self.old.shard.index }

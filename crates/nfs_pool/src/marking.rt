@@ -3,22 +3,22 @@
 ghost use Rattle.std.specs.Prelude.{◌≡◌, map, option_copied, Option, Some};
 ghost use Rattle.nfs_objects.specs.Values.{write_value};
 ghost use Rattle.nfs_objects.specs.declared.object.Object.{Object};
-ghost use Rattle.nfs_stamps.specs.Marking.{AreMarks, Writes};
+ghost use Rattle.nfs_history.specs.Marking.{AreMarks, Writes};
 ghost use Rattle.nfs_pool.specs.Marked.{AreStampsOf, IsMarkedAmong, MakesAmong, is_among};
 
 use nfs_engine::shard_index;
+use nfs_history::{Marks, Naming, Stamp};
 use nfs_objects::{Addr, Write};
-use nfs_stamps::{Marks, Naming, Stamp};
 
 /// Marks what these writes put, where it is among the addresses of a shard, or wherever it is, with the stamp of their
-/// commit. An object that goes, or that comes without a stamp, has no mark.
+/// commit. An object that goes has no mark.
 pub(crate) fn mark_written<L: Naming>(
     marks: &mut Marks<L>,
     among: Option<usize>,
     writes: &[Write],
-    stamp: Option<&Stamp<L>>,
+    stamp: &Stamp<L>,
 )
-    requires { AreStampsOf among (option_copied stamp) (map write_value writes.now) }
+    requires { AreStampsOf among stamp.now (map write_value writes.now) }
     ensures { (old new : Addr → Option Object) → AreMarks marks.old old
         → MakesAmong among old new (map write_value writes.now) → AreMarks marks.new new }
 {
@@ -28,13 +28,8 @@ pub(crate) fn mark_written<L: Naming>(
 }
 
 /// The same of one write.
-fn mark<L: Naming>(
-    marks: &mut Marks<L>,
-    among: Option<usize>,
-    write: &Write,
-    stamp: Option<&Stamp<L>>,
-)
-    ensures { IsMarkedAmong among (option_copied stamp.entry) marks.old marks.new write.now.address }
+fn mark<L: Naming>(marks: &mut Marks<L>, among: Option<usize>, write: &Write, stamp: &Stamp<L>)
+    ensures { IsMarkedAmong among stamp.now marks.old marks.new write.now.address }
 {
     if !is_among(among, write.address) {
         return;
@@ -43,10 +38,14 @@ fn mark<L: Naming>(
 }
 
 /// What the object of a write is marked with: nothing where none is put.
-fn mark_of<'a, L: Naming>(write: &Write, stamp: Option<&'a Stamp<L>>) -> Option<&'a Stamp<L>>
-    ensures { (s : Writes) → option_copied result ≡ Some s → option_copied stamp.entry ≡ Some s }
+fn mark_of<'a, L: Naming>(write: &Write, stamp: &'a Stamp<L>) -> Option<&'a Stamp<L>>
+    ensures { (s : Writes) → option_copied result ≡ Some s → stamp.now ≡ s }
 {
-    if write.object.is_some() { stamp } else { None }
+    if write.object.is_some() {
+        Some(stamp)
+    } else {
+        None
+    }
 }
 
 /// Whether an address is one of this shard, if there is one.

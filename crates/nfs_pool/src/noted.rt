@@ -5,13 +5,13 @@ ghost use Rattle.nfs_objects.specs.Promise.{IsPromised};
 ghost use Rattle.nfs_objects.specs.Values.{change_value, done_value, seen_at, write_value};
 ghost use Rattle.nfs_engine.specs.Apart.{GetsNumber};
 ghost use Rattle.nfs_engine.specs.Calls.{finished_of};
-ghost use Rattle.nfs_stamps.specs.Marking.{AreNotes};
+ghost use Rattle.nfs_history.specs.Marking.{AreNotes};
 ghost use Rattle.nfs_pool.specs.Steps.{TakesAny};
 
 use crate::marked_shard::MarkedShard;
 use nfs_engine::{Finished, Got, ReserveError, Txn};
+use nfs_history::{Naming, Notes};
 use nfs_objects::{Addr, Change, Mode, Write};
-use nfs_stamps::{Naming, Notes};
 use std::alloc::{AllocError, Global};
 use std::marker::Model;
 
@@ -24,7 +24,7 @@ pub struct NotedTxn<L: Naming> {
 
 impl<L: Naming> Model for NotedTxn<L> {
     ghost use Rattle.nfs_engine.specs.Calls.{TxnValue};
-    ghost use Rattle.nfs_stamps.specs.Marking.{AreNotes};
+    ghost use Rattle.nfs_history.specs.Marking.{AreNotes};
 
     ghost Value = { TxnValue };
 
@@ -136,7 +136,7 @@ pub struct NotedFinished<L: Naming> {
 
 impl<L: Naming> Model for NotedFinished<L> {
     ghost use Rattle.nfs_engine.specs.Calls.{FinishedValue};
-    ghost use Rattle.nfs_stamps.specs.Marking.{AreNotes};
+    ghost use Rattle.nfs_history.specs.Marking.{AreNotes};
 
     ghost Value = { FinishedValue };
 

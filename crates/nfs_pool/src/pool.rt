@@ -1,8 +1,7 @@
 //! The seventeen locks, and each step of a call under those that it needs.
 
 ghost use Rattle.std.specs.Prelude.{◌≡◌, [], IfErr, IfOk};
-ghost use Rattle.nfs_pool.specs.Eras.{AreNew};
-ghost use Rattle.nfs_pool.specs.Seats.{Tells};
+ghost use Rattle.nfs_pool.specs.Seats.{AreNew, Tells};
 
 use crate::carrying::run_call;
 use crate::committing::{CommitTerms, written_shards};
@@ -11,19 +10,19 @@ use crate::desk::Desk;
 use crate::gate::Gate;
 use crate::locking::{LockedShard, lock_spinning};
 use crate::noted::NotedTxn;
-use crate::opening::{lock_all, mark_opening, stamp_for};
+use crate::opening::{lock_all, mark_opening};
 use crate::seat::{Seat, new_seats};
-use crate::sent::{PoolError, Sent, Unadmitted, Uncommitted};
+use crate::sent::{EraEnd, PoolError, Sent, Unadmitted, Uncommitted};
 use crate::steps::Steps;
 use nfs_engine::{
     Admission, Arrival, Committed, Engine, Finished, Got, Next, Pending, Posted, Prepared, Receipt,
     Refused, Release, ReserveError, SHARDS, shard_index,
 };
+use nfs_history::{History, Naming, Notes, Stamp};
 use nfs_objects::{Addr, Mode};
 use nfs_replies::RecordKey;
-use nfs_stamps::{Log, Naming, Notes, Opened};
 use std::alloc::{AllocError, Global};
-use std::sync::ledger::{Blank, Ledger, Share};
+use std::sync::ledger::{Blank, Ledger};
 use std::sync::{Mutex, Wait};
 
 /// The book and the shards, each under a lock of its own.
@@ -32,52 +31,57 @@ pub struct Pool<L: Ledger + Naming> {
     pub(crate) desk: Mutex<Desk<L>>,
     pub(crate) places: [LockedShard<L>; SHARDS],
     pub(crate) count: Count<L>,
-    /// The stamps of commits.
-    pub(crate) log: Log<L>,
     /// Under which the book hashes records, so that they are hashed with no lock held.
     pub(crate) key: RecordKey,
 }
 
 impl<L: Ledger + Naming> Pool<L> {
-    /// The pool of an engine without records, and a seat for each part of the ledger.
+    /// The pool of an engine without records, and a seat for each part of the ledger. Its eras end so.
     ///
     /// # Errors
     ///
-    /// There is no memory for the seats. Ledger and engine are handed back.
+    /// There is no memory for the seats. Ledger, history and engine are handed back.
     pub fn new(
         alloc: Global,
         blank: Blank,
-        opened: Opened,
+        history: History,
         engine: Engine,
         count: usize,
-    ) -> Result<(Pool<L>, Vec<Seat<L>>), (Blank, Engine)>
+        ending: EraEnd,
+    ) -> Result<(Pool<L>, Vec<Seat<L>>), (Blank, History, Engine)>
         requires name { blank.name ≡ L.name }
         requires parts { blank.parts ≡ L.parts }
         requires count { blank.parts ≡ count }
-        requires log { opened.seen.book ≡ L.book }
+        requires history { (history.book ≡ L.book) × (history.log ≡ []) }
         requires records { engine.book.records ≡ [] }
         ensures seats { IfOk result (λ r. AreNew r.1.items count) }
-        ensures back { IfErr result (λ r. (r.0 ≡ blank) × (r.1 ≡ engine)) }
+        ensures back { IfErr result (λ r. (r.0 ≡ blank) × (r.1 ≡ history) × (r.2 ≡ engine)) }
     {
+        let mut history = history;
         let Ok(room) = Vec::with_capacity(alloc, count) else {
-            return Err((blank, engine));
+            return Err((blank, history, engine));
         };
+        if !history.open(&engine) {
+            return Err((blank, history, engine));
+        }
         let (counted, mut all) = blank.open::<L>();
         let nothing = all.empty();
-        let log = opened.named::<L>();
         // It brings that the shards together are the book's store.
         engine.show_tie();
         let (book, shards) = engine.into_parts();
-        let (marks, first) = mark_opening(alloc, &log, &book, &shards[0]);
+        let known = history.known::<L>();
+        let opening = Stamp::at(0, &known);
         let (key, placing) = (book.record_key(), book.placing());
+        let marks = mark_opening(alloc, placing, &opening);
+        let first = mark_opening(alloc, placing, &opening);
+        let desk = Desk::new(alloc, book, history, counted, nothing, marks, ending);
         let pool = Pool {
-            desk: Mutex::new(Desk::new(alloc, book, counted, nothing, marks)),
+            desk: Mutex::new(desk),
             places: lock_all(alloc, placing, shards, first),
             count: Count::new(count),
-            log,
             key,
         };
-        Ok((pool, new_seats(alloc, room, all, count)))
+        Ok((pool, new_seats(room, all, count, &known)))
     }
 
     /// Brings what came in to its answer on this thread, with one hold of locks for each step. The gate is
@@ -85,7 +89,7 @@ impl<L: Ledger + Naming> Pool<L> {
     ///
     /// # Errors
     ///
-    /// There is no memory for one more receipt in the seat, or the era is full. Nothing is executed.
+    /// The era is full. Nothing is executed.
     pub fn submit<R: Wait, G: Gate>(
         &self,
         rt: &R,
@@ -103,6 +107,12 @@ impl<L: Ledger + Naming> Pool<L> {
     pub fn compared<R: Wait>(&self, rt: &R) -> u64 {
         let guard = lock_spinning(rt, &self.desk);
         guard.compared()
+    }
+
+    /// How many eras the pool began by itself.
+    pub fn eras<R: Wait>(&self, rt: &R) -> u64 {
+        let guard = lock_spinning(rt, &self.desk);
+        guard.eras()
     }
 
     /// At how many addresses something stands: those of the store that the book had while this held its lock. It takes
@@ -192,21 +202,18 @@ impl<L: Ledger + Naming> Steps<L> for Pool<L> {
         &self,
         rt: &R,
         alloc: Global,
-        mine: &mut Share<L>,
-        last: u64,
+        seat: &mut Seat<L>,
         finished: Finished,
         notes: &Notes<L>,
     ) -> Result<(Receipt, Release), Uncommitted> {
         let written = written_shards(finished.writes());
-        let stamp = stamp_for(&self.log, finished.writes());
         let terms = CommitTerms {
-            last,
             notes,
-            stamp: stamp.as_ref(),
             written: &written,
         };
-        match self.commit_from(rt, alloc, mine, &terms, finished, 0) {
-            Ok(committed) => {
+        match self.commit_from(rt, alloc, seat, &terms, finished, 0) {
+            Ok((committed, stamp)) => {
+                drop(stamp);
                 let Committed {
                     receipt,
                     release,

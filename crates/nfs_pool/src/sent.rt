@@ -1,14 +1,14 @@
 //! What callers are told.
 
-use nfs_engine::{Arrival, Faulted, Finished, Incoming, Kept};
+use nfs_engine::{Arrival, Faulted, Finished, Incoming, Kept, Receipt};
 use nfs_objects::{Addr, Mode};
 use nfs_schedule::RefusalReply;
 
 /// How what came in was answered.
 #[derive(Drop)]
 pub enum Sent {
-    /// Its call was executed: the seat's last receipt is of it, and has the bytes of the reply.
-    Executed,
+    /// Its call was executed. The receipt has the bytes of the reply.
+    Executed(Receipt),
     /// It came before, and gets the reply that is kept; its call is not executed again.
     Repeated(Kept),
     /// Its call was refused, for want of memory or of a number, and changed nothing.
@@ -22,8 +22,6 @@ pub enum Sent {
 /// Why what came in was not taken in. Nothing is executed, and it is handed back.
 #[derive(Drop)]
 pub enum PoolError {
-    /// There is no memory for one more receipt in the seat.
-    Memory(Arrival),
     /// The era is full.
     EraFull(Arrival),
 }
@@ -31,10 +29,17 @@ pub enum PoolError {
 /// Why an era was not ended. Nothing is changed.
 #[derive(Clone, Copy, Debug, PartialEq, Eq)]
 pub enum FinishError {
-    /// A seat of the pool is not given, or a record has no equal receipt in those that are.
+    /// A seat of the pool is not given.
     Missing,
-    /// There is no memory.
-    Memory,
+}
+
+/// How a full era comes to its end.
+#[derive(Clone, Copy, Debug, PartialEq, Eq)]
+pub enum EraEnd {
+    /// A caller ends it: until then no call is taken in.
+    ByCaller,
+    /// The next call that comes in begins the next era.
+    ByItself,
 }
 
 /// Why what came in was not admitted. It is handed back.

@@ -1,25 +1,27 @@
 //! The steps of a call.
 
-ghost use Rattle.std.specs.Prelude.{◌≡◌, ◌+◌, ◌^◌, ◌<◌, None, IfErr, IfOk, OnErr, OnOk};
+ghost use Rattle.std.specs.Prelude.{◌≡◌, ◌<◌, None, IfErr, IfOk, OnErr};
 ghost use Rattle.nfs_objects.specs.Values.{seen_at};
 ghost use Rattle.nfs_engine.specs.Apart.{GetsNumber};
 ghost use Rattle.nfs_engine.specs.Engine.{ArePlaces};
 ghost use Rattle.nfs_engine.specs.declared.release.Then.TheVariants as then;
-ghost use Rattle.nfs_stamps.specs.Marking.{AreNotes};
-ghost use Rattle.nfs_pool.specs.Steps.{AdmitsFrom, IsGivenUp, IsMadeAbove, LeadsThere, TakesAny};
+ghost use Rattle.nfs_history.specs.Marking.{AreNotes};
+ghost use Rattle.nfs_pool.specs.Seats.{Gains};
+ghost use Rattle.nfs_pool.specs.Steps.{AdmitsFrom, IsGivenUp, IsMade, LeadsThere, TakesAny};
 
 use crate::gate::Gate;
 use crate::noted::NotedTxn;
+use crate::seat::Seat;
 use crate::sent::{Unadmitted, Uncommitted};
 use nfs_engine::{
     Admission, Arrival, Finished, Got, Next, Pending, Receipt, Refused, Release, ReserveError,
     SHARDS,
 };
+use nfs_history::{Naming, Notes};
 use nfs_objects::{Addr, Mode};
-use nfs_stamps::{Naming, Notes};
 use std::alloc::{AllocError, Global};
 use std::sync::Wait;
-use std::sync::ledger::{Ledger, Share};
+use std::sync::ledger::Ledger;
 
 /// The steps of a call. A pool makes them in holds of its locks, and what is around a pool may count them. What a call
 /// reads is whatever stands there: only its commit tells whether that stands still.
@@ -78,30 +80,27 @@ pub trait Steps<L: Ledger + Naming> {
         requires { shard < SHARDS }
         ensures { GetsNumber txn.old txn.new result };
 
-    /// Makes what is done the state, and counts one more receipt, under a number above this one. The shards that are
-    /// written are free of the call then. Notes tell by which commits what it has read was put.
+    /// Makes what is done the state, as one more commit of this seat. The shards that are written are free of the call
+    /// then. Notes tell by which commits what it has read was put.
     ///
     /// # Errors
     ///
-    /// There is no memory or no number, or the call has to begin anew. It is handed back.
+    /// There is no memory or no number, or the call has to begin anew. It is handed back, and the seat is as it was.
     fn commit<R: Wait>(
         &self,
         rt: &R,
         alloc: Global,
-        mine: &mut Share<L>,
-        last: u64,
+        seat: &mut Seat<L>,
         finished: Finished,
         notes: &Notes<L>,
     ) -> Result<(Receipt, Release), Uncommitted>
-        requires parts { 0 < mine.old.parts }
         requires notes { AreNotes notes.now finished.done.view.entries }
-        ensures parts { mine.new.parts ≡ mine.old.parts }
-        ensures counted { OnOk result (mine.new.amount ≡ mine.old.amount + 2 ^ 64) }
-        ensures uncounted { OnErr result (mine.new.amount ≡ mine.old.amount) }
-        ensures receipt { IfOk result (λ r. IsMadeAbove last finished r.0) }
+        ensures gains { IfOk result (λ r. Gains seat.old seat.new r.0) }
+        ensures receipt { IfOk result (λ r. IsMade finished r.0) }
         ensures over { IfOk result (λ r. r.1.after ≡ then.Ended) }
         ensures free { IfOk result (λ r. ArePlaces finished.done.change.writes r.1.done) }
-        ensures back { IfErr result (λ u. u.finished ≡ finished) };
+        ensures back { IfErr result (λ u. u.finished ≡ finished) }
+        ensures same { OnErr result (seat.new ≡ seat.old) };
 
     /// Lets go, in one shard, what a call that left still holds there.
     fn release<R: Wait>(&self, rt: &R, release: Release) -> Next

@@ -1,51 +1,47 @@
-//! What dead files leave goes at the ends of eras, page by page.
+//! What dead files leave goes page by page, beside callers.
 
-ghost use Rattle.std.specs.Prelude.{◌≡◌, Option};
+ghost use Rattle.std.specs.Prelude.{◌≡◌, ◌<◌, IfSome, Option};
 ghost use Rattle.nfs_objects.specs.declared.address.Addr.{Addr};
 ghost use Rattle.nfs_objects.specs.declared.object.Object.{Object};
 ghost use Rattle.nfs_engine.specs.Sweeps.{swept_at};
-ghost use Rattle.nfs_stamps.specs.Marking.{AreMarks};
+ghost use Rattle.nfs_history.specs.Marking.{AreMarks};
+ghost use Rattle.nfs_pool.specs.Marked.{SweepsBoth};
 
 use crate::desk::Desk;
-use crate::locking::{LockedShard, lock_spinning};
+use crate::locking::lock_spinning;
+use crate::marked_shard::MarkedShard;
 use crate::pool::Pool;
-use nfs_engine::{Looked, SHARDS, SWEEP_LOOKS, SWEPT, Sweep, shard_index};
+use nfs_engine::{Looked, SHARDS, SWEPT, Sweep, shard_index};
+use nfs_history::{Marks, Naming, Stamp};
 use nfs_objects::{Addr, MAP_BLOCKS, Object};
-use nfs_stamps::{Marks, Naming, Stamp};
 use std::alloc::Global;
 use std::sync::ledger::Ledger;
 use std::sync::{Arc, Wait};
 
-/// How many objects go at most at the end of an era: eight map pages of 512 blocks. All callers wait meanwhile, for
-/// some milliseconds.
-pub(crate) const MOST_GONE: usize = 8 * SWEPT;
-
-/// How many map pages go then at most, where they have few blocks.
-const PAGES: usize = 64;
-
 impl<L: Ledger + Naming> Pool<L> {
-    /// Sweeps some pages of dead files. What stood there is handed out, to be let go where nobody waits for it. Where
-    /// there is no memory for it less is swept, or nothing.
-    pub(crate) fn sweep(&mut self, alloc: Global, gone: &mut Vec<Arc<Object>>) {
-        let Pool {
-            desk,
-            places,
-            count: _,
-            log: _,
-            key: _,
-        } = self;
-        let desk = desk.get_mut();
-        let mut pages: usize = 0;
-        for _look in 0..SWEEP_LOOKS {
-            if pages >= PAGES || gone.len() > MOST_GONE - SWEPT {
-                return;
-            }
-            match sweep_next(alloc, desk, places, gone) {
-                Looked::Swept => pages = pages.saturating_add(1),
-                Looked::Passed => {}
-                Looked::Ended => return,
-            }
+    /// Sweeps a page of the dead file that comes next, beside callers. What stood there is handed out, to be let go
+    /// with no lock held. It ends where there is no such file, where somebody holds it, or where there is no memory.
+    pub fn sweep<R: Wait>(&self, rt: &R, alloc: Global, gone: &mut Vec<Arc<Object>>) -> Looked {
+        let Some(index) = self.next_dead_shard(rt) else {
+            return Looked::Ended;
+        };
+        if gone.reserve(SWEPT).is_err() {
+            return Looked::Ended;
         }
+        let mut guard = lock_spinning(rt, &self.places[index].placed);
+        let placed = &mut *guard;
+        let mut guard = lock_spinning(rt, &self.desk);
+        let desk = &mut *guard;
+        sweep_in(alloc, desk, placed, index, gone)
+    }
+
+    /// In which shard the dead file stands that comes next.
+    fn next_dead_shard<R: Wait>(&self, rt: &R) -> Option<usize>
+        ensures { IfSome result (λ index. index < SHARDS) }
+    {
+        let guard = lock_spinning(rt, &self.desk);
+        let number = guard.next_dead()?;
+        Some(shard_index(Addr::Inode(number)))
     }
 
     /// Whether something of dead files may be left to be swept.
@@ -55,20 +51,25 @@ impl<L: Ledger + Naming> Pool<L> {
     }
 }
 
-/// Sweeps the last page of the file that is to be swept next, if it is dead.
-fn sweep_next<L: Ledger + Naming>(
+/// Sweeps the last page of the dead file that comes next, if it stands in the shard of this index: in the book and in
+/// the shard, or in none of them.
+fn sweep_in<L: Ledger + Naming>(
     alloc: Global,
     desk: &mut Desk<L>,
-    places: &mut [LockedShard<L>; SHARDS],
+    placed: &mut MarkedShard<L>,
+    index: usize,
     gone: &mut Vec<Arc<Object>>,
-) -> Looked {
+) -> Looked
+    ensures { SweepsBoth desk.old.book desk.new.book placed.old.shard placed.new.shard result }
+{
     let Some(number) = desk.next_dead() else {
         return Looked::Ended;
     };
+    if shard_index(Addr::Inode(number)) != index {
+        return Looked::Passed;
+    }
     match desk.sweep_of(alloc, number) {
         Ok(Some(sweep)) => {
-            let index = shard_index(Addr::Inode(number));
-            let placed = places[index].placed.get_mut();
             if !placed.sweep(&sweep, gone) {
                 return Looked::Ended;
             }

@@ -1,14 +1,13 @@
 -- The records of all eras lead on, at each step.
-use Rattle.std.proofs.Common.{◌≡◌, ℕ, List, [], ◌∷◌, ◌++◌, append-nil, append_assoc, map, Option, Some, None, sym, ◌∙◌}
+use Rattle.std.proofs.Common.{◌≡◌, ℕ, List, [], ◌∷◌, ◌++◌, append-nil, append_assoc, Option, Some, None, sym, ◌∙◌}
 use Rattle.std.proofs.Common.{ap, subst}
 use Rattle.nfs_machine.proofs.RunChainLemmas.{run-append}
 use Rattle.nfs_machine.specs.Run.{Record, Run, Setting}
 use Rattle.nfs_engine.proofs.CommitLeadsLemmas.{same_leads}
-use Rattle.nfs_engine.specs.Arrivals.{shared_value}
 use Rattle.nfs_engine.specs.Book.{BookValue, LeadsBook, TakesMessage}
 use Rattle.nfs_engine.specs.Engine.{EngineValue}
+use Rattle.nfs_engine.specs.Journal.{EraValue}
 use Rattle.nfs_engine.specs.declared.outbox.Posted.{Posted}
-use Rattle.nfs_engine.specs.declared.records.Era.{Era}
 use Rattle.nfs_schedule.specs.Turns.{Effect, KeepsBook, KeepsStore}
 use Rattle.nfs_schedule.specs.Worlds.{RunsOn, StopsWorker, TakesOldest, TakesTurn, TurnsEra, WorldValue, records_of}
 use Rattle.nfs_schedule.specs.declared.answer.Answer.{Answer}
@@ -23,7 +22,7 @@ pub runs_on : (old new : WorldValue) → LeadsOn old.engine new.engine → new.e
 runs_on old new on eras base r = record {
   began = r.began;
   before =
-      subst (λ (es : List Era). Run new.engine.book.setting base (records_of es) r.began) (sym eras)
+      subst (λ (es : List EraValue). Run new.engine.book.setting base (records_of es) r.began) (sym eras)
       (subst (λ (s : Setting). Run s base (records_of old.eras) r.began) (sym on.setting) r.before);
   present = on.leads r.began r.present;
 }
@@ -90,16 +89,16 @@ message_runs old new t = runs_on old new (message_leads old.engine new.engine t.
     (ap (λ (w : WorldValue). w.eras) t.rest)
 
 -- ---- eras
-pub records_joined : (eras : List Era) (era : Era) →
-    records_of (eras ++ era ∷ []) ≡ records_of eras ++ map shared_value era.records.items
-records_joined [] era = append-nil (map shared_value era.records.items)
+pub records_joined : (eras : List EraValue) (era : EraValue) →
+    records_of (eras ++ era ∷ []) ≡ records_of eras ++ era.records
+records_joined [] era = append-nil era.records
 records_joined (first ∷ eras) era =
-    ap (λ (l : List Record). map shared_value first.records.items ++ l) (records_joined eras era)
-    ∙ sym (append_assoc (map shared_value first.records.items) (records_of eras) (map shared_value era.records.items))
+    ap (λ (l : List Record). first.records ++ l) (records_joined eras era)
+    ∙ sym (append_assoc first.records (records_of eras) era.records)
 
-pub with_eras : (w : WorldValue) (engine : EngineValue) (eras more : List Era) → eras ≡ more →
+pub with_eras : (w : WorldValue) (engine : EngineValue) (eras more : List EraValue) → eras ≡ more →
     record w { engine = engine; eras = eras } ≡ record w { engine = engine; eras = more }
-with_eras w engine eras more same = ap (λ (es : List Era). record w { engine = engine; eras = es }) same
+with_eras w engine eras more same = ap (λ (es : List EraValue). record w { engine = engine; eras = es }) same
 
 pub era_runs : (old new : WorldValue) → TurnsEra old new → RunsOn old new
 era_runs old new t base r = record {

@@ -19,10 +19,10 @@ use Rattle.nfs_engine.specs.Asked.{IsAskedBy}
 use Rattle.nfs_engine.specs.Calls.{FinishedValue, IsCalled}
 use Rattle.nfs_engine.specs.Commits.{record_of}
 use Rattle.nfs_engine.specs.Engine.{EngineValue}
+use Rattle.nfs_engine.specs.Journal.{EraValue}
 use Rattle.nfs_engine.specs.Repeats.{Keeps, origin_of}
 use Rattle.nfs_engine.specs.declared.journal.Receipt.{Receipt}
 use Rattle.nfs_engine.specs.declared.outbox.Posted.{Posted}
-use Rattle.nfs_engine.specs.declared.records.Era.{Era}
 use Rattle.nfs_schedule.proofs.EraRunLemmas.{book_store, records_joined}
 use Rattle.nfs_schedule.specs.Accounts.{IsReplyTo, RepliesFollow, all_messages, all_records}
 use Rattle.nfs_schedule.specs.Accounts.{last_number, receipt_of, receipts_of, recorded}
@@ -228,7 +228,7 @@ pub world_adds : (old new : WorldValue) (given : List Answer) → new.eras ≡ o
     Adds (world_ledger old) (world_ledger new) given
 world_adds old new given eras taken adds = record {
   records =
-      ap (λ (l : List Era). records_of l ++ new.engine.book.records) eras
+      ap (λ (l : List EraValue). records_of l ++ new.engine.book.records) eras
       ∙ ap (λ l. records_of old.eras ++ l) adds.records
       ∙ sym (append_assoc (records_of old.eras) old.engine.book.records (map recorded (receipts_of given)));
   numbers = adds.numbers;
@@ -297,7 +297,7 @@ module _ (old new : WorldValue) (t : TakesOldest old new) where
       (ap (λ (b : BookValue). b.outbox) is.1) (ap (λ (b : BookValue). b.replies) is.1))
   moved (Some posted) is taken =
       adds_none (world_ledger old) (world_ledger new) [] refl
-      (ap (λ (l : List Era). records_of l ++ new.engine.book.records) eras_same
+      (ap (λ (l : List EraValue). records_of l ++ new.engine.book.records) eras_same
       ∙ ap (λ (b : BookValue). records_of old.eras ++ b.records) is.2)
       (ap (λ (b : BookValue). b.before + length b.records) is.2)
       (ap (λ (l : List Posted). map message_in l ++ new.engine.book.outbox) taken

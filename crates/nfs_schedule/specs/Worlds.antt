@@ -1,15 +1,15 @@
 -- The engine with its workers: what it keeps, and what its steps do.
-use Rattle.std.specs.Prelude.{◌≡◌, ℕ, ◌-◌, ◌%◌, List, [], ◌∷◌, ◌++◌, map, Option}
+use Rattle.std.specs.Prelude.{◌≡◌, ℕ, ◌-◌, ◌%◌, List, [], ◌∷◌, ◌++◌, Option}
 use Rattle.std.specs.Prelude.{Some, None, IsSome, option_to_list, slice_get, slice_set}
 use Rattle.nfs_machine.specs.Run.{Record, Run}
 use Rattle.nfs_machine.specs.State.{State}
 use Rattle.nfs_objects.specs.declared.address.Addr.{Addr}
-use Rattle.nfs_engine.specs.Arrivals.{ArrivalValue, shared_value}
+use Rattle.nfs_engine.specs.Arrivals.{ArrivalValue}
 use Rattle.nfs_engine.specs.Book.{LeadsFrom, Rebases, TakesEra, TakesMessage}
 use Rattle.nfs_engine.specs.Engine.{EngineValue, held_among}
+use Rattle.nfs_engine.specs.Journal.{EraValue}
 use Rattle.nfs_engine.specs.Running.{running_at}
 use Rattle.nfs_engine.specs.declared.outbox.Posted.{Posted}
-use Rattle.nfs_engine.specs.declared.records.Era.{Era}
 use Rattle.nfs_schedule.specs.Asking.{HasRead}
 use Rattle.nfs_schedule.specs.Grown.{IsGrown}
 use Rattle.nfs_schedule.specs.Stops.{IsStop}
@@ -25,7 +25,7 @@ pub record WorldValue : Type 0 where
   -- what came in and was not yet admitted, the oldest first
   pub queue : List ArrivalValue
   -- the eras that are over, the first one first
-  pub eras : List Era
+  pub eras : List EraValue
   -- the messages that were taken, the oldest first
   pub taken : List Posted
 
@@ -54,9 +54,9 @@ pub record IsKept (e : EngineValue) (workers : List Worker) : Type 0 where
   pub held : (a : Addr) (id : ℕ) → IsSome (held_among e.shards a id) → IsSomeones worker_id workers id
 
 -- the records of eras, one after the other
-abbrev pub records_of : List Era → List Record
+abbrev pub records_of : List EraValue → List Record
 records_of [] = []
-records_of (era ∷ eras) = map shared_value era.records.items ++ records_of eras
+records_of (era ∷ eras) = era.records ++ records_of eras
 
 -- The records of all eras lead from this state to one that the store stands for: those of the eras that are over to
 -- where the present one began, and its own from there.
@@ -100,7 +100,7 @@ pub record TakesOldest (old new : WorldValue) : Type 0 where
 
 -- the era is over, and the next one begins where its records led
 pub record TurnsEra (old new : WorldValue) : Type 0 where
-  pub era : Era
+  pub era : EraValue
   pub takes : TakesEra old.engine.book new.engine.book era
   pub rebases : Rebases old.engine.book new.engine.book
   pub rest : new ≡ record old { engine = new.engine; eras = old.eras ++ era ∷ [] }

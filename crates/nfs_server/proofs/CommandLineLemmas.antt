@@ -42,8 +42,7 @@ use Rattle.nfs_server.specs.declared.options.Options.{Options}
 use Rattle.nfs_server.specs.declared.options.Transport.{Transport}
 use Rattle.nfs_server.specs.declared.options.Transport.TheVariants.{Stdio, Network}
 use Rattle.nfs_server.specs.declared.exit.Exit.TheVariants.{Callback, CannotListen, CommandLine, Exports, Memory}
-use Rattle.nfs_server.specs.declared.exit.Exit.TheVariants.{NoDescriptors, NoRandomBytes, NoTransport, Receipts}
-use Rattle.nfs_server.specs.declared.exit.Exit.TheVariants.{StandardStream}
+use Rattle.nfs_server.specs.declared.exit.Exit.TheVariants.{NoDescriptors, NoRandomBytes, NoTransport, StandardStream}
 
 nfsd_is_simple : is_simple nfsd ≡ true
 unfolding nfsd clap_on_literals
@@ -165,7 +164,6 @@ refuses_limit limit rows value (Callback number) names other refused = absurd re
 refuses_limit limit rows value NoDescriptors names other refused = absurd refused
 refuses_limit limit rows value NoRandomBytes names other refused = absurd refused
 refuses_limit limit rows value StandardStream names other refused = absurd refused
-refuses_limit limit rows value Receipts names other refused = absurd refused
 refuses_limit limit rows value (CannotListen text) names other refused = absurd refused
 
 -- a value that is refused refuses its words
@@ -182,7 +180,6 @@ refused_host words m (Callback number) parsed refused = absurd refused
 refused_host words m NoDescriptors parsed refused = absurd refused
 refused_host words m NoRandomBytes parsed refused = absurd refused
 refused_host words m StandardStream parsed refused = absurd refused
-refused_host words m Receipts parsed refused = absurd refused
 refused_host words m (CannotListen text) parsed refused = absurd refused
 
 pub refused_limit : (words : List Text) (m : ArgMatches) (exit : Exit) → IsParsedFrom words m
@@ -198,7 +195,6 @@ refused_limit words m (Callback number) parsed refused = absurd refused
 refused_limit words m NoDescriptors parsed refused = absurd refused
 refused_limit words m NoRandomBytes parsed refused = absurd refused
 refused_limit words m StandardStream parsed refused = absurd refused
-refused_limit words m Receipts parsed refused = absurd refused
 refused_limit words m (CannotListen text) parsed refused = absurd refused
 
 -- and so does a transport; where none is named the words are taken
@@ -219,7 +215,6 @@ refused_transport words m host limits (Callback number) parsed is its refused = 
 refused_transport words m host limits NoDescriptors parsed is its refused = absurd refused
 refused_transport words m host limits NoRandomBytes parsed is its refused = absurd refused
 refused_transport words m host limits StandardStream parsed is its refused = absurd refused
-refused_transport words m host limits Receipts parsed is its refused = absurd refused
 refused_transport words m host limits (CannotListen text) parsed is its refused = absurd refused
 
 -- a transport that is read is the only one
@@ -287,7 +282,6 @@ refuses_options words m limits transport NoTransport parsed is_taken reads refus
 refuses_options words m limits transport NoDescriptors parsed is_taken reads refused = absurd refused
 refuses_options words m limits transport NoRandomBytes parsed is_taken reads refused = absurd refused
 refuses_options words m limits transport StandardStream parsed is_taken reads refused = absurd refused
-refuses_options words m limits transport Receipts parsed is_taken reads refused = absurd refused
 refuses_options words m limits transport (CannotListen text) parsed is_taken reads refused = absurd refused
 
 -- the texts of the callbacks that are read are those of the rows
@@ -332,5 +326,4 @@ refuses_host rows (Callback number) other refused = absurd refused
 refuses_host rows NoDescriptors other refused = absurd refused
 refuses_host rows NoRandomBytes other refused = absurd refused
 refuses_host rows StandardStream other refused = absurd refused
-refuses_host rows Receipts other refused = absurd refused
 refuses_host rows (CannotListen text) other refused = absurd refused

@@ -97,7 +97,7 @@ const ACCEPT_HELP: &str = "End after so many connections have come and ended [de
 const STATS_HELP: &str =
     "Tell the counts on standard error every so many seconds, and at the end [default: 0, never]";
 
-const ERA_HELP: &str = "Keep so many records at most, 1 to 65536 [default: 65536]";
+const ERA_HELP: &str = "Begin a new era after so many calls at most, 1 to 65536 [default: 65536]";
 
 const CACHE_HELP: &str = "Keep so many replies of each host at most, 1 to 65536 [default: 1024]";
 

@@ -40,9 +40,6 @@ pub enum Exit {
     /// Standard input or output failed, or a record was too large.
     #[error("nfsd: standard stream failed")]
     StandardStream,
-    /// A record has no receipt that is equal to it, or some receipts are missing.
-    #[error("nfsd: a record without its receipt")]
-    Receipts,
 }
 
 impl Exit {
@@ -75,8 +72,7 @@ impl Exit {
             | Exit::Memory
             | Exit::NoDescriptors
             | Exit::NoRandomBytes
-            | Exit::StandardStream
-            | Exit::Receipts => 1,
+            | Exit::StandardStream => 1,
         }
     }
 

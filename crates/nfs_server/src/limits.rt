@@ -6,7 +6,7 @@ ghost use Rattle.nfs_server.specs.Limits.{default_of, most_of, name_of};
 /// An option that gives a number from 1 on.
 #[derive(Clone, Copy)]
 pub enum Limit {
-    /// At how many records an era is full.
+    /// After how many calls an era is over at the latest.
     Era,
     /// How many replies are kept of each host.
     Cache,
@@ -56,7 +56,7 @@ impl Limit {
 /// The numbers that a command line gives.
 #[derive(Clone, Copy, Drop)]
 pub struct ServerLimits {
-    /// At how many records an era is full.
+    /// After how many calls an era is over at the latest.
     pub era_records: u64,
     /// How many replies are kept of each host.
     pub capacity: u64,

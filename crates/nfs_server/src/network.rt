@@ -1,7 +1,8 @@
 //! Serving on the network: connections over TCP and datagrams over UDP, by threads over one pool.
 //!
-//! The thread that read a connection's bytes answers their records itself, on a permit that it takes for them, and the
-//! answers leave together. Workers answer datagrams. `docs/ARCHITECTURE.md` tells of the threads.
+//! The thread that read a connection's bytes answers their records itself, on a seat of the pool that it has, and the
+//! answers leave together. Workers answer datagrams. The thread that began to serve sweeps what removed files left, until
+//! the program is to end. `docs/ARCHITECTURE.md` tells of the threads.
 
 mod account;
 mod connection_count;
@@ -17,14 +18,16 @@ mod mailbox;
 mod messages;
 mod operating;
 mod peer;
-mod permits;
 mod presence;
 mod queue;
 mod reading;
 mod reporting;
+mod seats;
 mod sending;
+mod service;
 mod sharing;
 mod sorting;
+mod sweeping;
 mod tally;
 mod wakeup;
 
@@ -39,45 +42,43 @@ use crate::exit::Exit;
 use crate::network::connection_count::ConnectionCount;
 pub use crate::network::counters::{CountedEvent, Counters, Gauge};
 use crate::network::descriptors::places;
-use crate::network::drain::Drain;
+use crate::network::dispatcher::Dispatcher;
 use crate::network::failures::Failures;
 use crate::network::jobs::{JOBS, Job};
 pub use crate::network::listening::Sockets;
-use crate::network::listening::{DATAGRAM_SIZE, Service, let_in, take_datagrams};
+use crate::network::listening::{DATAGRAM_SIZE, let_in, take_datagrams};
 use crate::network::mailbox::Mailbox;
 pub use crate::network::operating::{Nobody, Operator};
-use crate::network::permits::{EraThread, Gathering, KeptReplies, Permits, hand_out};
 use crate::network::reporting::Reporter;
 pub(crate) use crate::network::reporting::tell;
 use crate::network::sending::CallbackThread;
+use crate::network::service::Service;
 use crate::network::sorting::Sorter;
+use crate::network::tally::KeptReplies;
 pub use crate::network::tally::Tally;
 use crate::options::{Network, Options, Transport};
 use crate::runtime::{NetworkRuntime, Runtime};
 use crate::started::{Setup, config_of, open};
-use crossbeam_channel::{Receiver, bounded};
+use crossbeam_channel::{Receiver, Sender, bounded};
 use nfs_engine::{Config, Engine};
 use nfs_machine::{Exports, Moment, Moments};
-use nfs_pool::{EraRoom, Naming, Opened, Pool, Seat};
+use nfs_pool::{EraEnd, History, Naming, Pool};
 use std::alloc::{AllocError, Global};
 use std::marker::Brand;
 use std::net::{TcpListener, UdpSocket};
+use std::sync::Arc;
 use std::sync::ledger::{Blank, Ledger};
-use std::sync::{Arc, Wait};
 use std::thread;
 use std::time::Instant;
-
-/// For how many connections there are permits beside those of the workers; more connections share them.
-const OWN_PERMITS: u64 = 64;
 
 /// What a pool is made of.
 struct PoolParts {
     blank: Blank,
-    opened: Opened,
+    history: History,
     engine: Engine,
     /// How many seats it has.
     count: usize,
-    /// How many replies are kept of each host, where somebody is told of them.
+    /// What the replies that are kept are counted by, where somebody is told of them.
     kept: Option<KeptReplies>,
 }
 
@@ -99,12 +100,11 @@ struct ServiceParts<O> {
 }
 
 /// Serves on the network as the options say: until so many connections have come and ended, or for ever. Where they ask
-/// for it, the runtime is the operator. Each era is compared when it is over, the last one too.
+/// for it, the runtime is the operator.
 ///
 /// # Errors
 ///
-/// `CannotListen`; `Memory` where there is none to begin; `NoTransport` where the options name no address; `Receipts`
-/// where a record has no receipt, or a permit does not come to the end of its era within an hour.
+/// `CannotListen`; `Memory` where there is none to begin; `NoTransport` where the options name no address.
 pub fn serve_network<R: NetworkRuntime + Operator>(rt: R, options: Options) -> Result<(), Exit>
     requires { AreWithin options }
 {
@@ -181,15 +181,13 @@ fn serve_from<R: NetworkRuntime, O: Operator + Drop + Send + 'static>(
 ) -> Result<(), Exit>
     requires capacity { IsLimit config.capacity }
     requires era { IsLimit config.era_records }
-    requires workers { service.network.workers ≤ 64 }
 {
-    let network = &service.network;
-    let count = network.workers + network.connections.min(OWN_PERMITS);
-    let kept = kept_told(network, &config);
+    let count = callers(&service.network, &service.callbacks);
+    let kept = kept_told(rt.alloc(), &service.network, &config);
     let engine = open(rt.alloc(), config)?;
     let pool = PoolParts {
         blank: Blank::new(count),
-        opened: Opened::new(),
+        history: History::new(),
         engine,
         count: count as usize,
         kept,
@@ -197,50 +195,65 @@ fn serve_from<R: NetworkRuntime, O: Operator + Drop + Send + 'static>(
     serve_pool::<Brand, R, O>(rt, pool, service)
 }
 
+/// How many may call at once: each connection, each worker, who sends the messages to each host that is called back,
+/// and the operator.
+fn callers(network: &Network, callbacks: &Callbacks) -> u64 {
+    network
+        .connections
+        .saturating_add(network.workers)
+        .saturating_add(callbacks.list.len() as u64)
+        .saturating_add(network.control as u64)
+}
+
 /// What the replies that are kept are counted by, where somebody is told of them.
-fn kept_told(network: &Network, config: &Config) -> Option<KeptReplies> {
+fn kept_told(alloc: Global, network: &Network, config: &Config) -> Option<KeptReplies> {
     if network.stats == 0 {
         return None;
     }
-    Some(KeptReplies {
-        capacity: config.capacity as usize,
-        key: config.limits.name_key,
-    })
+    Some(KeptReplies::new(alloc, config.capacity as usize, &config.limits.name_key))
 }
 
-/// Serves with a pool. Threads of their own serve those who come; this one ends eras.
+/// Serves with a pool. Threads of their own serve those who come; this one sweeps, until the program is to end.
 fn serve_pool<
     L: Ledger + Naming + Send + Sync + 'static,
     R: NetworkRuntime,
     O: Operator + Drop + Send + 'static,
->(rt: R, pool: PoolParts, service: ServiceParts<O>) -> Result<(), Exit>
-    requires name { pool.blank.name ≡ L.name }
-    requires parts { pool.blank.parts ≡ L.parts }
-    requires count { pool.blank.parts ≡ pool.count }
-    requires log { pool.opened.seen.book ≡ L.book }
-    requires records { pool.engine.book.records ≡ [] }
+>(rt: R, parts: PoolParts, service: ServiceParts<O>) -> Result<(), Exit>
+    requires name { parts.blank.name ≡ L.name }
+    requires parts { parts.blank.parts ≡ L.parts }
+    requires count { parts.blank.parts ≡ parts.count }
+    requires history { (parts.history.book ≡ L.book) × (parts.history.log ≡ []) }
+    requires records { parts.engine.book.records ≡ [] }
 {
     let alloc = rt.alloc();
     let PoolParts {
         blank,
-        opened,
+        history,
         engine,
         count,
         kept,
-    } = pool;
-    let Ok((pool, seats)) = Pool::<L>::new(alloc, blank, opened, engine, count) else {
+    } = parts;
+    let Ok((pool, seats)) = Pool::<L>::new(alloc, blank, history, engine, count, EraEnd::ByItself)
+    else {
         return Err(Exit::Memory);
     };
-    let (permits, era_thread, seats, room) = open_permits(
-        &rt, alloc, pool, seats, count, kept, &service,
+    let shared = Service::new(
+        alloc,
+        pool,
+        seats,
+        Arc::try_clone(&service.counters)?,
+        kept,
+        service.clock,
+        service.begin,
     )?;
+    shared.tell_levels(&rt);
     let stats = service.network.stats;
-    start_service(rt, alloc, permits, service)?;
-    let ended = era_thread.work(&rt, alloc, seats, room);
+    start_service(rt, alloc, &shared, service)?;
+    shared.sweep_to_end(&rt, alloc);
     if stats > 0 {
-        tell(&rt, alloc, &era_thread.counters);
+        tell(&rt, alloc, &shared.counters);
     }
-    ended
+    Ok(())
 }
 
 /// Starts the threads that serve those who come, and those beside them.
@@ -248,25 +261,23 @@ fn start_service<
     L: Ledger + Naming + Send + Sync + 'static,
     R: NetworkRuntime,
     O: Operator + Drop + Send + 'static,
->(rt: R, alloc: Global, permits: Permits<L>, parts: ServiceParts<O>) -> Result<(), Exit> {
+>(rt: R, alloc: Global, service: &Arc<Service<L>>, parts: ServiceParts<O>) -> Result<(), Exit> {
     let ServiceParts {
         sockets,
         network,
         counters,
-        clock,
-        begin,
+        clock: _,
+        begin: _,
         callbacks,
         exports,
         operator,
     } = parts;
-    let (jobs, queue) = bounded(alloc, JOBS)?;
-    let service = Service::new(alloc, permits, jobs, counters, clock, begin)?;
-    let network = within_descriptors(&rt, alloc, &sockets, network, &service.counters)?;
-    start_reporter(rt, alloc, &service.counters, network.stats)?;
-    start_workers(rt, alloc, &service, queue, network.workers)?;
-    start_senders(rt, alloc, &service, callbacks)?;
+    let network = within_descriptors(&rt, alloc, &sockets, network, &counters)?;
+    start_reporter(rt, alloc, &counters, network.stats)?;
+    drop(counters);
+    start_senders(rt, alloc, service, callbacks)?;
     if network.control {
-        start_operator(rt, alloc, &service, exports, operator)?;
+        start_operator(rt, alloc, service, exports, operator)?;
     }
     attend(rt, alloc, sockets, network, service)
 }
@@ -295,38 +306,6 @@ fn within_descriptors<R: Eprint>(
     Ok(network)
 }
 
-/// A permit for each seat, and what ends eras, with room for all seats and to end an era in.
-fn open_permits<L: Ledger + Naming, R: Wait, O>(
-    rt: &R,
-    alloc: Global,
-    pool: Pool<L>,
-    seats: Vec<Seat<L>>,
-    count: usize,
-    kept: Option<KeptReplies>,
-    service: &ServiceParts<O>,
-) -> Result<(Permits<L>, EraThread<L>, Vec<Seat<L>>, EraRoom), AllocError> {
-    let (back, free) = bounded(alloc, count)?;
-    let (full, filled) = bounded(alloc, count)?;
-    let room = EraRoom::new(alloc, count)?;
-    service.counters.set(Gauge::Objects, pool.objects(rt));
-    let pool = Arc::new(alloc, pool)?;
-    let seats = hand_out(rt, &back, pool, seats, 0, false);
-    let gathering = Arc::new(alloc, Gathering::new())?;
-    let era_thread = EraThread {
-        free: free.clone()?,
-        back: back.clone()?,
-        full: filled,
-        count,
-        gathering: Arc::try_clone(&gathering)?,
-        patience: service.network.patience.permit,
-        counters: Arc::try_clone(&service.counters)?,
-        kept,
-    };
-    let drain = Arc::new(alloc, Drain::new())?;
-    let permits = Permits::new(free, back, full, gathering, drain);
-    Ok((permits, era_thread, seats, room))
-}
-
 /// Starts the thread that says how the server is.
 pub(crate) fn start_reporter<R: Runtime + Eprint>(
     rt: R,
@@ -346,12 +325,12 @@ pub(crate) fn start_reporter<R: Runtime + Eprint>(
 fn start_workers<L: Ledger + Naming + Send + Sync + 'static, R: Runtime>(
     rt: R,
     alloc: Global,
-    service: &Service<L>,
+    service: &Arc<Service<L>>,
     queue: Receiver<Job>,
     count: u64,
 ) -> Result<(), AllocError> {
     for _ in 0..count {
-        let mut dispatcher = service.dispatcher(rt)?;
+        let mut dispatcher = Dispatcher::new(&rt, service, rt)?;
         let jobs = queue.clone()?;
         thread::spawn(&rt, move || dispatcher.work(&rt, alloc, &jobs))?;
     }
@@ -362,7 +341,7 @@ fn start_workers<L: Ledger + Naming + Send + Sync + 'static, R: Runtime>(
 fn start_senders<L: Ledger + Naming + Send + Sync + 'static, R: NetworkRuntime>(
     rt: R,
     alloc: Global,
-    service: &Service<L>,
+    service: &Arc<Service<L>>,
     callbacks: Callbacks,
 ) -> Result<(), AllocError> {
     let count = callbacks.list.len();
@@ -374,7 +353,7 @@ fn start_senders<L: Ledger + Naming + Send + Sync + 'static, R: NetworkRuntime>(
         mailboxes.push(mailbox)?;
     }
     let sorter = Sorter {
-        dispatcher: service.dispatcher(rt)?,
+        service: Arc::try_clone(service)?,
         callbacks,
         mailboxes,
     };
@@ -386,12 +365,12 @@ fn start_senders<L: Ledger + Naming + Send + Sync + 'static, R: NetworkRuntime>(
 fn start_sender<L: Ledger + Naming + Send + Sync + 'static, R: NetworkRuntime>(
     rt: R,
     alloc: Global,
-    service: &Service<L>,
+    service: &Arc<Service<L>>,
     callbacks: &Arc<Callbacks>,
     mailbox: &Arc<Mailbox>,
 ) -> Result<(), AllocError> {
     let mut sender = CallbackThread {
-        dispatcher: service.dispatcher(rt)?,
+        dispatcher: Dispatcher::new(&rt, service, rt)?,
         callbacks: Arc::try_clone(callbacks)?,
         mailbox: Arc::try_clone(mailbox)?,
         failures: Failures::new(alloc, 1)?,
@@ -409,18 +388,17 @@ fn start_operator<
 >(
     rt: R,
     alloc: Global,
-    service: &Service<L>,
+    service: &Arc<Service<L>>,
     exports: Exports,
     operator: O,
 ) -> Result<(), AllocError> {
-    let mut dispatcher = service.dispatcher(rt)?;
-    let permits = service.permits.share()?;
+    let mut dispatcher = Dispatcher::new(&rt, service, rt)?;
     thread::spawn(&rt, move || {
         let ended = operator.listen(alloc, exports, |exports| {
             dispatcher.replace(&rt, alloc, exports)
         });
         if let ControlEnd::Asked = ended {
-            permits.end(&rt);
+            dispatcher.service.drain_and_end(&rt);
         }
     })?;
     Ok(())
@@ -432,14 +410,16 @@ fn attend<L: Ledger + Naming + Send + Sync + 'static, R: Runtime>(
     alloc: Global,
     sockets: Sockets,
     network: Network,
-    service: Service<L>,
+    service: &Arc<Service<L>>,
 ) -> Result<(), Exit> {
     let Sockets { tcp, udp } = sockets;
     if tcp.is_none() && udp.is_none() {
         return Err(Exit::NoTransport);
     }
     if let Some(socket) = udp {
-        start_datagrams(rt, alloc, socket, service.share()?)?;
+        let (jobs, queue) = bounded(alloc, JOBS)?;
+        start_workers(rt, alloc, service, queue, network.workers)?;
+        start_datagrams(rt, alloc, socket, jobs, &service.counters)?;
     }
     if let Some(listener) = tcp {
         start_connections(rt, alloc, listener, network, service)?;
@@ -447,38 +427,41 @@ fn attend<L: Ledger + Naming + Send + Sync + 'static, R: Runtime>(
     Ok(())
 }
 
-/// Starts the thread that lets connections in, until so many have come. When these have ended the last era ends.
+/// Starts the thread that lets connections in, until so many have come. When these have ended nobody calls any more.
 fn start_connections<L: Ledger + Naming + Send + Sync + 'static, R: Runtime>(
     rt: R,
     alloc: Global,
     listener: TcpListener,
     network: Network,
-    service: Service<L>,
+    service: &Arc<Service<L>>,
 ) -> Result<(), AllocError> {
     let Ok(begin) = Instant::now(&rt) else {
         return Err(AllocError);
     };
     let places = network.connections as usize;
     let connection_count = Arc::new(alloc, ConnectionCount::new(alloc, places, begin)?)?;
+    let service = Arc::try_clone(service)?;
     thread::spawn(&rt, move || {
         let_in(&rt, alloc, &listener, &network, &service, &connection_count);
         connection_count.wait(&rt);
-        service.permits.finish(&rt);
+        service.end.give(&rt);
     })?;
     Ok(())
 }
 
 /// Starts the thread that takes datagrams.
-fn start_datagrams<L: Ledger + Naming + Send + Sync + 'static, R: Runtime>(
+fn start_datagrams<R: Runtime>(
     rt: R,
     alloc: Global,
     socket: UdpSocket,
-    service: Service<L>,
+    jobs: Sender<Job>,
+    counters: &Arc<Counters>,
 ) -> Result<(), AllocError> {
     let socket = Arc::new(alloc, socket)?;
+    let counters = Arc::try_clone(counters)?;
     let buffer = Vec::from_elem(alloc, 0u8, DATAGRAM_SIZE)?;
     thread::spawn(&rt, move || {
-        take_datagrams(&rt, alloc, &socket, buffer, &service);
+        take_datagrams(&rt, alloc, &socket, buffer, &jobs, &counters);
     })?;
     Ok(())
 }

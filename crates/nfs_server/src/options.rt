@@ -20,7 +20,7 @@ pub struct Options {
     pub bytes: u64,
     /// Names of directories are placed by it. No option of the command line gives it: `serve` takes random bytes.
     pub name_key: NameKey,
-    /// At how many records an era is full, from 1 to 65,536.
+    /// After how many calls an era is over at the latest, from 1 to 65,536.
     pub era_records: u64,
     /// How many replies are kept of each host, from 1 to 65,536.
     pub capacity: u64,

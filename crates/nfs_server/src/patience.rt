@@ -1,4 +1,4 @@
-//! How long a peer is waited for, and a permit.
+//! How long a peer is waited for.
 
 ghost use Rattle.std.specs.Prelude.{◌≡◌, ◌-◌, ◌||◌, if◌then◌else◌};
 ghost use Rattle.std.specs.Duration.{as_nanos};
@@ -9,7 +9,7 @@ ghost use Rattle.nfs_server.specs.Waits.{begins_anew, is_idle, left_of, limit_of
 use crate::marks::Stage;
 use std::time::{Duration, Instant};
 
-/// How long peers are waited for, and permits, in seconds.
+/// How long peers are waited for, in seconds.
 #[derive(Clone, Copy, Drop)]
 pub struct Patience {
     /// For the first record over a connection, from its begin on, and for the rest of one that has begun.
@@ -18,9 +18,6 @@ pub struct Patience {
     pub idle: u64,
     /// For a peer to take answers that are sent together.
     pub answers: u64,
-    /// For each of the permits that are gathered when an era ends: one that does not come was lost. A process that was
-    /// stopped, for however long, goes on within one of these seconds.
-    pub permit: u64,
 }
 
 impl Patience {
@@ -29,7 +26,6 @@ impl Patience {
         record: 30,
         idle: 600,
         answers: 30,
-        permit: 3_600,
     };
 }
 

@@ -23,6 +23,7 @@ use Rattle.nfs_engine.specs.Asked.{IsAsked}
 use Rattle.nfs_engine.specs.Book.{BookValue, Repeats, StandsFor, TakesEra, store_in}
 use Rattle.nfs_engine.specs.Commits.{record_of}
 use Rattle.nfs_engine.specs.Engine.{EngineValue, held_among}
+use Rattle.nfs_engine.specs.Journal.{EraValue}
 use Rattle.nfs_engine.specs.Repeats.{Keeps, RepeatValue, kept_for, origin_in, origin_of}
 use Rattle.nfs_engine.specs.Running.{running_at}
 use Rattle.nfs_engine.specs.Tables.{KeptValue, store_of}
@@ -31,7 +32,6 @@ use Rattle.nfs_engine.specs.declared.arrival.Reading.{Reading}
 use Rattle.nfs_engine.specs.declared.arrival.Reading.TheVariants as readings
 use Rattle.nfs_engine.specs.declared.asking.Asked.{Asked}
 use Rattle.nfs_engine.specs.declared.journal.Receipt.{Receipt}
-use Rattle.nfs_engine.specs.declared.records.Era.{Era}
 use Rattle.nfs_schedule.specs.Executions.{Answers, Executed}
 use Rattle.nfs_schedule.specs.Answers.{reply_bytes}
 use Rattle.nfs_streams.proofs.EraLimitLemmas.{keeps_join, keeps_one, keeps_records, keeps_same}
@@ -70,7 +70,7 @@ nothing_join e f g a b = record {
 }
 
 -- an era ends
-module _ (e f : EngineValue) (era : Era) (takes : TakesEra e.book f.book era) (shards : f.shards ≡ e.shards) where
+module _ (e f : EngineValue) (era : EraValue) (takes : TakesEra e.book f.book era) (shards : f.shards ≡ e.shards) where
   pub era_rests : IsAtRest e → IsAtRest f
   era_rests rest = record {
     running = λ k. ap (λ (b : BookValue). running_at b.living k) takes.rest ∙ rest.running k;

@@ -40,14 +40,14 @@ pub fn answer_record<C: Moments>(
         (HasNoAnswer C.gives (message ∷ []) clock.old clock.new engine.old engine.new) }
 {
     let moment = clock.moment();
-    begin_era(alloc, engine);
+    begin_era(engine);
     let answered = answer(alloc, engine, host, message, moment)?;
     clear_dead(alloc, engine);
     Ok(answered)
 }
 
-/// Begins a new era where the present one is full. What was recorded in that one is dropped.
-fn begin_era(alloc: Global, engine: &mut Engine)
+/// Begins a new era where the present one is full.
+fn begin_era(engine: &mut Engine)
     requires rest { IsAtRest engine.old }
     ensures rest { IsAtRest engine.new }
     ensures nothing { ExecutesNothing engine.old engine.new }
@@ -55,7 +55,7 @@ fn begin_era(alloc: Global, engine: &mut Engine)
     ensures stays { is_full engine.old.book ≡ false → engine.new ≡ engine.old }
 {
     if engine.era_is_full() {
-        drop(engine.new_era(alloc));
+        drop(engine.new_era());
     }
 }
 

@@ -139,9 +139,8 @@ fn nothing_was_executed(rt: HostRuntime) -> Result<(), Fail> {
 fn an_era_with_no_record_is_not_full(rt: HostRuntime) -> Result<(), Fail> {
     let mut engine = started(rt.alloc(), 1, 1)?;
     assert!(rt; !engine.era_is_full());
-    let era = engine.new_era(rt.alloc());
-    assert_eq!(rt; era.before, 0);
-    assert!(rt; era.records.is_empty());
+    let era = engine.new_era();
+    assert_eq!(rt; (era.before(), era.count()), (0, 0));
     assert!(rt; !engine.era_is_full());
     close(&rt, engine);
     Ok(())

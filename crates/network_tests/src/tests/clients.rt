@@ -8,8 +8,8 @@ use crate::tests::hosts::{are_called_back, is_passed_over, is_told_beside};
 use crate::tests::left::are_done;
 use crate::tests::one_way::are_not_waited_for;
 use crate::tests::operators::{Wish, is_operated};
-use crate::tests::remains::all_go;
-use crate::tests::waits::{are_closed, are_given_up};
+use crate::tests::remains::{Left, all_go};
+use crate::tests::waits::{are_closed, are_given_up, are_served_in_turn};
 use crate::tests::{descriptors, long};
 use nfs_server::{Counters, SystemNet};
 use std::alloc::{AllocError, Global};
@@ -60,8 +60,8 @@ pub(super) enum Visit {
     Datagrams(&'static str, &'static [Exchange]),
     /// A WRITE and a READ of 8 KiB by datagrams.
     Long,
-    /// A file that is written and removed, where these counts tell of the objects that stand.
-    Remains(Arc<Counters>),
+    /// A file that is written and then left so, where these counts tell of the objects that stand.
+    Remains(Arc<Counters>, Left),
     /// A connection that is closed when the answer to this call has come and is not read; and one over which the call
     /// is sent twice again, and then this exchange.
     Lost(&'static [u32], Exchange),
@@ -76,6 +76,8 @@ pub(super) enum Visit {
     Slow(Exchange),
     /// Three connections, one after the other, that can't be served.
     Unserved,
+    /// This exchange over connections that come one after the other.
+    InTurn(Exchange),
     /// A lock that is given back while another caller waits for it; that one is called back here, and answers with this
     /// status.
     Called(TcpListener, u32),
@@ -114,13 +116,14 @@ impl Visit {
             Visit::Exhausted(exchange) => descriptors::are_let_in(rt, tcp, exchange),
             Visit::Datagrams(from, exchanges) => exchange_datagrams(rt, tcp, udp, from, exchanges),
             Visit::Long => long::are_answered(rt, tcp, udp),
-            Visit::Remains(counters) => all_go(rt, tcp, &counters),
+            Visit::Remains(counters, left) => all_go(rt, tcp, &counters, left),
             Visit::Lost(call, then) => lose(rt, tcp, call, then),
             Visit::Refused(exchange) => open_beside(rt, tcp, exchange, &[], false),
             Visit::Closed(exchange, words) => open_beside(rt, tcp, exchange, words, false),
             Visit::Ended(exchange, words) => open_beside(rt, tcp, exchange, words, true),
             Visit::Slow(exchange) => are_given_up(rt, tcp, exchange),
             Visit::Unserved => are_closed(rt, tcp),
+            Visit::InTurn(exchange) => are_served_in_turn(rt, tcp, exchange),
             Visit::Called(listener, status) => is_called_back(rt, tcp, &listener, status),
             Visit::Hosts(second, third) => are_called_back(rt, tcp, udp, &second, &third),
             Visit::PassedOver(second, third) => is_passed_over(rt, tcp, udp, second, &third),

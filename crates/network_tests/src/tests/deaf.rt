@@ -52,7 +52,6 @@ const HASTE: Patience = Patience {
     record: 30,
     idle: 600,
     answers: 1,
-    permit: 3_600,
 };
 
 /// One of two peers is given up.

@@ -16,6 +16,7 @@ use std::alloc::Global;
 use std::io::{Read, Write};
 use std::net::{Net, Shutdown, SocketAddr, TcpListener, TcpStream};
 use std::process::Abort;
+use std::sync::Arc;
 use std::test::Fail;
 use std::{io, thread};
 
@@ -68,12 +69,12 @@ const LISTED: Exchange = (
 /// What is answered once `/new` is in the place of `/data`.
 const REPLACED: [Exchange; 4] = [GONE, NOT_MOUNTED, MOUNTED, LISTED];
 
-const LINES: &[u8] = b"add /new,rw,*\nlist\napply\n";
+pub(super) const LINES: &[u8] = b"add /new,rw,*\nlist\napply\n";
 
-const ANSWERS: &[u8] = b"unknown command\napplied\n";
+pub(super) const ANSWERS: &[u8] = b"unknown command\napplied\n";
 
 /// Whether lines are answered so.
-fn are_answered(
+pub(super) fn are_answered(
     alloc: Global,
     operator: &TcpStream,
     lines: &[u8],
@@ -137,12 +138,10 @@ fn serve_operator<R: NetworkRuntime>(
     options: Options,
     sockets: Sockets,
     listener: &TcpListener,
+    counters: Arc<Counters>,
 ) -> bool
     requires { AreWithin options }
 {
-    let Ok(counters) = Counters::new(rt.alloc()) else {
-        return false;
-    };
     match listener.accept() {
         Ok((stream, _)) => {
             let ended = serve_operated(rt, options, sockets, counters, Caller { stream });
@@ -160,32 +159,34 @@ fn serve_beside<R: NetworkRuntime>(
     options: Options,
     sockets: Sockets,
     listener: &TcpListener,
-    operator: SocketAddr,
-    wish: Wish,
+    visit: Visit,
+    counters: Arc<Counters>,
 ) -> bool
     requires { AreWithin options }
 {
     let tcp = sockets.tcp_address();
-    let visit = Visit::Operated(operator, wish);
     let client = thread::spawn(&rt, move || visit.is_well(&rt, tcp, None));
-    let is_well = serve_operator(rt, options, sockets, listener);
+    let is_well = serve_operator(rt, options, sockets, listener, counters);
     match client {
         Ok(client) => client.join(&rt) && is_well,
         Err(_) => false,
     }
 }
 
-/// Whether a client is served on sockets of the system's choice, and an operator's lines are answered.
-fn is_served<R: Runtime + AllocGlobal + Eprint + Net<Listener = TcpListener, Stream = TcpStream>>(
+/// Whether a client is served on sockets of the system's choice, and the lines of the operator who comes to this
+/// listener are answered. What happens is counted here.
+pub(super) fn is_served<
+    R: Runtime + AllocGlobal + Eprint + Net<Listener = TcpListener, Stream = TcpStream>,
+>(
     rt: R,
     words: &[&str],
-    wish: Wish,
+    listener: &TcpListener,
+    visit: Visit,
+    counters: Arc<Counters>,
 ) -> Result<bool, Fail> {
-    let listener = TcpListener::bind(&rt, "127.0.0.1:0")?;
-    let operator = listener.local_addr()?;
     let options = options(rt.alloc(), words)?;
     match Sockets::bind(&rt, rt.alloc(), &options) {
-        Ok(sockets) => Ok(serve_beside(rt, options, sockets, &listener, operator, wish)),
+        Ok(sockets) => Ok(serve_beside(rt, options, sockets, listener, visit, counters)),
         Err(exit) => {
             drop(exit);
             drop(options);
@@ -194,10 +195,24 @@ fn is_served<R: Runtime + AllocGlobal + Eprint + Net<Listener = TcpListener, Str
     }
 }
 
+/// A server of one client, which an operator is beside.
+pub(super) const OPERATED: [&str; 5] = ["--control", "--tcp", "127.0.0.1:0", "--accept", "1"];
+
+/// Whether a server does what an operator wishes.
+fn is_done<R: Runtime + AllocGlobal + Eprint + Net<Listener = TcpListener, Stream = TcpStream>>(
+    rt: R,
+    words: &[&str],
+    wish: Wish,
+) -> Result<bool, Fail> {
+    let listener = TcpListener::bind(&rt, "127.0.0.1:0")?;
+    let visit = Visit::Operated(listener.local_addr()?, wish);
+    let counters = Counters::new(rt.alloc())?;
+    is_served(rt, words, &listener, visit, counters)
+}
+
 #[test]
 fn an_operator_replaces_the_exports(rt: HostRuntime) -> Result<(), Fail> {
-    let words = ["--control", "--tcp", "127.0.0.1:0", "--accept", "1"];
-    assert!(rt; is_served(rt, &words, Wish::Replaced)?);
+    assert!(rt; is_done(rt, &OPERATED, Wish::Replaced)?);
     Ok(())
 }
 
@@ -205,6 +220,6 @@ fn an_operator_replaces_the_exports(rt: HostRuntime) -> Result<(), Fail> {
 #[test]
 fn an_operator_ends_the_server(rt: HostRuntime) -> Result<(), Fail> {
     let words = ["--control", "--tcp", "127.0.0.1:0"];
-    assert!(rt; is_served(rt, &words, Wish::Ended)?);
+    assert!(rt; is_done(rt, &words, Wish::Ended)?);
     Ok(())
 }

@@ -1,5 +1,5 @@
 //! Peers that are not waited for any longer: one that sends nothing, and one that does not come to a record's end. And
-//! peers that can't be served at all, and permits that do not come.
+//! peers that can't be served at all, and peers that are served in turn.
 
 use crate::tests::answers::NULL;
 use crate::tests::clients::{Exchange, Visit, connect, exchange, send};
@@ -7,7 +7,7 @@ use crate::tests::{Count, is_counted};
 use nfs_server::{CountedEvent, Patience, SystemNet};
 use std::io;
 use std::io::{ErrorKind, Read, Write};
-use std::net::{SocketAddr, TcpStream};
+use std::net::{Shutdown, SocketAddr, TcpStream};
 use std::process::Abort;
 use std::test::Fail;
 use std::time::Duration;
@@ -17,7 +17,6 @@ const HASTE: Patience = Patience {
     record: 1,
     idle: 600,
     answers: 30,
-    permit: 3_600,
 };
 
 /// A record is not waited for: no socket takes such a time, so no connection can be served.
@@ -25,21 +24,17 @@ const NO_TIME: Patience = Patience {
     record: 0,
     idle: 600,
     answers: 30,
-    permit: 3_600,
 };
 
-/// No permit is waited for where all are gathered: so they are lost.
-const NO_PERMIT: Patience = Patience {
-    record: 30,
-    idle: 600,
-    answers: 30,
-    permit: 0,
-};
+/// Three connections can't be served.
+const STARVED: [Count; 1] = [(CountedEvent::Starved, 3)];
 
-/// An era ends behind each of three connections that can't be served, and the last one when they have come.
-const RELIEVED: [Count; 2] = [(CountedEvent::Starved, 3), (CountedEvent::Era, 4)];
-
-const NO_ERA: [Count; 2] = [(CountedEvent::Ended, 1), (CountedEvent::Era, 0)];
+/// Six are, one after the other.
+const SERVED: [Count; 3] = [
+    (CountedEvent::Opened, 6),
+    (CountedEvent::Ended, 6),
+    (CountedEvent::Starved, 0),
+];
 
 /// Of three peers two are given up.
 const GIVEN_UP: [Count; 3] = [
@@ -56,13 +51,19 @@ const MOST_LOOKS: usize = 60;
 
 const FEWEST_LOOKS: usize = 3;
 
-const CALLS: [Exchange; 1] = [NULL];
-
-const ONE: [&str; 4] = ["--tcp", "127.0.0.1:0", "--accept", "1"];
-
 const THREE: [&str; 4] = ["--tcp", "127.0.0.1:0", "--accept", "3"];
 
-/// The same, one at a time.
+/// Two at a time.
+const SIX_IN_TURN: [&str; 6] = [
+    "--tcp",
+    "127.0.0.1:0",
+    "--accept",
+    "6",
+    "--connections",
+    "2",
+];
+
+/// Three, one at a time.
 const THREE_APART: [&str; 6] = [
     "--tcp",
     "127.0.0.1:0",
@@ -113,8 +114,7 @@ pub(crate) fn are_given_up<R: AllocGlobal + SystemNet>(
     Ok(before && given_up && exchange(alloc, &idle, each)?)
 }
 
-/// Whether each of three connections that can't be served is closed, one after the other. Behind each one an era is
-/// ended, for which all permits are gathered: there are two, so one that were lost would be waited for in vain.
+/// Whether each of three connections that can't be served is closed, one after the other.
 pub(crate) fn are_closed<R: AllocGlobal + SystemNet>(rt: &R, tcp: SocketAddr) -> io::Result<bool> {
     let mut are_closed = true;
     for _ in 0..3 {
@@ -124,16 +124,41 @@ pub(crate) fn are_closed<R: AllocGlobal + SystemNet>(rt: &R, tcp: SocketAddr) ->
     Ok(are_closed)
 }
 
+/// Whether this exchange goes well over six connections, one after the other: of each the end is waited for, as the
+/// server closes it.
+pub(crate) fn are_served_in_turn<R: AllocGlobal + SystemNet>(
+    rt: &R,
+    tcp: SocketAddr,
+    each: Exchange,
+) -> io::Result<bool> {
+    let mut is_well = true;
+    for _ in 0..6 {
+        let stream = connect(rt, tcp)?;
+        is_well = is_well && exchange(rt.alloc(), &stream, each)?;
+        stream.shutdown(Shutdown::Write)?;
+        is_well = is_well && is_closed(&stream);
+    }
+    Ok(is_well)
+}
+
 #[test]
 fn peers_that_can_not_be_served(rt: HostRuntime) -> Result<(), Fail> {
-    assert!(rt; is_counted(rt, &THREE_APART, NO_TIME, Visit::Unserved, &RELIEVED)?);
+    assert!(rt; is_counted(rt, &THREE_APART, NO_TIME, Visit::Unserved, &STARVED)?);
     Ok(())
 }
 
-/// The server ends as where a record has no receipt, and no era was ended.
+/// Of two seats for connections each is given back: six connections have one, in turn.
 #[test]
-fn a_permit_that_does_not_come(rt: HostRuntime) -> Result<(), Fail> {
-    assert!(rt; is_counted(rt, &ONE, NO_PERMIT, Visit::Connection(&CALLS), &NO_ERA)?);
+fn seats_are_given_back(rt: HostRuntime) -> Result<(), Fail> {
+    assert!(rt;
+        is_counted(
+            rt,
+            &SIX_IN_TURN,
+            Patience::USUAL,
+            Visit::InTurn(NULL),
+            &SERVED
+        )?
+    );
     Ok(())
 }
 

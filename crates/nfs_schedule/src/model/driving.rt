@@ -78,7 +78,7 @@ fn happen(
         Event::Turn(worker) => note(answers, world.turn(alloc, *worker)),
         Event::Stop(worker) => note(answers, world.stop(*worker)),
         Event::TakeMessage => world.take_message()?,
-        Event::NewEra => world.new_era(alloc)?,
+        Event::NewEra => world.new_era()?,
     }
     Ok(())
 }

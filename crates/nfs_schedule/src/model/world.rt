@@ -24,7 +24,7 @@ pub struct World {
     engine: Engine,
     workers: Vec<Worker>,
     queue: VecDeque<Arrival>,
-    /// Each era that is over: a world lets none go, so it grows by all that comes in.
+    /// Each era that is over: its records are not kept, but a world lets none of the eras go.
     eras: Vec<Era>,
     /// Each message that was taken: none is let go either.
     taken: Vec<Posted>,
@@ -208,13 +208,13 @@ impl World {
     /// # Errors
     ///
     /// There is no memory to keep it. Nothing is changed.
-    pub fn new_era(&mut self, alloc: Global) -> Result<(), AllocError>
+    pub fn new_era(&mut self) -> Result<(), AllocError>
         ensures ok { OnOk result (TurnsEra self.old self.new) }
         ensures runs { OnOk result (RunsOn self.old self.new) }
         ensures err { OnErr result (self.new ≡ self.old) }
     {
         self.eras.reserve(1)?;
-        let era = self.engine.new_era(alloc);
+        let era = self.engine.new_era();
         self.eras.push(era).unwrap();
         Ok(())
     }

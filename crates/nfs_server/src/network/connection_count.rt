@@ -120,12 +120,6 @@ impl ConnectionCount {
         self.gone.notify_all();
     }
 
-    /// Whether nobody is there.
-    pub(crate) fn is_empty<R: Wait>(&self, rt: &R) -> bool {
-        let guard = self.open.lock(rt);
-        guard.list.is_empty()
-    }
-
     /// Waits until nobody is there.
     pub(crate) fn wait<R: Wait>(&self, rt: &R) {
         let guard = self.open.lock(rt);

@@ -123,8 +123,6 @@ pub enum CountedEvent {
     Dropped,
     /// An address did not take a message, or did not answer it in time.
     CallbackFailed,
-    /// An era ended.
-    Era,
 }
 
 impl CountedEvent {
@@ -154,7 +152,6 @@ impl CountedEvent {
             CountedEvent::Sent => "messages_sent",
             CountedEvent::Dropped => "messages_dropped",
             CountedEvent::CallbackFailed => "callbacks_failed",
-            CountedEvent::Era => "eras",
         }
     }
 }
@@ -164,6 +161,8 @@ impl CountedEvent {
 pub enum Gauge {
     /// Connections that may be open at once.
     Places,
+    /// Eras that are over.
+    Eras,
     /// Objects that stand in the store: its addresses at which something stands.
     Objects,
     /// Hosts of which replies are kept.
@@ -179,6 +178,7 @@ impl Gauge {
     fn name(self) -> &'static str {
         match self {
             Gauge::Places => "places",
+            Gauge::Eras => "eras",
             Gauge::Objects => "objects",
             Gauge::KeptHosts => "kept_hosts",
             Gauge::KeptReplies => "kept_replies",
@@ -235,7 +235,7 @@ const OF_NETWORK: [Told; 30] = [
     Told::Event(CountedEvent::Sent),
     Told::Event(CountedEvent::Dropped),
     Told::Event(CountedEvent::CallbackFailed),
-    Told::Event(CountedEvent::Era),
+    Told::Gauge(Gauge::Eras),
     Told::Gauge(Gauge::Objects),
     Told::Gauge(Gauge::KeptHosts),
     Told::Gauge(Gauge::KeptReplies),

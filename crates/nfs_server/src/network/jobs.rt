@@ -33,9 +33,9 @@ impl<L: Ledger + Naming, C: Clock> Dispatcher<L, C> {
     /// Does jobs, until nobody sends any more.
     pub(crate) fn work<R: Wait + Clock>(&mut self, rt: &R, alloc: Global, jobs: &Receiver<Job>) {
         for job in jobs.iter(rt) {
-            self.permits.drain().enter(rt);
+            self.service.drain.enter(rt);
             self.answer_datagram(rt, alloc, job);
-            self.permits.drain().leave();
+            self.service.drain.leave();
         }
     }
 
@@ -47,18 +47,16 @@ impl<L: Ledger + Naming, C: Clock> Dispatcher<L, C> {
             host,
             record,
         } = job;
-        match self.answer_alone(rt, alloc, &host, record) {
+        match self.answer(rt, alloc, &host, record) {
             Ok(answer) => {
                 if let Some(datagram) = datagram_of(answer.bytes()) {
                     let count = send(&socket, datagram, peer);
-                    self.counters.add(CountedEvent::BytesWritten, count as u64);
+                    self.counters()
+                        .add(CountedEvent::BytesWritten, count as u64);
                 }
                 drop(answer);
             }
-            Err(_) => {
-                self.counters.happened(CountedEvent::DatagramDropped);
-                self.permits.relieve(rt);
-            }
+            Err(_) => self.counters().happened(CountedEvent::DatagramDropped),
         }
     }
 }

@@ -3,25 +3,21 @@
 ghost use Rattle.std.specs.Prelude.{IfOk};
 ghost use Rattle.nfs_server.specs.Hosts.{IsHostNumber, IsHostText};
 
-use crate::clock::{Latest, ServerClock};
 use crate::exit::Exit;
 use crate::network::connection_count::ConnectionCount;
 use crate::network::counters::{CountedEvent, Counters};
 use crate::network::dispatcher::Dispatcher;
 use crate::network::jobs::Job;
-use crate::network::listings::Listings;
 use crate::network::peer::{PeerLink, Socket};
-use crate::network::permits::Permits;
 use crate::network::presence::Presence;
 use crate::network::reading::ConnectionThread;
-use crate::network::wakeup::Wakeup;
+use crate::network::service::Service;
 use crate::options::{Network, Options, Transport};
 use crate::patience::{Deadline, Patience};
 use crate::runtime::{Runtime, SystemNet};
 use bytes::Bytes;
 use crossbeam_channel::Sender;
 use nfs_engine::Host;
-use nfs_machine::Moment;
 use nfs_pool::Naming;
 use std::alloc::{AllocError, Global};
 use std::io::ErrorKind;
@@ -146,69 +142,6 @@ fn number_of(address: IpAddr) -> u128
     }
 }
 
-/// What each thread that serves peers has.
-#[derive(Drop)]
-pub(crate) struct Service<L: Ledger + Naming> {
-    pub(crate) permits: Permits<L>,
-    pub(crate) jobs: Sender<Job>,
-    /// Given when messages wait to be sent.
-    pub(crate) wakeup: Arc<Wakeup>,
-    /// What is counted.
-    pub(crate) counters: Arc<Counters>,
-    /// Who may have an answer of any size made.
-    pub(crate) listings: Arc<Listings>,
-    /// The second at which every moment is, if any.
-    pub(crate) clock: Option<u32>,
-    /// The latest moment that was given.
-    pub(crate) latest: Arc<Latest>,
-}
-
-impl<L: Ledger + Naming> Service<L> {
-    /// These permits and jobs, and a wakeup that is not given. The server began at this moment.
-    pub(crate) fn new(
-        alloc: Global,
-        permits: Permits<L>,
-        jobs: Sender<Job>,
-        counters: Arc<Counters>,
-        clock: Option<u32>,
-        begin: Moment,
-    ) -> Result<Service<L>, AllocError> {
-        Ok(Service {
-            permits,
-            jobs,
-            wakeup: Arc::new(alloc, Wakeup::new())?,
-            counters,
-            listings: Arc::new(alloc, Listings::new())?,
-            clock,
-            latest: Arc::new(alloc, Latest::new(begin))?,
-        })
-    }
-
-    /// One more owner.
-    pub(crate) fn share(&self) -> Result<Service<L>, AllocError> {
-        Ok(Service {
-            permits: self.permits.share()?,
-            jobs: self.jobs.clone()?,
-            wakeup: Arc::try_clone(&self.wakeup)?,
-            counters: Arc::try_clone(&self.counters)?,
-            listings: Arc::try_clone(&self.listings)?,
-            clock: self.clock,
-            latest: Arc::try_clone(&self.latest)?,
-        })
-    }
-
-    /// What answers records, by this clock.
-    pub(crate) fn dispatcher<C: Drop>(&self, clock: C) -> Result<Dispatcher<L, C>, AllocError> {
-        Ok(Dispatcher {
-            permits: self.permits.share()?,
-            wakeup: Arc::try_clone(&self.wakeup)?,
-            counters: Arc::try_clone(&self.counters)?,
-            clock: ServerClock::beside(clock, self.clock, &self.latest)?,
-            last: 0,
-        })
-    }
-}
-
 /// Why a connection that came is not served.
 #[derive(Clone, Copy)]
 enum NotServed {
@@ -239,19 +172,19 @@ pub(crate) fn let_in<R: Runtime, L: Ledger + Naming + Send + Sync + 'static>(
     alloc: Global,
     listener: &TcpListener,
     network: &Network,
-    service: &Service<L>,
+    service: &Arc<Service<L>>,
     connection_count: &Arc<ConnectionCount>,
 ) {
     let mut came: u64 = 0;
     for _ in rt.forever() {
         match listener.accept() {
             // It is closed at once.
-            Ok(_) if service.permits.drain().has_begun() => {}
+            Ok(_) if service.drain.has_begun() => {}
             Ok((stream, peer)) => {
                 came = came.saturating_add(1);
                 let patience = network.patience;
                 let served = admit(rt, alloc, stream, peer, patience, service, connection_count);
-                count_not_served(rt, service, connection_count, served);
+                count_not_served(service, served);
             }
             Err(error) => {
                 if is_descriptor_wanting(&error) {
@@ -267,27 +200,13 @@ pub(crate) fn let_in<R: Runtime, L: Ledger + Naming + Send + Sync + 'static>(
     unreachable!()
 }
 
-/// Counts that a connection is not served. Where that is for want of memory the era is ended; where it is for want of a
-/// thread, only while no connection is open, since memory may be wanting for its stack, and nobody else would let go.
-fn count_not_served<R: Wait, L: Ledger + Naming>(
-    rt: &R,
-    service: &Service<L>,
-    connection_count: &ConnectionCount,
-    served: Result<(), NotServed>,
-) {
+/// Counts that a connection is not served.
+fn count_not_served<L: Ledger + Naming>(service: &Service<L>, served: Result<(), NotServed>) {
     match served {
         Ok(()) => {}
         Err(NotServed::TurnedAway) => service.counters.happened(CountedEvent::TurnedAway),
-        Err(NotServed::NoThread) => {
-            service.counters.happened(CountedEvent::NoThread);
-            if connection_count.is_empty(rt) {
-                service.permits.relieve(rt);
-            }
-        }
-        Err(NotServed::Memory) => {
-            service.counters.happened(CountedEvent::Starved);
-            service.permits.relieve(rt);
-        }
+        Err(NotServed::NoThread) => service.counters.happened(CountedEvent::NoThread),
+        Err(NotServed::Memory) => service.counters.happened(CountedEvent::Starved),
     }
 }
 
@@ -310,7 +229,7 @@ fn admit<R: Runtime, L: Ledger + Naming + Send + Sync + 'static>(
     stream: TcpStream,
     peer: SocketAddr,
     patience: Patience,
-    service: &Service<L>,
+    service: &Arc<Service<L>>,
     connection_count: &Arc<ConnectionCount>,
 ) -> Result<(), NotServed> {
     let entered = enter(rt, alloc, stream, peer, connection_count);
@@ -355,25 +274,22 @@ fn enter<R: Wait + Clock>(
     }
 }
 
-/// What reads a connection.
-fn reader<R: Runtime, L: Ledger + Naming>(
+/// A connection to its peer.
+fn link_to<R: Clock, L: Ledger + Naming>(
     rt: &R,
     alloc: Global,
     presence: Arc<Presence>,
     peer: SocketAddr,
     patience: Patience,
     service: &Service<L>,
-) -> Result<ConnectionThread<L, R, Socket>, NotServed> {
+) -> Result<PeerLink<Socket>, NotServed> {
     let counters = Arc::try_clone(&service.counters)?;
-    Ok(ConnectionThread {
-        link: PeerLink {
-            peer: Socket::new(presence, counters, patience)?,
-            host: host_at(alloc, peer.ip())?,
-            patience,
-            deadline: Deadline::new(Instant::now(rt)?, patience.answers),
-            listings: Arc::try_clone(&service.listings)?,
-        },
-        dispatcher: service.dispatcher(*rt)?,
+    Ok(PeerLink {
+        peer: Socket::new(presence, counters, patience)?,
+        host: host_at(alloc, peer.ip())?,
+        patience,
+        deadline: Deadline::new(Instant::now(rt)?, patience.answers),
+        listings: Arc::try_clone(&service.listings)?,
     })
 }
 
@@ -389,53 +305,59 @@ fn start<R: Runtime, L: Ledger + Naming + Send + Sync + 'static>(
     peer: SocketAddr,
     number: u64,
     patience: Patience,
-    service: &Service<L>,
+    service: &Arc<Service<L>>,
     connection_count: &Arc<ConnectionCount>,
 ) -> Result<(), NotServed> {
-    let reader = reader(rt, alloc, presence, peer, patience, service)?;
+    let link = link_to(rt, alloc, presence, peer, patience, service)?;
+    let service = Arc::try_clone(service)?;
     let connection_count = Arc::try_clone(connection_count)?;
     let rt = *rt;
     match thread::spawn(&rt, move || {
-        serve(&rt, alloc, reader, number, &connection_count);
+        let place = connection_count.place(number);
+        serve(rt, alloc, link, &service);
+        connection_count.leave(&rt, place);
     }) {
         Ok(_) => Ok(()),
         Err(_) => Err(NotServed::NoThread),
     }
 }
 
-/// Serves a connection to its end, and gives its place back.
+/// Serves a connection to its end, on a seat that it has so long. There are as many seats as places, so one is left.
 fn serve<R: Runtime, L: Ledger + Naming>(
-    rt: &R,
+    rt: R,
     alloc: Global,
-    reader: ConnectionThread<L, R, Socket>,
-    number: u64,
-    connection_count: &ConnectionCount,
+    link: PeerLink<Socket>,
+    service: &Arc<Service<L>>,
 ) {
-    let place = connection_count.place(number);
-    let mut reader = reader;
-    reader.work(rt, alloc);
-    drop(reader);
-    connection_count.leave(rt, place);
+    let Ok(dispatcher) = Dispatcher::new(&rt, service, rt) else {
+        service.counters.happened(CountedEvent::Starved);
+        return;
+    };
+    let mut reader = ConnectionThread { link, dispatcher };
+    reader.work(&rt, alloc);
+    let ConnectionThread { link, dispatcher } = reader;
+    drop(link);
+    dispatcher.leave(&rt);
 }
 
 /// Takes datagrams into this buffer, each a record of its own with no mark, and hands them to the workers.
-pub(crate) fn take_datagrams<R: Wait + Clock, L: Ledger + Naming>(
+pub(crate) fn take_datagrams<R: Wait + Clock>(
     rt: &R,
     alloc: Global,
     socket: &Arc<UdpSocket>,
     buffer: Vec<u8>,
-    service: &Service<L>,
+    jobs: &Sender<Job>,
+    counters: &Counters,
 ) {
     let mut buffer = buffer;
     for _ in rt.forever() {
         match socket.recv_from(buffer.as_mut_slice()) {
             Ok((count, peer)) => {
-                service.counters.happened(CountedEvent::Datagram);
-                service.counters.add(CountedEvent::BytesRead, count as u64);
+                counters.happened(CountedEvent::Datagram);
+                counters.add(CountedEvent::BytesRead, count as u64);
                 // One that can't be taken in is dropped.
-                if take(rt, alloc, socket, peer, &buffer[..count], service).is_err() {
-                    service.counters.happened(CountedEvent::DatagramDropped);
-                    service.permits.relieve(rt);
+                if take(rt, alloc, socket, peer, &buffer[..count], jobs).is_err() {
+                    counters.happened(CountedEvent::DatagramDropped);
                 }
             }
             Err(error) if error.kind() == ErrorKind::Interrupted => {}
@@ -446,13 +368,13 @@ pub(crate) fn take_datagrams<R: Wait + Clock, L: Ledger + Naming>(
 }
 
 /// Hands a datagram to the workers.
-fn take<R: Wait, L: Ledger + Naming>(
+fn take<R: Wait>(
     rt: &R,
     alloc: Global,
     socket: &Arc<UdpSocket>,
     peer: SocketAddr,
     datagram: &[u8],
-    service: &Service<L>,
+    jobs: &Sender<Job>,
 ) -> Result<(), AllocError> {
     let job = Job {
         socket: Arc::try_clone(socket)?,
@@ -460,6 +382,6 @@ fn take<R: Wait, L: Ledger + Naming>(
         host: host_at(alloc, peer.ip())?,
         record: Bytes::copy_from_slice(alloc, datagram)?,
     };
-    drop(service.jobs.send(rt, job));
+    drop(jobs.send(rt, job));
     Ok(())
 }

@@ -37,13 +37,10 @@ pub(crate) struct ConnectionThread<L: Ledger + Naming, C, P> {
 }
 
 impl<L: Ledger + Naming, C: Clock, P: Peer> ConnectionThread<L, C, P> {
-    /// Serves the connection to its end. Where that is for want of memory the era is ended.
+    /// Serves the connection to its end.
     pub(crate) fn work<R: Wait + Clock>(&mut self, rt: &R, alloc: Global) {
         let served = self.read(rt, alloc);
-        self.dispatcher.counters.happened(end_of(served));
-        if let Err(Closed::Memory) = served {
-            self.dispatcher.permits.relieve(rt);
-        }
+        self.dispatcher.counters().happened(end_of(served));
     }
 
     /// Serves the connection to its end.
@@ -65,12 +62,12 @@ impl<L: Ledger + Naming, C: Clock, P: Peer> ConnectionThread<L, C, P> {
         connection: &mut Connection,
     ) -> Result<(), Closed>
         requires { IsNew connection.old }
-        ensures goes { OnOk result (GoesOn self.old.link.host self.old.dispatcher.last self.new.dispatcher.last
+        ensures goes { OnOk result (GoesOn self.old.link.host self.old.dispatcher.seat.last self.new.dispatcher.seat.last
             connection.old connection.new (P.unread self.old.link.peer) (P.unread self.new.link.peer)
             (P.written self.old.link.peer) (P.written self.new.link.peer)) }
         ensures all { OnOk result ((connection.new.records.queued ≡ []) ⊎ (connection.new ≡ connection.old)) }
         ensures sent { OnOk result (waiting connection.new ≡ []) }
-        ensures breaks { OnErr result (IsCutOff self.old.link.host self.old.dispatcher.last connection.old
+        ensures breaks { OnErr result (IsCutOff self.old.link.host self.old.dispatcher.seat.last connection.old
             (P.unread self.old.link.peer) (P.written self.old.link.peer) (P.written self.new.link.peer)) }
     {
         let mut buffer = Vec::from_elem(alloc, 0u8, FIRST_SIZE)?;
@@ -106,7 +103,7 @@ impl<L: Ledger + Naming, C: Clock, P: Peer> ConnectionThread<L, C, P> {
             (take count buffer.new)) }
         ensures written { P.written self.new.link.peer ≡ P.written self.old.link.peer }
         ensures same { (self.new.link.host ≡ self.old.link.host)
-            × (self.new.dispatcher.last ≡ self.old.dispatcher.last) }
+            × (self.new.dispatcher.seat.last ≡ self.old.dispatcher.seat.last) }
     {
         let since = now;
         let mut now = now;
@@ -140,19 +137,19 @@ impl<L: Ledger + Naming, C: Clock, P: Peer> ConnectionThread<L, C, P> {
         ensures sent { OnOk result (waiting connection.old ≡ [] → waiting connection.new ≡ []) }
         ensures room { connection.new.full ≡ false }
         ensures goes { OnOk result ((unread left : Option (List ℕ)) → Consumes unread left piece.now →
-            GoesOn self.old.link.host self.old.dispatcher.last self.new.dispatcher.last connection.old connection.new
+            GoesOn self.old.link.host self.old.dispatcher.seat.last self.new.dispatcher.seat.last connection.old connection.new
             unread left (P.written self.old.link.peer) (P.written self.new.link.peer)) }
         ensures breaks { OnErr result ((unread left : Option (List ℕ)) → Consumes unread left piece.now →
-            IsCutOff self.old.link.host self.old.dispatcher.last connection.old
+            IsCutOff self.old.link.host self.old.dispatcher.seat.last connection.old
             unread (P.written self.old.link.peer) (P.written self.new.link.peer)) }
         ensures all { OnOk result (connection.new.records.queued ≡ []) }
         ensures unread { P.unread self.new.link.peer ≡ P.unread self.old.link.peer }
         ensures host { self.new.link.host ≡ self.old.link.host }
     {
         let taken = connection.take_in(piece);
-        self.dispatcher.permits.drain().enter(rt);
+        self.dispatcher.service.drain.enter(rt);
         let answered = self.answer_piece(rt, alloc, connection);
-        self.dispatcher.permits.drain().leave();
+        self.dispatcher.service.drain.leave();
         let is_refused = answered?;
         match taken {
             Ok(()) => Ok(is_refused),
@@ -172,11 +169,11 @@ impl<L: Ledger + Naming, C: Clock, P: Peer> ConnectionThread<L, C, P> {
         ensures sent { OnOk result (waiting connection.old ≡ [] → waiting connection.new ≡ []) }
         ensures room { connection.new.full ≡ false }
         ensures goes { OnOk result ((unread : Option (List ℕ)) →
-            GoesOn self.old.link.host self.old.dispatcher.last self.new.dispatcher.last connection.old connection.new
+            GoesOn self.old.link.host self.old.dispatcher.seat.last self.new.dispatcher.seat.last connection.old connection.new
             unread unread (P.written self.old.link.peer) (P.written self.new.link.peer)) }
         ensures all { OnOk result (connection.new.records.queued ≡ []) }
         ensures breaks { OnErr result ((unread : Option (List ℕ)) →
-            IsCutOff self.old.link.host self.old.dispatcher.last connection.old
+            IsCutOff self.old.link.host self.old.dispatcher.seat.last connection.old
             unread (P.written self.old.link.peer) (P.written self.new.link.peer)) }
         ensures unread { P.unread self.new.link.peer ≡ P.unread self.old.link.peer }
         ensures host { self.new.link.host ≡ self.old.link.host }

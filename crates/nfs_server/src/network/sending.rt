@@ -82,10 +82,10 @@ impl<L: Ledger + Naming, C: Clock> CallbackThread<L, C> {
                     return;
                 }
                 Ok(None) => break,
-                Err(_) => self.dispatcher.make_room(rt),
+                Err(_) => wait_for_memory(rt),
             }
         }
-        self.dispatcher.counters.happened(CountedEvent::Dropped);
+        self.dispatcher.counters().happened(CountedEvent::Dropped);
     }
 }
 
@@ -100,19 +100,19 @@ fn deliver<L: Ledger + Naming, C: Clock, R: Wait + Clock + SystemNet>(
 ) {
     let address = letter.callback.address;
     if is_passed_over(rt, failures, address) {
-        dispatcher.counters.happened(CountedEvent::Dropped);
+        dispatcher.counters().happened(CountedEvent::Dropped);
         return;
     }
-    match asked(rt, alloc, dispatcher, letter, posted) {
+    match asked(rt, alloc, letter, posted) {
         Ok(answer) => {
-            dispatcher.counters.happened(CountedEvent::Sent);
+            dispatcher.counters().happened(CountedEvent::Sent);
             if let Some(answer) = answer {
                 dispatcher.take_in(rt, alloc, &letter.callback.host, posted, &answer);
             }
         }
         Err(_) => {
-            dispatcher.counters.happened(CountedEvent::CallbackFailed);
-            dispatcher.counters.happened(CountedEvent::Dropped);
+            dispatcher.counters().happened(CountedEvent::CallbackFailed);
+            dispatcher.counters().happened(CountedEvent::Dropped);
             pass_over(rt, failures, address);
         }
     }
@@ -138,10 +138,9 @@ fn pass_over<R: Clock>(rt: &R, failures: &mut Failures, address: SocketAddr) {
 /// # Errors
 ///
 /// The connection failed, or no answer to GRANTED came in time.
-fn asked<L: Ledger + Naming, C: Clock, R: Wait + Clock + SystemNet>(
+fn asked<R: Wait + Clock + SystemNet>(
     rt: &R,
     alloc: Global,
-    dispatcher: &Dispatcher<L, C>,
     letter: &Letter<'_>,
     posted: &Posted,
 ) -> io::Result<Option<Record>>
@@ -150,7 +149,7 @@ fn asked<L: Ledger + Naming, C: Clock, R: Wait + Clock + SystemNet>(
     let stream = connected(rt, letter.callback.address)?;
     (&stream).write_all(&letter.bytes)?;
     if has_reply(&posted.message) {
-        first_record(rt, alloc, dispatcher, &stream)
+        first_record(rt, alloc, &stream)
     } else {
         Ok(None)
     }
@@ -166,17 +165,16 @@ fn connected<R: SystemNet>(rt: &R, address: SocketAddr) -> io::Result<TcpStream>
 }
 
 /// The first record that comes; None where the peer sends none.
-fn first_record<L: Ledger + Naming, C: Clock, R: Wait + Clock>(
+fn first_record<R: Wait + Clock>(
     rt: &R,
     alloc: Global,
-    dispatcher: &Dispatcher<L, C>,
     stream: &TcpStream,
 ) -> io::Result<Option<Record>> {
     let mut records = Records::new(alloc);
     let mut piece = [0u8; PIECE_SIZE];
     for _ in 0..MOST_PIECES {
         let count = read_some(stream, &mut piece)?;
-        if count == 0 || !dispatcher.feed(rt, &mut records, &piece[..count]) {
+        if count == 0 || !feed(rt, &mut records, &piece[..count]) {
             return Ok(None);
         }
         if let Some(record) = records.next() {
@@ -186,25 +184,24 @@ fn first_record<L: Ledger + Naming, C: Clock, R: Wait + Clock>(
     Ok(None)
 }
 
-impl<L: Ledger + Naming, C: Clock> Dispatcher<L, C> {
-    /// Has what was recorded let go, and waits a while for memory.
-    fn make_room<R: Wait + Clock>(&self, rt: &R) {
-        self.permits.relieve(rt);
-        thread::sleep(rt, Duration::from_millis(PAUSE));
-    }
-
-    /// Takes in a piece of an answer, and tries again where memory is wanting. Whether it was taken in.
-    fn feed<R: Wait + Clock>(&self, rt: &R, records: &mut Records, piece: &[u8]) -> bool {
-        for _ in 0..TRIES {
-            match records.feed(piece) {
-                Ok(()) => return true,
-                Err(RecordError::TooLarge) => return false,
-                Err(RecordError::Memory) => self.make_room(rt),
-            }
+/// Takes in a piece of an answer, and tries again where memory is wanting. Whether it was taken in.
+fn feed<R: Wait + Clock>(rt: &R, records: &mut Records, piece: &[u8]) -> bool {
+    for _ in 0..TRIES {
+        match records.feed(piece) {
+            Ok(()) => return true,
+            Err(RecordError::TooLarge) => return false,
+            Err(RecordError::Memory) => wait_for_memory(rt),
         }
-        false
     }
+    false
+}
 
+/// Waits a while for memory.
+fn wait_for_memory<R: Clock>(rt: &R) {
+    thread::sleep(rt, Duration::from_millis(PAUSE));
+}
+
+impl<L: Ledger + Naming, C: Clock> Dispatcher<L, C> {
     /// Takes in what a host answered to a message, and tries again where memory is wanting.
     fn take_in<R: Wait + Clock>(
         &mut self,
@@ -220,7 +217,7 @@ impl<L: Ledger + Naming, C: Clock> Dispatcher<L, C> {
                     drop(told);
                     return;
                 }
-                Err(_) => self.make_room(rt),
+                Err(_) => wait_for_memory(rt),
             }
         }
     }
@@ -238,7 +235,7 @@ impl<L: Ledger + Naming, C: Clock> Dispatcher<L, C> {
         posted: &Posted,
         answer: &Record,
     ) -> Result<Option<Answer>, Closed>
-        ensures { IfOk result (IsTakenIn self.old.last host.now posted.now.number posted.now.message answer.now) }
+        ensures { IfOk result (IsTakenIn self.old.seat.last host.now posted.now.number posted.now.message answer.now) }
     {
         match call_of_answer(alloc, posted, answer)? {
             Some(call) => Ok(Some(self.carry_out(rt, alloc, host, call)?)),
@@ -258,10 +255,10 @@ impl<L: Ledger + Naming, C: Clock> Dispatcher<L, C> {
         host: &Host,
         call: Record,
     ) -> Result<Answer, Closed>
-        ensures answers { IfOk result (AnswersRecord self.old.last host.now call) }
+        ensures answers { IfOk result (AnswersRecord self.old.seat.last host.now call) }
         ensures unrefused { IfOk result IsUnrefused }
     {
-        unrefused(self.answer_alone(rt, alloc, host, call)?)
+        unrefused(self.answer(rt, alloc, host, call)?)
     }
 }
 

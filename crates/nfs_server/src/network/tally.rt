@@ -1,20 +1,21 @@
 //! How many replies are kept and how many bytes they hold, as far as receipts tell.
 
 use crate::network::counters::{Counters, Gauge};
+use crate::network::dispatcher::Answered;
 use bytes::Bytes;
 use indexmap::IndexMap;
 use nfs_engine::{Incoming, Receipt, read_record};
 use nfs_machine::NameKey;
 use nfs_rpc::Record;
+use nfs_schedule::Answer;
 use nfs_tables::Placing;
 use std::alloc::{AllocError, Global};
 use std::collections::VecDeque;
+use std::sync::{Mutex, Wait};
 
 /// A call that changed something, whose reply is kept.
 #[derive(Clone, Copy)]
 struct Change<'a> {
-    /// The number of its record.
-    number: u64,
     host: &'a Bytes,
     /// How many bytes its record and its reply have.
     bytes: u64,
@@ -42,14 +43,10 @@ impl Tally {
         }
     }
 
-    /// Adds an era that is over, of which these are the receipts of each seat. What finds no memory is left out.
-    pub fn add_era(&mut self, alloc: Global, lists: &[Vec<Receipt>]) {
-        let Ok(mut changes) = changes(alloc, lists) else {
-            return;
-        };
-        changes.sort_unstable_by_key(|change| change.number);
-        for change in changes.iter() {
-            let _ = self.add(alloc, *change);
+    /// Adds what was executed. What finds no memory is left out.
+    pub fn add(&mut self, alloc: Global, receipt: &Receipt) {
+        if let Some(change) = change_of(receipt) {
+            let _ = self.add_change(alloc, change);
         }
     }
 
@@ -61,7 +58,7 @@ impl Tally {
     }
 
     /// Adds a call. Where its host has as many as are kept, the oldest one goes.
-    fn add(&mut self, alloc: Global, change: Change<'_>) -> Result<(), AllocError> {
+    fn add_change(&mut self, alloc: Global, change: Change<'_>) -> Result<(), AllocError> {
         let gone = match self.hosts.get_mut(change.host) {
             Some(sizes) => put(sizes, self.capacity, change.bytes)?,
             None => self.add_first(alloc, change)?,
@@ -85,6 +82,39 @@ impl Tally {
     }
 }
 
+/// What all who answer count the kept replies by.
+#[derive(Drop)]
+pub(crate) struct KeptReplies {
+    tally: Mutex<Tally>,
+}
+
+impl KeptReplies {
+    /// As `Tally::new`.
+    pub(crate) fn new(alloc: Global, capacity: usize, key: &NameKey) -> KeptReplies {
+        KeptReplies {
+            tally: Mutex::new(Tally::new(alloc, capacity, key)),
+        }
+    }
+
+    /// Adds what was answered, where it was executed and changed something.
+    pub(crate) fn add<R: Wait>(&self, rt: &R, alloc: Global, answered: &Answered) {
+        let Ok(Answer::Executed(receipt)) = answered else {
+            return;
+        };
+        if let Some(change) = change_of(receipt) {
+            let mut guard = self.tally.lock(rt);
+            let tally = &mut *guard;
+            let _ = tally.add_change(alloc, change);
+        }
+    }
+
+    /// Tells what is kept.
+    pub(crate) fn tell<R: Wait>(&self, rt: &R, counters: &Counters) {
+        let guard = self.tally.lock(rt);
+        guard.tell(counters);
+    }
+}
+
 /// Puts a size behind others, so many at most: the oldest one, where it goes.
 fn put(sizes: &mut VecDeque<u64>, capacity: usize, size: u64) -> Result<Option<u64>, AllocError> {
     if sizes.len() >= capacity {
@@ -94,19 +124,6 @@ fn put(sizes: &mut VecDeque<u64>, capacity: usize, size: u64) -> Result<Option<u
     }
     sizes.push_back(size).map_err(|_| AllocError)?;
     Ok(None)
-}
-
-/// The calls that changed something, seat by seat.
-fn changes<'a>(alloc: Global, lists: &'a [Vec<Receipt>]) -> Result<Vec<Change<'a>>, AllocError> {
-    let mut changes = Vec::new(alloc);
-    for receipts in lists {
-        for receipt in receipts.iter() {
-            if let Some(change) = change_of(receipt) {
-                changes.push(change)?;
-            }
-        }
-    }
-    Ok(changes)
 }
 
 /// What was executed, if a reply to it is kept.
@@ -119,7 +136,6 @@ fn change_of(receipt: &Receipt) -> Option<Change<'_>> {
     }
     let record = received.message.len() as u64;
     Some(Change {
-        number: receipt.number,
         host: received.host.text(),
         bytes: record.saturating_add(receipt.answer.len() as u64),
     })

@@ -1,8 +1,10 @@
-//! That messages wait to be sent.
+//! What wakes a thread: that messages wait to be sent, or that the program is to end.
 
+use std::rt::Clock;
 use std::sync::{Condvar, Mutex, Wait};
+use std::time::Duration;
 
-/// Who sends messages is woken by it when some wait. It takes no memory, and who gives it waits for nobody.
+/// Who waits for it is woken when it is given. It takes no memory, and who gives it waits for nobody.
 #[derive(Drop)]
 pub(crate) struct Wakeup {
     is_due: Mutex<bool>,
@@ -33,5 +35,14 @@ impl Wakeup {
         let mut due = self.due.wait_while(rt, guard, |is_due| !*is_due);
         *due = false;
         drop(due);
+    }
+
+    /// Waits until it is given, for so long at most. Whether it was.
+    pub(crate) fn wait_within<R: Wait + Clock>(&self, rt: &R, limit: Duration) -> bool {
+        let guard = self.is_due.lock(rt);
+        let (due, _ended) = self
+            .due
+            .wait_timeout_while(rt, guard, limit, |is_due| !*is_due);
+        *due
     }
 }

@@ -3,7 +3,7 @@
 use super::calls::{Ask, Handle, ROOT};
 use super::pools::{Runs, moment};
 use bytes::Bytes;
-use nfs_engine::{Arrival, Host};
+use nfs_engine::{Arrival, Host, Kept, Receipt};
 use nfs_pool::{Gate, Naming, Pool, PoolError, Seat, Sent, Step};
 use std::alloc::AllocError;
 use std::sync::atomic::{AtomicU64, Ordering};
@@ -42,9 +42,9 @@ impl<'a, R: Runs> Gate for Bounded<'a, R> {
 pub(super) enum Told {
     /// It was executed, with this status (RFC 1813, 2.6).
     Executed(Option<u32>),
-    /// It came before, and gets the reply of a receipt that the caller has.
+    /// It came before, and gets the reply of the caller's last receipt.
     Repeated,
-    /// It came before, and gets a reply of which the caller has no receipt.
+    /// It came before, and gets another reply.
     Kept,
     /// There was no memory for it.
     Refused,
@@ -61,6 +61,8 @@ pub(super) struct Caller<'a, L: Ledger + Naming, R> {
     pub(super) rt: &'a R,
     pub(super) pool: &'a Pool<L>,
     pub(super) seat: &'a mut Seat<L>,
+    /// Of its last call that was executed.
+    last: Option<Receipt>,
     /// The file that its calls are on: the root until it has one.
     pub(super) file: Handle,
     /// The directory in which its names stand: the root until it has another.
@@ -73,6 +75,7 @@ impl<'a, L: Ledger + Naming, R: Runs> Caller<'a, L, R> {
             rt,
             pool,
             seat,
+            last: None,
             file: ROOT,
             directory: ROOT,
         }
@@ -111,37 +114,48 @@ impl<'a, L: Ledger + Naming, R: Runs> Caller<'a, L, R> {
     }
 
     /// What the caller is told.
-    pub(super) fn told(&self, sent: Result<Sent, PoolError>) -> Told {
-        let told = match &sent {
-            Ok(Sent::Executed) => Told::Executed(self.word(STATUS)),
-            Ok(Sent::Repeated(kept)) if self.has_reply(kept.reply()) => Told::Repeated,
-            Ok(Sent::Repeated(_)) => Told::Kept,
-            Ok(Sent::Refused(_)) | Err(PoolError::Memory(_)) => Told::Refused,
-            Ok(Sent::Early(_) | Sent::Unanswered(_)) => Told::Other,
-            Err(PoolError::EraFull(_)) => Told::EraFull,
-        };
-        drop(sent);
-        told
-    }
-
-    /// Whether a receipt has this reply.
-    fn has_reply(&self, reply: &Bytes) -> bool {
-        for receipt in self.seat.receipts() {
-            if receipt.answer == *reply {
-                return true;
+    pub(super) fn told(&mut self, sent: Result<Sent, PoolError>) -> Told {
+        match sent {
+            Ok(Sent::Executed(receipt)) => {
+                self.last = Some(receipt);
+                Told::Executed(self.word(STATUS))
+            }
+            Ok(Sent::Repeated(kept)) => self.repeated(&kept),
+            Ok(Sent::Refused(declined)) => {
+                drop(declined);
+                Told::Refused
+            }
+            Ok(Sent::Early(faulted)) => {
+                drop(faulted);
+                Told::Other
+            }
+            Ok(Sent::Unanswered(received)) => {
+                drop(received);
+                Told::Other
+            }
+            Err(PoolError::EraFull(arrival)) => {
+                drop(arrival);
+                Told::EraFull
             }
         }
-        false
+    }
+
+    /// What the caller of a repeat is told.
+    fn repeated(&self, kept: &Kept) -> Told {
+        match &self.last {
+            Some(receipt) if receipt.answer == *kept.reply() => Told::Repeated,
+            _ => Told::Kept,
+        }
     }
 
     /// The number of the last receipt.
     pub(super) fn number(&self) -> Option<u64> {
-        Some(self.seat.receipts().last()?.number)
+        Some(self.last.as_ref()?.number)
     }
 
     /// The last receipt's reply.
     pub(super) fn answer(&self) -> Option<&[u8]> {
-        Some(&self.seat.receipts().last()?.answer)
+        Some(&self.last.as_ref()?.answer)
     }
 
     /// A word of it, at this place in bytes.

@@ -37,6 +37,8 @@ pub(super) enum Ask {
     GetattrCut,
     /// SETATTR of the file's mode, with no guard.
     SetMode(u32),
+    /// SETATTR of the file's size to 0, with no guard.
+    Cut,
     /// LOOKUP of a name.
     Lookup(u32),
     /// READ of the file's first four bytes.
@@ -100,7 +102,7 @@ impl Ask {
     fn procedure(&self) -> u32 {
         match self {
             Ask::Getattr | Ask::GetattrCut | Ask::Mount => 1,
-            Ask::SetMode(_) | Ask::Lock => 2,
+            Ask::SetMode(_) | Ask::Cut | Ask::Lock => 2,
             Ask::Lookup(_) => 3,
             Ask::Read => 6,
             Ask::Write(_) | Ask::WriteFar(_) => 7,
@@ -125,6 +127,7 @@ impl Ask {
             Ask::Getattr => add_on(bytes, 32, file, &[]),
             Ask::GetattrCut => add_on(bytes, 31, file, &[]),
             Ask::SetMode(mode) => add_on(bytes, 32, file, &[1, *mode, 0, 0, 0, 0, 0, 0]),
+            Ask::Cut => add_on(bytes, 32, file, &[0, 0, 0, 1, 0, 0, 0, 0, 0]),
             Ask::Read => add_on(bytes, 32, file, &[0, 0, 4]),
             Ask::Write(word) => add_on(bytes, 32, file, &[0, 0, 4, 2, 4, *word]),
             Ask::WriteFar(times) => add_on(bytes, 32, file, &[0, *times << 21, 4, 2, 4, 1]),

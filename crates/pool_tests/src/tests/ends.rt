@@ -1,33 +1,43 @@
 //! The end of an era, and of a pool.
 
-use super::buried::sweeps;
 use super::callers::{Caller, OK, Told};
 use super::calls::Ask;
 use super::pools::{Course, Runs, in_pool};
 use super::rows::{Row, Rows, Want, X, alone, follow};
 use nfs_engine::{Book, Era};
-use nfs_pool::{Ended, EraRoom, FinishError, Naming, Pool, Seat};
+use nfs_pool::{EraEnd, FinishError, Naming, Pool, Seat};
 use std::alloc::AllocError;
 use std::sync::ledger::Ledger;
+
+/// How many records an era has that ends by itself.
+const RECORDS: u64 = 2;
 
 /// How a pool comes to its end.
 #[derive(Clone, Copy)]
 pub(super) enum End {
     /// With all its seats.
     Finished,
-    /// Not without its last seat, which has receipts. All is handed back, and it ends with that seat.
+    /// Not without its last seat, which made commits. All is handed back, and it ends with that seat.
     SeatLeftOut,
-    /// Behind a second era: numbers go on, and so do replies that are kept.
+    /// After a second era: numbers go on, and so do replies that are kept.
     EraTurned,
-    /// Behind a second era, in the room that the first one left. In a room for no seat the first one does not end.
-    RoomLeft,
-    /// Its receipts are not asked for.
+    /// After eras of `RECORDS` records that ended by themselves: so many records.
+    ErasPassed(u64),
+    /// Its seats are not asked for.
     Stopped,
-    /// Behind as many eras as what a large file left wants to go.
-    Swept,
 }
 
-/// Whether the pool ends so, behind so many records.
+impl End {
+    /// How its eras end.
+    pub(super) fn of_era(&self) -> EraEnd {
+        match self {
+            End::ErasPassed(_) => EraEnd::ByItself,
+            _ => EraEnd::ByCaller,
+        }
+    }
+}
+
+/// Whether the pool ends so, after so many records.
 pub(super) fn ends_so<L: Ledger + Naming, R: Runs>(
     rt: &R,
     pool: Pool<L>,
@@ -39,14 +49,15 @@ pub(super) fn ends_so<L: Ledger + Naming, R: Runs>(
         End::Finished => finishes(rt, pool, seats, 0, records),
         End::SeatLeftOut => finishes_with_all(rt, pool, seats, records),
         End::EraTurned => turns_era(rt, pool, seats, records),
-        End::RoomLeft => leaves_room(rt, pool, seats, records),
+        End::ErasPassed(before) => {
+            let passed = pool.eras(rt) == before / RECORDS;
+            finishes(rt, pool, seats, before, records.wrapping_sub(before)) && passed
+        }
         End::Stopped => stops(rt, pool, seats, records),
-        End::Swept => sweeps(rt, pool, seats),
     }
 }
 
-/// Whether the pool ends with the records behind this one, so many, each of which has its receipt; no call is in
-/// progress then.
+/// Whether the pool ends with the records after this one, so many; no call is in progress then.
 fn finishes<L: Ledger + Naming, R: Runs>(
     rt: &R,
     pool: Pool<L>,
@@ -54,7 +65,7 @@ fn finishes<L: Ledger + Naming, R: Runs>(
     before: u64,
     records: u64,
 ) -> bool {
-    match finish(rt, pool, seats) {
+    match pool.finish(rt, seats) {
         Ok((era, book)) => {
             let over = has_records(&era, before, records) && is_at_rest(&book, 0);
             drop(era);
@@ -68,26 +79,15 @@ fn finishes<L: Ledger + Naming, R: Runs>(
     }
 }
 
-/// Ends the pool, if need be by a second try.
-fn finish<L: Ledger + Naming, R: Runs>(
-    rt: &R,
-    pool: Pool<L>,
-    seats: Vec<Seat<L>>,
-) -> Result<(Era, Book), (FinishError, Pool<L>, Vec<Seat<L>>)> {
-    match pool.finish(rt.alloc(), seats) {
-        Ok(ended) => Ok(ended),
-        Err((_, pool, seats)) => pool.finish(rt.alloc(), seats),
-    }
-}
-
-/// Whether the era has so many records behind this one.
+/// Whether the era has so many records after this one.
 fn has_records(era: &Era, before: u64, records: u64) -> bool {
-    era.before == before && era.records.len() as u64 == records
+    era.before() == before && era.count() == records
 }
 
 /// Whether the book has so many records, and no call is in progress.
 fn is_at_rest(book: &Book, records: u64) -> bool {
-    book.living() == 0 && book.executed().len() as u64 == records
+    let (count, _) = book.era_size();
+    book.living() == 0 && count == records
 }
 
 /// Whether the pool is stopped with so many records. It has no message: no call of these tests brings one.
@@ -121,7 +121,7 @@ fn finishes_with_all<L: Ledger + Naming, R: Runs>(
 ) -> bool {
     let mut seats = seats;
     let left_out = seats.pop();
-    match missing(pool.finish(rt.alloc(), seats)) {
+    match missing(pool.finish(rt, seats)) {
         Some((pool, seats)) => finishes(rt, pool, with_seat(seats, left_out), 0, records),
         None => {
             drop(left_out);
@@ -130,7 +130,7 @@ fn finishes_with_all<L: Ledger + Naming, R: Runs>(
     }
 }
 
-/// What is handed back where a seat is missing; none where it ended, or did not for another reason.
+/// What is handed back where a seat is missing; none where it ended.
 fn missing<L: Ledger + Naming>(
     ended: Result<(Era, Book), (FinishError, Pool<L>, Vec<Seat<L>>)>,
 ) -> Option<(Pool<L>, Vec<Seat<L>>)> {
@@ -140,23 +140,20 @@ fn missing<L: Ledger + Naming>(
             None
         }
         Err((FinishError::Missing, pool, seats)) => Some((pool, seats)),
-        Err(back) => {
-            drop(back);
-            None
-        }
     }
 }
 
-/// The seats, and this one.
+/// The seats, and this one, the last first.
 fn with_seat<L: Ledger + Naming>(seats: Vec<Seat<L>>, seat: Option<Seat<L>>) -> Vec<Seat<L>> {
     let mut seats = seats;
     if let Some(seat) = seat {
         drop(seats.push(seat));
     }
+    seats.reverse();
     seats
 }
 
-/// Whether the full era ends, and the pool behind the next one.
+/// Whether the full era ends, and the pool after the next one.
 fn turns_era<L: Ledger + Naming, R: Runs>(
     rt: &R,
     pool: Pool<L>,
@@ -164,7 +161,7 @@ fn turns_era<L: Ledger + Naming, R: Runs>(
     records: u64,
 ) -> bool {
     let mut pool = pool;
-    match turn_era(rt, &mut pool, seats) {
+    match pool.turn_era(rt, seats) {
         Ok((era, seats)) => {
             let turned = has_records(&era, 0, records);
             drop(era);
@@ -179,19 +176,7 @@ fn turns_era<L: Ledger + Naming, R: Runs>(
     }
 }
 
-/// Ends the era, if need be by a second try.
-fn turn_era<L: Ledger + Naming, R: Runs>(
-    rt: &R,
-    pool: &mut Pool<L>,
-    seats: Vec<Seat<L>>,
-) -> Result<(Era, Vec<Seat<L>>), (FinishError, Vec<Seat<L>>)> {
-    match pool.turn_era(rt.alloc(), seats) {
-        Ok(turned) => Ok(turned),
-        Err((_, seats)) => pool.turn_era(rt.alloc(), seats),
-    }
-}
-
-/// Whether the second era goes as it has to, behind so many records, the last of which comes again.
+/// Whether the second era goes as it has to, after so many records, the last of which comes again.
 fn goes_on<L: Ledger + Naming, R: Runs>(
     rt: &R,
     pool: Pool<L>,
@@ -204,128 +189,6 @@ fn goes_on<L: Ledger + Naming, R: Runs>(
         None => 0,
     };
     finishes(rt, pool, seats, before, executed)
-}
-
-/// Whether the era and the next one end in one room, and the pool behind them.
-fn leaves_room<L: Ledger + Naming, R: Runs>(
-    rt: &R,
-    pool: Pool<L>,
-    seats: Vec<Seat<L>>,
-    records: u64,
-) -> bool {
-    let mut pool = pool;
-    let ended = end_in_one_room(rt, &mut pool, seats, records);
-    let book = pool.end();
-    let over = is_at_rest(&book, 0);
-    drop(book);
-    ended && over
-}
-
-/// Whether the era and the next one end in one room, and the first one not without it.
-fn end_in_one_room<L: Ledger + Naming, R: Runs>(
-    rt: &R,
-    pool: &mut Pool<L>,
-    seats: Vec<Seat<L>>,
-    records: u64,
-) -> bool {
-    let count = seats.len();
-    let Some(seats) = stays_without_room(rt, pool, seats) else {
-        return false;
-    };
-    let Some((seats, room)) = ends_in(rt, pool, seats, room_for(rt, count), 0, records) else {
-        return false;
-    };
-    let mut seats = seats;
-    let executed = match seats.first_mut() {
-        Some(seat) => follow(&mut Caller::new(rt, pool, seat), SECOND_ERA, records),
-        None => 0,
-    };
-    let left = ends_in(rt, pool, seats, Ok(room), records, executed);
-    let ended = left.is_some();
-    drop(left);
-    ended && executed == 1
-}
-
-/// Room for so many seats, if need be by a second try.
-pub(super) fn room_for<R: Runs>(rt: &R, count: usize) -> Result<EraRoom, AllocError> {
-    match EraRoom::new(rt.alloc(), count) {
-        Ok(room) => Ok(room),
-        Err(AllocError) => EraRoom::new(rt.alloc(), count),
-    }
-}
-
-/// The seats, where the era does not end in a room for none.
-fn stays_without_room<L: Ledger + Naming, R: Runs>(
-    rt: &R,
-    pool: &mut Pool<L>,
-    seats: Vec<Seat<L>>,
-) -> Option<Vec<Seat<L>>> {
-    match room_for(rt, 0) {
-        Ok(none) => match pool.next_era(rt.alloc(), seats, none) {
-            Ok((ended, seats)) => {
-                drop(ended.compare());
-                drop(seats);
-                None
-            }
-            Err((seats, none)) => {
-                drop(none);
-                Some(seats)
-            }
-        },
-        Err(_) => {
-            drop(seats);
-            None
-        }
-    }
-}
-
-/// The next seats and the room, where the era ends in it with so many records behind this one.
-fn ends_in<L: Ledger + Naming, R: Runs>(
-    rt: &R,
-    pool: &mut Pool<L>,
-    seats: Vec<Seat<L>>,
-    room: Result<EraRoom, AllocError>,
-    before: u64,
-    records: u64,
-) -> Option<(Vec<Seat<L>>, EraRoom)> {
-    match room {
-        Ok(room) => match pool.next_era(rt.alloc(), seats, room) {
-            Ok((ended, seats)) => match compared(ended, before, records) {
-                Some(room) => Some((seats, room)),
-                None => {
-                    drop(seats);
-                    None
-                }
-            },
-            Err(back) => {
-                drop(back);
-                None
-            }
-        },
-        Err(_) => {
-            drop(seats);
-            None
-        }
-    }
-}
-
-/// The room of an era that is over, where its receipts tell so many records behind this one.
-fn compared(ended: Ended, before: u64, records: u64) -> Option<EraRoom> {
-    match ended.compare() {
-        Ok((era, room)) => {
-            let told = has_records(&era, before, records);
-            drop(era);
-            if told {
-                return Some(room);
-            }
-            drop(room);
-            None
-        }
-        Err(back) => {
-            drop(back);
-            None
-        }
-    }
 }
 
 const FIRST_ERA: &[Row] = &[
@@ -356,18 +219,26 @@ fn a_full_era_is_followed_by_another(rt: HostRuntime) -> Result<(), AllocError> 
     in_pool(&rt, course, &part)
 }
 
-/// The next era ends in the room that the first one left.
+const MANY_ERAS: &[Row] = &[
+    (1, Ask::Create(X), Want::Makes),
+    (2, Ask::Remove(X), Want::Is(OK)),
+    (3, Ask::Create(X), Want::Makes),
+    (4, Ask::Getattr, Want::Is(OK)),
+    (5, Ask::Remove(X), Want::Is(OK)),
+];
+
+/// Eras of two records that end by themselves are never full: the third call and the fifth begin one.
 #[test]
-fn an_era_ends_in_the_room_of_the_one_before_it(rt: HostRuntime) -> Result<(), AllocError> {
+fn eras_end_by_themselves(rt: HostRuntime) -> Result<(), AllocError> {
     let course = Course {
         seats: 2,
-        era_records: 2,
-        calls: 2,
-        end: End::RoomLeft,
+        era_records: RECORDS,
+        calls: 5,
+        end: End::ErasPassed(4),
     };
     let part = Rows {
-        caller: 0,
-        rows: FIRST_ERA,
+        caller: 1,
+        rows: MANY_ERAS,
     };
     in_pool(&rt, course, &part)
 }

@@ -10,12 +10,12 @@ use nfs_engine::{
 };
 use nfs_objects::{Addr, Mode};
 use nfs_pool::{
-    Gate, Naming, NotedTxn, Notes, Open, Pool, Step, Steps, Unadmitted, Uncommitted, run_call,
+    Gate, Naming, NotedTxn, Notes, Open, Pool, Seat, Step, Steps, Unadmitted, Uncommitted, run_call,
 };
 use std::alloc::{AllocError, Global};
 use std::sync::Wait;
 use std::sync::atomic::{AtomicU64, Ordering};
-use std::sync::ledger::{Ledger, Share};
+use std::sync::ledger::Ledger;
 use std::thread;
 use std::time::Duration;
 
@@ -195,13 +195,12 @@ impl<'a, L: Ledger + Naming> Steps<L> for Counting<'a, L> {
         &self,
         rt: &R,
         alloc: Global,
-        mine: &mut Share<L>,
-        last: u64,
+        seat: &mut Seat<L>,
         finished: Finished,
         notes: &Notes<L>,
     ) -> Result<(Receipt, Release), Uncommitted> {
         self.meeting.committed.fetch_add(1, Ordering::SeqCst);
-        self.pool.commit(rt, alloc, mine, last, finished, notes)
+        self.pool.commit(rt, alloc, seat, finished, notes)
     }
 
     fn release<R: Wait>(&self, rt: &R, release: Release) -> Next {

@@ -8,7 +8,7 @@ use super::holds::all_are_free;
 use bytes::Bytes;
 use nfs_engine::{Config, Engine};
 use nfs_machine::{ExportText, Exports, Limits, Moment};
-use nfs_pool::{Naming, Opened, Pool, Seat};
+use nfs_pool::{EraEnd, History, Naming, Pool, Seat};
 use std::alloc::{AllocError, Global};
 use std::marker::Brand;
 use std::process::Abort;
@@ -70,14 +70,14 @@ fn in_new<R: Runs + Sync, P: Part + Sync>(
 ) -> Result<(u64, bool), AllocError> {
     let engine = opened(rt.alloc(), course.era_records)?;
     let blank = Blank::new(u64::from(course.seats));
-    in_this::<Brand, R, P>(rt, blank, Opened::new(), engine, course, part)
+    in_this::<Brand, R, P>(rt, blank, History::new(), engine, course, part)
 }
 
 /// The same in the pool of this engine.
 fn in_this<L: Ledger + Naming + Send + Sync, R: Runs + Sync, P: Part + Sync>(
     rt: &R,
     blank: Blank,
-    opened: Opened,
+    history: History,
     engine: Engine,
     course: Course,
     part: &P,
@@ -85,15 +85,23 @@ fn in_this<L: Ledger + Naming + Send + Sync, R: Runs + Sync, P: Part + Sync>(
     requires name { blank.name ≡ L.name }
     requires parts { blank.parts ≡ L.parts }
     requires count { blank.parts ≡ course.seats }
-    requires log { opened.seen.book ≡ L.book }
+    requires history { (history.book ≡ L.book) × (history.log ≡ []) }
     requires records { engine.book.records ≡ [] }
 {
-    match Pool::<L>::new(rt.alloc(), blank, opened, engine, course.seats as usize) {
+    let count = course.seats as usize;
+    match Pool::<L>::new(
+        rt.alloc(),
+        blank,
+        history,
+        engine,
+        count,
+        course.end.of_era(),
+    ) {
         Ok((pool, seats)) => {
             let mut seats = seats;
             let calls = act_beside(rt, part, &pool, &mut seats);
             // An era that is full lets no call in that could tell it.
-            if calls < course.era_records {
+            if course.end.of_era() == EraEnd::ByItself || calls < course.era_records {
                 all_are_free(rt, &pool, &mut seats);
             }
             let ended = ends_so(rt, pool, seats, course.end, course.calls);

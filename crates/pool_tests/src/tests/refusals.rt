@@ -11,13 +11,13 @@ use nfs_engine::{
 };
 use nfs_objects::{Addr, Mode};
 use nfs_pool::{
-    Gate, Naming, NotedTxn, Notes, Open, Pool, PoolError, Reason, Sent, Steps, Unadmitted,
+    Gate, Naming, NotedTxn, Notes, Open, Pool, PoolError, Reason, Seat, Sent, Steps, Unadmitted,
     Uncommitted, run_call,
 };
 use std::alloc::{AllocError, Global};
 use std::sync::Wait;
 use std::sync::atomic::{AtomicU64, Ordering};
-use std::sync::ledger::{Ledger, Share};
+use std::sync::ledger::Ledger;
 
 /// No call of these rows makes as many steps.
 const MOST_STEPS: u64 = 64;
@@ -127,8 +127,7 @@ impl<'a, L: Ledger + Naming> Steps<L> for Refusing<'a, L> {
         &self,
         rt: &R,
         alloc: Global,
-        mine: &mut Share<L>,
-        last: u64,
+        seat: &mut Seat<L>,
         finished: Finished,
         notes: &Notes<L>,
     ) -> Result<(Receipt, Release), Uncommitted> {
@@ -138,7 +137,7 @@ impl<'a, L: Ledger + Naming> Steps<L> for Refusing<'a, L> {
                 reason: Reason::Memory,
             });
         }
-        self.pool.commit(rt, alloc, mine, last, finished, notes)
+        self.pool.commit(rt, alloc, seat, finished, notes)
     }
 
     fn release<R: Wait>(&self, rt: &R, release: Release) -> Next {
@@ -197,15 +196,15 @@ fn call_at_last<L: Ledger + Naming, R: Runs>(
     xid: u32,
     ask: Ask,
 ) -> Told {
-    let receipts = caller.seat.receipts().len();
+    let made = caller.seat.made();
     for number in 1..MOST_STEPS {
         let (has_refused, told) = call_refused(caller, xid, ask, number);
         if told != Told::Refused {
             assert!(caller.rt; !has_refused, "{xid} goes on without its step {number}");
             return told;
         }
-        let left = caller.seat.receipts().len();
-        assert_eq!(caller.rt; left, receipts, "{xid} without its step {number}");
+        let left = caller.seat.made();
+        assert_eq!(caller.rt; left, made, "{xid} without its step {number}");
     }
     Told::Refused
 }

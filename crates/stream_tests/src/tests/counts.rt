@@ -136,24 +136,15 @@ struct Row {
     is_umntall: bool,
 }
 
-/// What the first seat executed.
-const FIRST_SEAT: [Row; 2] = [
-    Row {
-        number: 2,
-        host: "one",
-        is_umntall: true,
-    },
-    Row {
-        number: 4,
-        host: "one",
-        is_umntall: true,
-    },
-];
-
-/// What the second one executed.
-const SECOND_SEAT: [Row; 3] = [
+/// What was executed, in order.
+const EXECUTED: [Row; 5] = [
     Row {
         number: 1,
+        host: "one",
+        is_umntall: true,
+    },
+    Row {
+        number: 2,
         host: "one",
         is_umntall: true,
     },
@@ -163,19 +154,16 @@ const SECOND_SEAT: [Row; 3] = [
         is_umntall: true,
     },
     Row {
+        number: 4,
+        host: "one",
+        is_umntall: true,
+    },
+    Row {
         number: 5,
         host: "one",
         is_umntall: false,
     },
 ];
-
-/// The receipts of both seats.
-fn both_seats(alloc: Global) -> Result<Vec<Vec<Receipt>>, Fail> {
-    let mut seats = Vec::with_capacity(alloc, 2)?;
-    seats.push(receipts_of(alloc, &FIRST_SEAT)?)?;
-    seats.push(receipts_of(alloc, &SECOND_SEAT)?)?;
-    Ok(seats)
-}
 
 /// The receipts of calls that were executed.
 fn receipts_of(alloc: Global, rows: &[Row]) -> Result<Vec<Receipt>, Fail> {
@@ -252,11 +240,13 @@ fn zeros(alloc: Global, count: u64) -> Result<Bytes, AllocError> {
     Bytes::copy_from_slice(alloc, &bytes)
 }
 
-/// What is told of an era in which these receipts were given, where so many replies are kept of each host.
-fn told(alloc: Global, capacity: usize, seats: &[Vec<Receipt>]) -> Result<String, AllocError> {
+/// What is told once these receipts were given, where so many replies are kept of each host.
+fn told(alloc: Global, capacity: usize, receipts: &[Receipt]) -> Result<String, AllocError> {
     let counters = Counters::new(alloc)?;
     let mut tally = Tally::new(alloc, capacity, &[7; 16]);
-    tally.add_era(alloc, seats);
+    for receipt in receipts {
+        tally.add(alloc, receipt);
+    }
     tally.tell(&counters);
     drop(tally);
     counters.words(alloc)
@@ -266,8 +256,8 @@ fn told(alloc: Global, capacity: usize, seats: &[Vec<Receipt>]) -> Result<String
 /// Nothing is kept of the fifth, which changes nothing.
 #[test]
 fn the_newest_replies_of_each_host_are_kept(rt: HostRuntime) -> Result<(), Fail> {
-    let seats = both_seats(rt.alloc())?;
-    let words = told(rt.alloc(), 2, &seats)?;
+    let receipts = receipts_of(rt.alloc(), &EXECUTED)?;
+    let words = told(rt.alloc(), 2, &receipts)?;
     assert!(rt;
         words
             .as_str()

@@ -41,12 +41,6 @@ fn each_exit_has_a_status_and_a_line(rt: HostRuntime) -> Result<(), Fail> {
     is_told(&rt, &Exit::NoRandomBytes, 1, "nfsd: no random bytes")?;
     is_told(
         &rt,
-        &Exit::Receipts,
-        1,
-        "nfsd: a record without its receipt",
-    )?;
-    is_told(
-        &rt,
         &Exit::StandardStream,
         1,
         "nfsd: standard stream failed",

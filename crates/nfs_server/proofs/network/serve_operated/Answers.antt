@@ -2,8 +2,6 @@
 use Rattle.std.proofs.Common.{subst, sym}
 use Rattle.nfs_engine.specs.Opening.{IsLimit}
 use Rattle.nfs_engine.specs.declared.opening.Config.{Config}
-use Rattle.nfs_server.specs.CommandLine.{HasWorkers}
-use Rattle.nfs_server.specs.declared.options.Transport.{Transport}
 use Rattle.nfs_server.proofs.network.serve_operated.Goals as goal
 
 pub serve_from-requires-clause-capacity : goal.serve_from-requires-clause-capacity
@@ -13,8 +11,3 @@ serve_from-requires-clause-capacity g c κs lives =
 pub serve_from-requires-clause-era : goal.serve_from-requires-clause-era
 serve_from-requires-clause-era g c κs lives =
     subst (λ (config : Config). IsLimit config.era_records) (sym c.config_of-config.ensures.config) c.requires.era
-
-pub serve_from-requires-clause-workers : goal.serve_from-requires-clause-workers
-serve_from-requires-clause-workers g c κs lives =
-    (subst (λ (t : Transport). HasWorkers t) c.in-Network.is
-    (subst (λ (t : Transport). HasWorkers t) (sym c.config_of-config.ensures.transport) c.requires.network)).1

@@ -1,9 +1,9 @@
--- A dispatcher, the exports, permits and the operator go to their own thread.
+-- A dispatcher, the exports and the operator go to their own thread.
 use denote.Param.{copied, param}
 use denote.Param.Send.{sendable}
 use Rattle.std.proofs.Crossing.{crosses}
 use Rattle.nfs_machine.proofs.exports.Exports.TheSendSync as exports
-use Rattle.nfs_server.proofs.CrossingLemmas.{dispatcher_send, permits_send}
+use Rattle.nfs_server.proofs.CrossingLemmas.{dispatcher_send}
 use Rattle.nfs_server.proofs.network.start_operator.Goals as goal
 
 pub spawn-requires-send-F : goal.spawn-requires-send-F
@@ -13,5 +13,4 @@ spawn-requires-send-F g c κs within =
     let dispatcher =
     dispatcher_send (param 0 g.row.L) g.L.Ledger g.L.Naming c.type_bounds.send-L c.type_bounds.sync-L (copied 1 g.row.R)
     c.type_bounds.send-R in
-    let permits = permits_send (param 0 g.row.L) g.L.Ledger g.L.Naming c.type_bounds.send-L c.type_bounds.sync-L in
     search (sendable, crosses, exports.the_send) depth 20

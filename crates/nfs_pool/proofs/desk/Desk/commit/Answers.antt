@@ -1,19 +1,47 @@
-use Rattle.std.proofs.Common.{◌≡◌, ◌∙◌, List, ap, map, subst, sym}
+use Rattle.std.proofs.Common.{◌≡◌, ◌∙◌, List, ap, map, subst, sym, ◌++◌, ◌∷◌, [], arith, length, length-append}
 use Rattle.nfs_objects.specs.Store.{with_writes}
 use Rattle.nfs_objects.specs.Values.{write_value}
 use Rattle.nfs_objects.specs.declared.change.Write.{Write}
-use Rattle.nfs_engine.specs.Book.{store_in}
-use Rattle.nfs_stamps.specs.Marking.{Writes}
+use Rattle.nfs_engine.specs.Book.{BookValue, store_in}
+use Rattle.nfs_engine.specs.Commits.{record_of}
+use Rattle.nfs_history.specs.Entries.{EntryValue, commit_entry, commits_in}
+use Rattle.nfs_history.specs.Marking.{Writes}
+use Rattle.nfs_pool.specs.Desks.{IsHistoryOf}
+use Rattle.nfs_pool.proofs.HistoryLemmas.{commits_more, history_more, made_of}
 use Rattle.nfs_pool.proofs.MarkedWritesLemmas.{makes-store}
 use Rattle.nfs_pool.proofs.desk.Desk.commit.Goals as goal
 
-pub invariant_of-self-in-Ok-clause-marked : goal.invariant_of-self-in-Ok-clause-marked
-invariant_of-self-in-Ok-clause-marked g c =
-    let old = store_in c.args.self.now.book in
+pub invariant_of-self-2 : goal.invariant_of-self-2
+invariant_of-self-2 g c =
+    let inv = c.self.invariant in
+    let d = c.self.inside in
+    let n = c.args.seat.now.number in
+    let log = d.history.log in
+    let made = c.in-Ok.committed in
+    let entered = c.enter-stamp.ensures in
+    let commits = c.in-Ok.ensures.commits in
+    let old = store_in d.book in
     let new = store_in c.commit.new.self in
     let writes = map write_value c.deref.result.now in
     let same : writes ≡ c.args.finished.done.change.writes =
-    ap (λ (ws : List Write). map write_value ws) c.deref.ensures.value ∙ c.in-Ok.ensures.leaves.writes in
-    c.mark_written.ensures old.at new.at c.args.self.now.marked
-    (makes-store old new writes (subst (λ (ws : Writes). new ≡ with_writes old ws) (sym same)
-    c.in-Ok.ensures.commits.store))
+    ap (λ (ws : List Write). map write_value ws) c.deref.ensures.value ∙ c.in-Ok.ensures.leaves.writes in (
+      subst (λ (l : List EntryValue). IsHistoryOf c.commit.new.self.before c.commit.new.self.records l)
+          (sym entered.added)
+          (subst (λ (b : BookValue). IsHistoryOf b.before b.records (log ++ commit_entry n made ∷ []))
+          (sym commits.rest)
+          (history_more n made d.book.before d.book.records log (record_of c.args.finished) inv.0
+          c.in-Ok.ensures.receipt.executed)),
+      entered.book ∙ inv.1,
+      omega (
+        arith,
+        entered.counted,
+        inv.2,
+        ap (λ (l : List EntryValue). length (commits_in l)) entered.added,
+        ap length (commits_more n made log),
+        length-append (commits_in log) (made_of n made ∷ []),
+      ),
+      inv.3,
+      inv.4,
+      c.mark_written.ensures old.at new.at inv.5
+          (makes-store old new writes (subst (λ (ws : Writes). new ≡ with_writes old ws) (sym same) commits.store)),
+    )

@@ -1,6 +1,6 @@
 use Rattle.std.proofs.Common.{option_copied, sym, ◌∙◌, ap, subst}
 use Rattle.nfs_engine.specs.Shards.{slot_at}
-use Rattle.nfs_stamps.specs.Marking.{Puts, Writes}
+use Rattle.nfs_history.specs.Marking.{Puts, Writes}
 use Rattle.nfs_pool.proofs.marked_shard.MarkedShard.find.Goals as goal
 
 pub returns-in-Some : goal.returns-in-Some

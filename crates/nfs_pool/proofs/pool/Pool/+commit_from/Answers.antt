@@ -1,4 +1,4 @@
-use Rattle.std.proofs.Common.{◌≡◌, map, ap, arith, set, subst, sym, refl, ◌<◌, ◌∙◌, true, ℕ, Some, None, option_copied}
+use Rattle.std.proofs.Common.{◌≡◌, map, ap, arith, set, subst, sym, refl, ◌<◌, ◌∙◌, true, ℕ, Some, None}
 use Rattle.std.proofs.lemmas.Result.{IfOk-weaker}
 use Rattle.std.specs.Cmp.{unsigned_Decides}
 use Rattle.nfs_objects.specs.Values.{write_value, written_at}
@@ -24,8 +24,8 @@ settle-committed-requires-clause-stamp g n c =
     let which = c.make_room.new.self.shard.index in
     let at : which ≡ c.next_written-index.result =
     ap (λ (s : ShardValue). s.index) c.make_room.ensures ∙ (c.if-not-may_settle.ensures refl).0 in
-    stamps-of (Some which) (option_copied c.args.terms.now.stamp) c.args.finished.done.change.writes
-    (map write_value c.in-Ok.committed.writes.items) c.requires.stamp
+    stamps-of (Some which) c.in-Ok.stamp c.args.finished.done.change.writes
+    (map write_value c.in-Ok.committed.writes.items) c.in-Ok.ensures.stamp
     (λ a here. c.in-Ok.ensures.writes a (omega (arith, at, (unsigned_Decides (shard_of a) which).0 here)))
 
 pub returns-in-Ok-clause-places : goal.returns-in-Ok-clause-places

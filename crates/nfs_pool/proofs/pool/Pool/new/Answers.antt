@@ -1,21 +1,31 @@
-use Rattle.std.proofs.Common.{◌<◌, ◌∙◌, arith, length, rules, subst, sym}
-use Rattle.std.proofs.lemmas.List.{get_or_read}
-use Rattle.nfs_engine.specs.Engine.{no_shard}
-use Rattle.nfs_engine.specs.Shards.{ShardValue}
+use Rattle.std.proofs.Common.{◌∙◌, List, arith, refl, subst, sym}
+use Rattle.nfs_objects.specs.declared.address.Addr.TheVariants.{Exports, Mounts}
+use Rattle.nfs_engine.specs.Book.{BookValue, store_in}
+use Rattle.nfs_engine.specs.Engine.{shard_among}
+use Rattle.nfs_engine.specs.Shards.{ShardValue, slot_at}
+use Rattle.nfs_history.specs.Marking.{AreMarks}
 use Rattle.nfs_pool.specs.Marked.{AreMarksIn}
-use Rattle.nfs_pool.proofs.CountsLemmas.{counts-none}
+use Rattle.nfs_pool.proofs.OpeningMarksLemmas.{opened-marks, opening-stamp}
 use Rattle.nfs_pool.proofs.pool.Pool.new.Goals as goal
+
+pub new-desk-requires-clause-marked : goal.new-desk-requires-clause-marked
+new-desk-requires-clause-marked g c =
+    let b = c.args.engine.book in
+    let opening = c.at-opening.ensures ∙ opening-stamp b c.args.history.log c.open.new.self.log c.known-known.result
+    c.requires.history.1 c.if-not-open.ensures.added c.known-known.ensures in
+    subst (λ (x : BookValue). AreMarks c.mark_opening-marks.result (store_in x).at) (sym c.into_parts-book.ensures.0)
+    (opened-marks b c.mark_opening-marks.result c.at-opening.result (store_in b).at c.mark_opening-marks.ensures
+    opening refl refl)
 
 pub lock_all-requires : goal.lock_all-requires
 lock_all-requires g c =
-    let shards = c.into_parts-book.result.1 in
-    let within : 0 < length shards = omega arith in (
-      search rules,
-      subst (λ (s : ShardValue). AreMarksIn c.mark_opening-marks.result.1 s)
-          (sym c.index-shards-0.is
-          ∙ get_or_read shards 0 c.index-shards-0.result within c.index-shards-0.is no_shard)
-          c.mark_opening-marks.ensures.shard,
+    let b = c.args.engine.book in
+    let opening = c.at-opening.ensures ∙ opening-stamp b c.args.history.log c.open.new.self.log c.known-known.result
+    c.requires.history.1 c.if-not-open.ensures.added c.known-known.ensures in (
+      omega arith,
+      subst (λ (shards : List ShardValue). AreMarksIn c.mark_opening-first.result (shard_among shards 0))
+          (sym c.into_parts-book.ensures.1)
+          (opened-marks b c.mark_opening-first.result c.at-opening.result
+          (λ a. (slot_at (shard_among c.args.engine.shards 0) a).object) c.mark_opening-first.ensures opening
+          (c.show_tie.ensures.objects Exports) (c.show_tie.ensures.objects Mounts)),
     )
-
-pub new_seats-requires-clause-none : goal.new_seats-requires-clause-none
-new_seats-requires-clause-none g c = counts-none c.empty-nothing.new.self.amount (search rules)

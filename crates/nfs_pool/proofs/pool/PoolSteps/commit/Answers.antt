@@ -1,7 +1,6 @@
-use Rattle.std.proofs.Common.{◌≡◌, Option, sym, subst, arith}
-use Rattle.std.specs.Prelude.{IfSome}
+use Rattle.std.proofs.Common.{arith, subst}
 use Rattle.nfs_engine.specs.Engine.{ArePlaces}
-use Rattle.nfs_stamps.specs.Marking.{Writes}
+use Rattle.nfs_history.specs.Marking.{Writes}
 use Rattle.nfs_pool.proofs.CommitLetsGoLemmas.{all_let_go}
 use Rattle.nfs_pool.proofs.pool.PoolSteps.commit.Goals as goal
 
@@ -9,20 +8,11 @@ pub commit_from-requires : goal.commit_from-requires
 commit_from-requires g c = (
   omega arith,
   (
-    c.requires.parts,
+    omega arith,
     (
-      omega arith,
-      (
-        subst (λ (ws : Writes). ArePlaces ws c.written_shards-written.result) c.writes.ensures
-            c.written_shards-written.ensures,
-        (
-          c.requires.notes,
-          subst (λ (o : Option Writes). IfSome o (λ s. s ≡ c.args.finished.done.change.writes))
-              (sym c.as_ref.ensures.value)
-              (subst (λ (ws : Writes). IfSome c.stamp_for-stamp.result (λ s. s ≡ ws)) c.writes-2.ensures
-              c.stamp_for-stamp.ensures),
-        ),
-      ),
+      subst (λ (ws : Writes). ArePlaces ws c.written_shards-written.result) c.writes.ensures
+          c.written_shards-written.ensures,
+      c.requires.notes,
     ),
   ),
 )

@@ -1,13 +1,12 @@
-use Rattle.std.proofs.Common.{◌≡◌, IfErr, IfOk, subst}
+use Rattle.std.proofs.Common.{◌≡◌, IfErr, IfOk, ap, subst, sym, ◌∙◌}
 use Rattle.nfs_machine.specs.Run.{Arrival}
-use Rattle.nfs_server.specs.AnswersTo.{IsAnswerTo, IsTold}
+use Rattle.nfs_server.specs.AnswersTo.{IsAnswerTo, number_told}
 use Rattle.nfs_server.proofs.network.dispatcher.answered.Goals as goal
 
-pub returns-in-Ok : goal.returns-in-Ok
-returns-in-Ok g c = λ n r told back.
-    c.answer_to.ensures n r (subst (λ submitted. IfOk submitted (IsTold n r c.args.seat.now)) c.in-Ok.is told)
-
-pub returns-in-Err : goal.returns-in-Err
-returns-in-Err g c = λ n r told back.
+pub returns-in-Err-clause-answers : goal.returns-in-Err-clause-answers
+returns-in-Err-clause-answers c = λ n r told back.
     subst (λ (x : Arrival). IfOk c.refuse.result (IsAnswerTo n x))
-    (subst (λ submitted. IfErr submitted (λ b. b.received ≡ r)) c.in-Err.is back) (c.refuse.ensures n)
+    (subst (λ submitted. IfErr submitted (λ b. b.received ≡ r)) c.in-Err.is back) (c.refuse.ensures.answers n)
+
+pub returns-in-Err-clause-last : goal.returns-in-Err-clause-last
+returns-in-Err-clause-last c = λ n. c.refuse.ensures.last n ∙ ap (number_told n) (sym c.in-Err.is)

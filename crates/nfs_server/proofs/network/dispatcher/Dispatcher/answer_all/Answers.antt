@@ -9,21 +9,21 @@ use Rattle.nfs_server.proofs.network.dispatcher.Dispatcher.answer_all.Goals.{the
 pub returns-in_default-clause-goes : goal.returns-in_default-clause-goes
 returns-in_default-clause-goes g c = λ unread. rw c.in_default.ensures.none.1 (goes_none _ _ _ unread _)
 
-pub returns-in_err-permit-clause-breaks : goal.returns-in_err-permit-clause-breaks
-returns-in_err-permit-clause-breaks g c =
+pub returns-in_err-is_refused-clause-breaks : goal.returns-in_err-is_refused-clause-breaks
+returns-in_err-is_refused-clause-breaks g c =
     on_err c.from_residual.result
     (λ unread. next_breaks _ _ _ _ _ unread _ _ _ (goes_none _ _ _ unread _) _ c.in-Some.first refl c.next.new.self
-    c.in-Some.ensures.gives c.in-Some.ensures.waits c.in_err-permit.ensures.cuts)
+    c.in-Some.ensures.gives c.in-Some.ensures.waits c.in_err-is_refused.ensures.cuts)
 
 pub records-init : goal.records-init
 records-init g c = (
   λ unread.
       next_goes _ _ _ _ _ unread _ _ _ (goes_none _ _ _ unread _) _ c.in-Some.first refl c.next.new.self
-      c.in-Some.ensures.gives c.in-Some.ensures.waits _ _ c.in_ok-permit.ensures.adds,
-  c.in_ok-permit.ensures.unread,
-  c.in_ok-permit.ensures.host,
-  c.in_ok-permit.ensures.room,
-  given_more _ 0 _ _ _ _ (omega (arith)) c.in-Some.ensures.some c.in_ok-permit.ensures.adds.same,
+      c.in-Some.ensures.gives c.in-Some.ensures.waits _ _ c.in_ok-is_refused.ensures.adds,
+  c.in_ok-is_refused.ensures.unread,
+  c.in_ok-is_refused.ensures.host,
+  c.in_ok-is_refused.ensures.room,
+  given_more _ 0 _ _ _ _ (omega (arith)) c.in-Some.ensures.some c.in_ok-is_refused.ensures.adds.same,
 )
 
 pub records-preserved : goal.records-preserved
@@ -31,20 +31,20 @@ records-preserved g c = (
   λ unread.
       next_goes _ _ _ _ _ unread _ _ _ (c.records.invariant.0 unread) _ c.in-Some-next.message
       c.records.invariant.2 c.next-in-records.new.self c.in-Some-next.ensures.gives c.in-Some-next.ensures.waits _ _
-      c.in_ok-left.ensures.adds,
-  c.in_ok-left.ensures.unread ∙ c.records.invariant.1,
-  c.in_ok-left.ensures.host ∙ c.records.invariant.2,
-  c.in_ok-left.ensures.room,
+      c.in_ok-refused.ensures.adds,
+  c.in_ok-refused.ensures.unread ∙ c.records.invariant.1,
+  c.in_ok-refused.ensures.host ∙ c.records.invariant.2,
+  c.in_ok-refused.ensures.room,
   given_more _ c.records._given _ _ _ _ c.records.invariant.4 c.in-Some-next.ensures.some
-      c.in_ok-left.ensures.adds.same,
+      c.in_ok-refused.ensures.adds.same,
 )
 
-pub returns-in_err-left-clause-breaks : goal.returns-in_err-left-clause-breaks
-returns-in_err-left-clause-breaks g c =
-    on_err c.from_residual-in_err-left.result
+pub returns-in_err-refused-clause-breaks : goal.returns-in_err-refused-clause-breaks
+returns-in_err-refused-clause-breaks g c =
+    on_err c.from_residual-in_err-refused.result
     (λ unread. next_breaks _ _ _ _ _ unread _ _ _ (c.records.invariant.0 unread) _ c.in-Some-next.message
     c.records.invariant.2 c.next-in-records.new.self c.in-Some-next.ensures.gives c.in-Some-next.ensures.waits
-    c.in_err-left.ensures.cuts)
+    c.in_err-refused.ensures.cuts)
 
 pub returns-in_err-send-clause-breaks : goal.returns-in_err-send-clause-breaks
 returns-in_err-send-clause-breaks g c =

@@ -4,7 +4,7 @@ use Rattle.nfs_server.proofs.network.dispatcher.Dispatcher.answer_all.Given as g
 
 abbrev pub invariant-records : goal.invariant-records
 invariant-records g l =
-    ((unread : Option (List ℕ)) → GoesOn l.fn.link.host l.fn.self.last l.self.last l.fn.connection
+    ((unread : Option (List ℕ)) → GoesOn l.fn.link.host l.fn.self.seat.last l.self.seat.last l.fn.connection
     l.connection unread unread (g.P.Peer.written l.fn.link.peer) (g.P.Peer.written l.link.peer))
     × (g.P.Peer.unread l.link.peer ≡ g.P.Peer.unread l.fn.link.peer)
     × (l.link.host ≡ l.fn.link.host)

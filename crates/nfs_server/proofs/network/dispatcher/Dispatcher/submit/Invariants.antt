@@ -1,8 +1,6 @@
-use Rattle.std.proofs.Common.{◌≡◌, ◌≤◌, ◌<◌, ◌⊎◌}
+use Rattle.std.proofs.Common.{◌≡◌}
 use Rattle.nfs_server.proofs.network.dispatcher.Dispatcher.submit.Given as goal
 
-abbrev pub invariant-eras : goal.invariant-eras
-invariant-eras g l =
-    (l.arrival.received ≡ l.fn.arrival.received)
-    × (l.fn.permit.turns ≤ l.permit.turns)
-    × ((l.turns ≡ 0) ⊎ (l.fn.permit.turns < l.permit.turns))
+abbrev pub invariant-tries : goal.invariant-tries
+invariant-tries g l =
+    (l.arrival.received ≡ l.fn.arrival.received) × (l.self.seat.last ≡ l.fn.self.seat.last)

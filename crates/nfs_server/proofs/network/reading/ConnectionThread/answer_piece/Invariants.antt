@@ -5,7 +5,7 @@ use Rattle.nfs_server.proofs.network.reading.ConnectionThread.answer_piece.Given
 
 abbrev pub invariant-batches : goal.invariant-batches
 invariant-batches g l =
-    ((unread : Option (List ℕ)) → GoesOn l.initial.self.link.host l.initial.self.dispatcher.last l.self.dispatcher.last
+    ((unread : Option (List ℕ)) → GoesOn l.initial.self.link.host l.initial.self.dispatcher.seat.last l.self.dispatcher.seat.last
     l.initial.connection l.connection unread unread (g.P.Peer.written l.initial.self.link.peer)
     (g.P.Peer.written l.self.link.peer))
     × (g.P.Peer.unread l.self.link.peer ≡ g.P.Peer.unread l.initial.self.link.peer)

@@ -7,4 +7,4 @@ invariant-waits g l =
     Keeps (g.P.Peer.unread l.initial.self.link.peer) (g.P.Peer.unread l.self.link.peer)
     × (g.P.Peer.written l.self.link.peer ≡ g.P.Peer.written l.initial.self.link.peer)
     × (l.self.link.host ≡ l.initial.self.link.host)
-    × (l.self.dispatcher.last ≡ l.initial.self.dispatcher.last)
+    × (l.self.dispatcher.seat.last ≡ l.initial.self.dispatcher.seat.last)

@@ -5,7 +5,7 @@ use Rattle.nfs_server.proofs.network.reading.ConnectionThread.read_pieces.Given 
 
 abbrev pub invariant-pieces : goal.invariant-pieces
 invariant-pieces g l =
-    GoesOn l.fn.self.link.host l.fn.self.dispatcher.last l.self.dispatcher.last l.fn.connection l.connection
+    GoesOn l.fn.self.link.host l.fn.self.dispatcher.seat.last l.self.dispatcher.seat.last l.fn.connection l.connection
     (g.P.Peer.unread l.fn.self.link.peer) (g.P.Peer.unread l.self.link.peer)
     (g.P.Peer.written l.fn.self.link.peer) (g.P.Peer.written l.self.link.peer)
     × ((l.connection.records.queued ≡ []) ⊎ (l.connection ≡ l.fn.connection))
