@@ -55,9 +55,13 @@ PIECE = 16  # calls that are sent at once while they are measured
 FEW = 50  # the last of those that wait, which are counted
 SHORT = 100  # the records of an era where one call is long, so that an era ends meanwhile
 GOING = 5  # seconds in which 1 GiB goes
+THIN = 512  # the map pages of a file that has four bytes in each
+FREEING = 64  # the callers whose locks are freed at once
+READERS = 4  # the connections over which READs of 64 KiB go on beside a use
 LATE = 12  # a client that is not let in by then gives up
 ARENAS = "MALLOC_ARENA_MAX"  # for how many threads the C library keeps memory apart
 CALL, WAIT = 20.0, 25.0  # the bounds of a call, and of the longest wait beside it, in milliseconds
+MEDIAN = 0.3  # the bound of the median of the waits where READs go on beside, in milliseconds
 LONG = 1024  # the bytes of a long owner of a lock
 TESTERS = 4  # the peers that test locks at once
 DEAF = 64  # READs of 64 KiB that a peer asks who takes no answer
@@ -458,6 +462,46 @@ def goes(blocks):
     return play
 
 
+def thinly_filled(count):
+    """Files, so many, with four bytes in each of their map pages, and their REMOVEs; then what they left goes, while
+    GETATTRs wait."""
+
+    def play(peer):
+        names = [b"thin%d" % number for number in range(count)]
+        files = peer.made(names)
+        begin = time.monotonic()
+        for file in files:
+            peer.prepare(data.write(file, next(peer.xids), place * BLOCK * THIN, b"xxxx") for place in range(THIN))
+        peer.notes.append(f"made in {time.monotonic() - begin:.1f} s")
+        with peer.counted() as removed:
+            removed.calls = peer.prepare(nfsd.remove(next(peer.xids), name) for name in names)
+        with peer.counted() as gone:
+            time.sleep(GOING)
+            gone.calls = count * THIN
+        return [removed, gone]
+
+    return play
+
+
+def freed_at_once(callers, files):
+    """FREE_ALLs, so many at once, each of a caller who has a range of each of so many files."""
+
+    def play(peer):
+        made = peer.made(b"file%d" % number for number in range(files))
+        for caller in range(callers):
+            peer.prepare((locking.locking(next(peer.xids), file, caller, caller, 1) for file in made), locking.STATUS)
+        connections = [network.Connection(peer.server.port) for _ in range(callers)]
+        with peer.counted() as tally:
+            for caller, connection in enumerate(connections):
+                connection.socket.sendall(locking.freeing(next(peer.xids), caller))
+            for connection in connections:
+                connection.reply()
+            tally.calls = callers
+        return [tally]
+
+    return play
+
+
 def removes(xid, _):
     return nfsd.remove(xid, b"file")
 
@@ -530,6 +574,34 @@ def reading(peer, file):
         return PIECE
 
     return peer.repeat(turn)
+
+
+def read_on(port, file, connections):
+    """READs of 64 KiB of a file over so many connections, without an end."""
+    connections = [network.Connection(port) for _ in range(connections)]
+    record = data.read(file, 1, 0, 65_536)
+    while True:
+        for connection in connections:
+            connection.socket.sendall(record)
+        for connection in connections:
+            connection.answer(b"", data.DATA + 65_536)
+
+
+@contextlib.contextmanager
+def read_beside(peer, connections):
+    """READs of 64 KiB go on over so many connections, of a process of their own."""
+    if not connections:
+        yield
+        return
+    file = peer.connection.make(b"read")
+    peer.prepare([data.write(file, next(peer.xids), 0, bytes(65_536))])
+    reader = multiprocessing.Process(target=read_on, args=(peer.server.port, file, connections), daemon=True)
+    reader.start()
+    try:
+        yield
+    finally:
+        reader.terminate()
+        reader.join()
 
 
 def reads(peer):
@@ -667,7 +739,7 @@ class Use:
         self.lines, self.play = lines, play
         self.export, self.words, self.arenas = export, ["--era", str(era), *words], arenas
         self.asked, self.kind = others.get("asked", root), others.get("kind", Asker)
-        self.bounds = others.get("bounds", (CALL, WAIT))
+        self.bounds, self.beside = others.get("bounds", (CALL, WAIT)), others.get("beside", 0)
 
     def tallies(self, program, given):
         """What was counted of this program, and what there is to say of it."""
@@ -677,15 +749,17 @@ class Use:
         with network.Server(program, *self.words, export=self.export) as server:
             peer = Peer(server, self, given)
             try:
-                return self.play(peer), peer.notes
+                with read_beside(peer, self.beside):
+                    return self.play(peer), peer.notes
             finally:
                 peer.close()
 
     def is_within(self, tallies):
         """Whether what a call took, and the longest wait, are within their bounds, and nothing was lost."""
         call, wait = self.bounds
-        took, _, waited = over(tallies)
-        return not (took > call or waited > wait or any(tally.lost for tally in tallies))
+        took, median, waited = over(tallies)
+        is_late = waited > wait or self.beside and median > MEDIAN
+        return not (took > call or is_late or any(tally.lost for tally in tallies))
 
 
 def hosts(count):
@@ -755,6 +829,24 @@ def uses_of_data(part):
     yield Use(lines, removed_when_full(blocks), era=SHORT, arenas="1")
 
 
+def uses_beside_reads(part):
+    """Large uses beside a few connections of READs of 64 KiB: what a call takes is not bounded, for theirs are in it."""
+    words = {"bounds": (math.inf, WAIT), "beside": READERS}
+    count = 10_000 // part
+    lines = ["LOCK that waits, beside READs", f"UNLOCK that grants {count:,}, beside READs"]
+    yield Use(lines, waits(count), **words)
+    count = 65_536 // part
+    yield Use(["MNT, beside READs", f"DUMP of {count:,} mounts, beside READs"], mounted(count), **words)
+    files = 500 // part
+    line = f"{FREEING} FREE_ALLs of {files} files at once, beside READs"
+    yield Use([line], freed_at_once(FREEING, files), **words)
+    blocks = GIBIBYTE // BLOCK // part
+    yield Use([f"REMOVE of {blocks:,} blocks, beside READs"], loses(blocks, removes), **words)
+    count = 100 // part
+    lines = [f"REMOVE of {count} thin files, beside READs", f"what {count} thin files left goes, beside READs"]
+    yield Use(lines, thinly_filled(count), **words)
+
+
 def uses_of_connections(_):
     yield Use([f"GETATTR over {LOADED} connections"], crowd)
     yield Use(["the same, and SETATTR of the root waits"], crowd, asked=nfsd.touch)
@@ -765,8 +857,9 @@ def uses_of_connections(_):
 
 def uses(part):
     """All uses, or with this part of their sizes."""
-    for some in (uses_of_exports, uses_of_locks, uses_of_mounts, uses_of_names, uses_of_data, uses_of_connections):
-        yield from some(part)
+    some = (uses_of_exports, uses_of_locks, uses_of_mounts, uses_of_names, uses_of_data)
+    for each in (*some, uses_beside_reads, uses_of_connections):
+        yield from each(part)
 
 
 def milliseconds(figure):

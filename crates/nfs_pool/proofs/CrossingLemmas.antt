@@ -19,6 +19,7 @@ use Rattle.nfs_engine.specs.contracts.book.Book as Book
 use Rattle.nfs_engine.specs.contracts.journal.Journal as Journal
 use Rattle.nfs_engine.specs.contracts.records.EraRecords as EraRecords
 use Rattle.nfs_pool.proofs.counting.Count.TheSendSync as counting
+use Rattle.nfs_pool.proofs.leftovers.Leftovers.TheSendSync as left
 use Rattle.nfs_pool.proofs.locking.LockedShard.TheSendSync as place
 use Rattle.nfs_pool.specs.contracts.counting.Count as Count
 use Rattle.nfs_pool.specs.contracts.desk.Desk as Desk
@@ -42,6 +43,7 @@ module _ (L : RattleType) (g : Ghosts L.Denot) (n : naming.Ghosts L.Denot) (s : 
     book_send,
     history.the_send,
     marks.the_send,
+    left.the_send,
     total.the_send,
     share.the_send,
   ) depth 20
@@ -64,7 +66,7 @@ module _ (L : RattleType) (g : Ghosts L.Denot) (n : naming.Ghosts L.Denot) (s : 
         desk_mutex_send,
         (
           search (sendable, place.the_send) depth 20,
-          (count_send, (search (sendable, key.the_send) depth 20, tt)),
+          (count_send, (search (sendable, key.the_send) depth 20, (search (sendable, crosses) depth 20, tt))),
         ),
       )
 
@@ -74,6 +76,6 @@ module _ (L : RattleType) (g : Ghosts L.Denot) (n : naming.Ghosts L.Denot) (s : 
         desk_mutex_sync,
         (
           search (sendable, place.the_sync) depth 20,
-          (count_sync, (search (sendable, key.the_sync) depth 20, tt)),
+          (count_sync, (search (sendable, key.the_sync) depth 20, (search (sendable, crosses) depth 20, tt))),
         ),
       )

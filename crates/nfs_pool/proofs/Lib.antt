@@ -2,6 +2,7 @@ pub mod CrossingLemmas
 pub mod MarksStayLemmas
 pub mod CommitLetsGoLemmas
 pub mod HistoryLemmas
+pub mod LeftoverLemmas
 pub mod MarkedWritesLemmas
 pub mod NotesBesideLemmas
 pub mod ReadsOnLemmas
@@ -9,5 +10,6 @@ pub mod ReceiptLemmas
 pub mod SeatLemmas
 pub mod SeatOrderLemmas
 pub mod ShownEntryLemmas
+pub mod SoughtLemmas
 pub mod OpeningMarksLemmas
 pub mod UnmarkedLemmas

@@ -1,5 +1,5 @@
 -- A call that reads on.
-use Rattle.std.proofs.Common.{◌≡◌, refl, sym, ◌∙◌, ap, subst}
+use Rattle.std.proofs.Common.{◌≡◌, refl, sym, ◌∙◌, ap}
 use Rattle.nfs_objects.specs.Values.{ViewValue}
 use Rattle.nfs_engine.specs.Calls.{FinishedValue, TxnValue}
 use Rattle.nfs_engine.specs.declared.journal.Receipt.{Receipt}
@@ -14,9 +14,6 @@ reads_so t u view is = is ∙ ap (λ (v : ViewValue). record t { view = v }) (sy
 pub reads_twice : (a b c : TxnValue) → Reads a b → Reads b c → Reads a c
 reads_twice a b c one two = two ∙ ap (λ (t : TxnValue). record t { view = c.view }) one
 
--- what was made of a call, by another name, is its receipt
-pub made_next : (f made : FinishedValue) (receipt : Receipt) → made ≡ f → IsMade made receipt
-    → IsReceiptOf f.received receipt
-made_next f made receipt same is =
-    let here : IsMade f receipt = subst (λ (x : FinishedValue). IsMade x receipt) same is in
-    record { finished = f; received = refl; called = here.called; made = here.made }
+-- what was made of a call is its receipt
+pub made_receipt : (f : FinishedValue) (receipt : Receipt) → IsMade f receipt → IsReceiptOf f.received receipt
+made_receipt f receipt is = record { finished = f; received = refl; called = is.called; made = is.made }

@@ -3,7 +3,7 @@ use Rattle.std.specs.Prelude.{List, length}
 use Rattle.nfs_engine.specs.Book.{BookValue, IsRun, Rebases, TakesEra}
 use Rattle.nfs_engine.specs.Journal.{EraValue}
 use Rattle.nfs_history.specs.Entries.{EntryValue}
-use Rattle.nfs_pool.specs.Desks.{IsHistoryOf}
+use Rattle.nfs_pool.specs.Desks.{IsHistory}
 use Rattle.nfs_pool.specs.Seats.{AreOf, MadeAll, SeatValue}
 
 -- The records are a run, and the last commits of the history; these seats made all its commits, each those under its
@@ -11,7 +11,7 @@ use Rattle.nfs_pool.specs.Seats.{AreOf, MadeAll, SeatValue}
 pub record EndsEra (old new : BookValue) (log : List EntryValue) (seats : List SeatValue) (era : EraValue) :
     Type 0 where
   pub run : IsRun old
-  pub history : IsHistoryOf old.before old.records log
+  pub history : IsHistory old log
   pub made : MadeAll log seats
   pub all : AreOf log (length seats)
   pub takes : TakesEra old new era

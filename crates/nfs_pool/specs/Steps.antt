@@ -28,6 +28,8 @@ use Rattle.nfs_engine.specs.declared.taking.Got.{Got}
 use Rattle.nfs_engine.specs.declared.taking.Got.TheVariants as got
 use Rattle.nfs_pool.specs.Desks.{DeskValue, GoesOn}
 use Rattle.nfs_pool.specs.declared.sent.EraEnd.TheVariants.{ByCaller}
+use Rattle.nfs_pool.specs.declared.sent.Reason.{Reason}
+use Rattle.nfs_pool.specs.declared.sent.Reason.TheVariants.{Memory, Stale, Taken}
 use Rattle.nfs_pool.specs.declared.sent.Unadmitted.{Unadmitted}
 use Rattle.nfs_pool.specs.declared.sent.Unadmitted.TheVariants as unadmitted
 
@@ -73,6 +75,30 @@ abbrev pub LeadsThere : Then → Next → Type 0
 LeadsThere t (next.More left) = left.after ≡ t
 LeadsThere t (next.Aborted p) = t ≡ then.Aborted p
 LeadsThere t next.Ended = t ≡ then.Ended
+
+-- ---- why a call comes to no end as it stands
+-- an admission that is refused says that there is no memory, or no number
+abbrev pub SaysUnadmitted : (says : Reason → Type 0) → Unadmitted → Type 0
+SaysUnadmitted says (unadmitted.EraFull back) = Unit {0}
+SaysUnadmitted says (unadmitted.Refused back) = says Memory
+
+-- an address that is not got is taken, in this mode; or there is no memory
+abbrev pub SaysGot : {E : Type 0} → (says : Reason → Type 0) → Addr → Mode → Result Got E → Type 0
+SaysGot says a mode (Ok got.Yes) = Unit {0}
+SaysGot says a mode (Ok (got.Taken h)) = says (Taken a mode)
+SaysGot says a mode (Err e) = says Memory
+
+-- where there is no new number the call begins anew, or there is no memory, or none is left
+abbrev pub SaysNumber : {E : Type 0} → (says : Reason → Type 0) → Result Bool E → Type 0
+SaysNumber says (Ok true) = Unit {0}
+SaysNumber says (Ok false) = says Stale
+SaysNumber says (Err e) = says Memory
+
+-- a commit never says that an address is taken
+abbrev pub SaysUncommitted : (says : Reason → Type 0) → Reason → Type 0
+SaysUncommitted says Memory = says Memory
+SaysUncommitted says Stale = says Stale
+SaysUncommitted says (Taken a m) = ⊥
 
 -- ---- what a call comes to
 -- what these writes are at

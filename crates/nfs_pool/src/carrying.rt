@@ -1,32 +1,35 @@
 //! A call from its arrival to its answer, on its caller's thread.
 
-ghost use Rattle.std.specs.Prelude.{◌≡◌, ◌<◌, IfOk, OnErr, OnOk, None, Option};
+ghost use Rattle.std.specs.Prelude.{◌≡◌, ◌<◌, IfErr, IfOk, OnErr, OnOk, None, Option};
 ghost use Rattle.nfs_objects.specs.Promise.{IsPromised};
 ghost use Rattle.nfs_objects.specs.Rooms.{with_number};
 ghost use Rattle.nfs_objects.specs.Values.{change_value, done_value, seen_at};
 ghost use Rattle.nfs_objects.specs.declared.object.Object.{Object};
 ghost use Rattle.nfs_objects.specs.declared.view.Reserved.{Reserved};
 ghost use Rattle.nfs_engine.specs.Arrivals.{incoming_value};
+ghost use Rattle.nfs_history.specs.Marking.{AreNotes};
 ghost use Rattle.nfs_schedule.specs.Answers.{IsDeclined};
 ghost use Rattle.nfs_schedule.specs.Courses.{IsAt, IsMade, IsNextStep};
 ghost use Rattle.nfs_schedule.specs.Executions.{HasTaken};
 ghost use Rattle.nfs_schedule.specs.declared.course.Course.{Course};
+ghost use Rattle.nfs_pool.specs.Laws.{IsRefusedOnlyFor};
 ghost use Rattle.nfs_pool.specs.Passes.{ComesTo, EndsWith, LeadsOut, Reads, Retreats};
 ghost use Rattle.nfs_pool.specs.Seats.{Tells};
 ghost use Rattle.nfs_pool.specs.Steps.{AsksSome, IsGivenUp, IsUnread};
 
 use crate::gate::{Gate, Step};
-use crate::noted::{NotedFinished, NotedTxn};
+use crate::noted::NotedTxn;
 use crate::seat::Seat;
 use crate::sent::{PoolError, Reason, Sent, Unadmitted, Uncommitted};
 use crate::steps::Steps;
+use crate::waiting::Awaiting;
 use nfs_engine::{
-    Admission, Arrival, Got, Incoming, Next, Pending, Reading, Receipt, Refused, Release, SHARDS,
-    Txn,
+    Admission, Arrival, Finished, Got, Incoming, Next, Pending, Reading, Receipt, Refused, Release,
+    SHARDS, Txn,
 };
-use nfs_history::Naming;
+use nfs_history::{Naming, Notes};
 use nfs_objects::{Addr, Change, Mode};
-use nfs_schedule::{Considered, Course, NextStep, RefusalReply, consider, decline, next_step};
+use nfs_schedule::{Considered, Course, NextStep, RefusalReply, decline, next_step};
 use std::alloc::Global;
 use std::sync::Wait;
 use std::sync::ledger::Ledger;
@@ -62,7 +65,7 @@ enum PassEnd {
     Taken(Pending, Addr, Mode),
 }
 
-/// Brings what came in to its answer by these steps. The gate is called before each.
+/// Brings what came in to its answer by these steps. The gate is called before each that holds a lock.
 ///
 /// # Errors
 ///
@@ -75,7 +78,8 @@ pub fn run_call<L: Ledger + Naming, R: Wait, S: Steps<L>, G: Gate>(
     seat: &mut Seat<L>,
     arrival: Arrival,
 ) -> Result<Sent, PoolError>
-    ensures { Tells arrival seat.old seat.new result }
+    ensures told { Tells arrival seat.old seat.new result }
+    ensures refused { IsRefusedOnlyFor (S.says Reason.Memory) result }
 {
     let driver = CallDriver {
         rt,
@@ -143,7 +147,7 @@ fn carry_out<L: Ledger + Naming, R: Wait, S: Steps<L>, G: Gate>(
 ) -> CallEnd
     requires shard { driver.now.shard < SHARDS }
     requires unread { IsUnread txn }
-    ensures { EndsWith txn.received seat.old seat.new result }
+    ensures { EndsWith (S.says Reason.Memory) txn.received seat.old seat.new result }
 {
     let mut txn = txn;
     let mut first = true;
@@ -160,7 +164,7 @@ fn carry_out<L: Ledger + Naming, R: Wait, S: Steps<L>, G: Gate>(
             }
             PassEnd::Again(pending) => txn = pending.again(driver.alloc),
             PassEnd::Taken(pending, address, mode) => {
-                awaited = wait_for(driver, awaited, address, mode);
+                awaited = Some(wait_for(driver, awaited, address, mode));
                 txn = pending.again(driver.alloc);
             }
         }
@@ -169,32 +173,35 @@ fn carry_out<L: Ledger + Naming, R: Wait, S: Steps<L>, G: Gate>(
     unreachable!()
 }
 
-/// Waits for an address that was taken. Where it is wanted alone others give way there from then on; it is handed out,
-/// and takes the place of what was waited for so before.
+/// Waits for an address that was taken, in the mode that is wanted. Where it is wanted alone others give way there from
+/// then on. It takes the place of what was awaited before.
 fn wait_for<L: Ledger + Naming, R: Wait, S: Steps<L>, G: Gate>(
     driver: &CallDriver<R, S, G>,
-    before: Option<Addr>,
+    before: Option<Awaiting>,
     address: Addr,
     mode: Mode,
-) -> Option<Addr> {
-    let awaited = match mode {
-        Mode::Shared => None,
-        Mode::Exclusive => Some(address),
+) -> Awaiting
+    requires { S.says (Reason.Taken address mode) }
+    ensures { result ≡ record { address = address; mode = mode } }
+{
+    let awaiting = match before {
+        Some(before) if before.is(address, mode) => before,
+        other => {
+            withdraw(driver, other);
+            Awaiting::new(address, mode)
+        }
     };
-    if before != awaited {
-        withdraw(driver, before);
-    }
-    driver.steps.wait_for(driver.rt, address, mode);
-    awaited
+    driver.steps.wait_for(driver.rt, &awaiting);
+    awaiting
 }
 
-/// Nobody need give way any more to a call that waited for this address alone.
+/// Nobody need give way any more to a call that awaited this.
 fn withdraw<L: Ledger + Naming, R: Wait, S: Steps<L>, G: Gate>(
     driver: &CallDriver<R, S, G>,
-    awaited: Option<Addr>,
+    awaited: Option<Awaiting>,
 ) {
-    if let Some(address) = awaited {
-        driver.steps.withdraw(address);
+    if let Some(awaiting) = awaited {
+        driver.steps.withdraw(awaiting);
     }
 }
 
@@ -218,15 +225,17 @@ fn pass<L: Ledger + Naming, R: Wait, S: Steps<L>, G: Gate>(
 ) -> PassEnd
     requires shard { driver.now.shard < SHARDS }
     requires unread { IsUnread txn }
-    ensures { ComesTo txn.received seat.old seat.new result }
+    ensures { ComesTo S.says txn.received seat.old seat.new result }
 {
     let mut txn = NotedTxn::new(driver.alloc, txn);
-    match run(driver, first, &mut txn) {
-        Ok(change) => match txn.done(driver.alloc, change) {
-            Ok(finished) => commit(driver, seat, finished),
-            Err(txn) => retreat(driver, txn.into_txn(), Reason::Memory),
+    let ran = run(driver, first, &mut txn);
+    let (txn, notes) = txn.into_parts();
+    match ran {
+        Ok(change) => match driver.steps.done(driver.alloc, txn, change) {
+            Ok(finished) => commit(driver, seat, finished, &notes),
+            Err(txn) => retreat(driver, txn, Reason::Memory),
         },
-        Err(reason) => retreat(driver, txn.into_txn(), reason),
+        Err(reason) => retreat(driver, txn, reason),
     }
 }
 
@@ -234,15 +243,16 @@ fn pass<L: Ledger + Naming, R: Wait, S: Steps<L>, G: Gate>(
 fn commit<L: Ledger + Naming, R: Wait, S: Steps<L>, G: Gate>(
     driver: &CallDriver<R, S, G>,
     seat: &mut Seat<L>,
-    finished: NotedFinished<L>,
+    finished: Finished,
+    notes: &Notes<L>,
 ) -> PassEnd
-    ensures { ComesTo finished.received seat.old seat.new result }
+    requires { AreNotes notes.now finished.done.view.entries }
+    ensures { ComesTo S.says finished.received seat.old seat.new result }
 {
     driver.gate.before(Step::Commit);
-    let (finished, notes) = finished.into_parts();
     match driver
         .steps
-        .commit(driver.rt, driver.alloc, seat, finished, &notes)
+        .commit(driver.rt, driver.alloc, seat, finished, notes)
     {
         Ok((receipt, release)) => match let_go(driver, release) {
             None => PassEnd::Executed(receipt),
@@ -252,13 +262,13 @@ fn commit<L: Ledger + Naming, R: Wait, S: Steps<L>, G: Gate>(
     }
 }
 
-/// Gives a pass up: lets go all that the call holds.
+/// Gives a pass up for this reason: lets go all that the call holds.
 fn retreat<L: Ledger + Naming, R: Wait, S: Steps<L>, G: Gate>(
     driver: &CallDriver<R, S, G>,
     txn: Txn,
     reason: Reason,
 ) -> PassEnd
-    ensures { Retreats txn.received result }
+    ensures { Retreats reason txn.received result }
 {
     match let_go(driver, txn.abort()) {
         Some(pending) => match reason {
@@ -301,6 +311,7 @@ fn run<L: Ledger + Naming, R: Wait, S: Steps<L>, G: Gate>(
     ensures course { (course : Course) × IsAt course txn.new }
     ensures promised { IfOk result
         (λ change. IsPromised (done_value txn.new.call txn.new.ctx txn.new.view (change_value change))) }
+    ensures said { IfErr result S.says }
 {
     let mut course = Course::Begun;
     'steps: loop {
@@ -308,7 +319,7 @@ fn run<L: Ledger + Naming, R: Wait, S: Steps<L>, G: Gate>(
         let known = txn.txn().view().len();
         match next_step(driver.alloc, txn.txn(), course) {
             Some(step) => course = make(driver, first && known == 0, txn, step)?,
-            None => match consider(driver.alloc, txn.txn()) {
+            None => match driver.steps.consider(driver.alloc, txn.txn()) {
                 Considered::Reads(step) => course = make(driver, first && known == 0, txn, step)?,
                 Considered::Done(change) => return Ok(change),
                 Considered::Fails => return Err(Reason::Memory),
@@ -330,6 +341,7 @@ fn make<L: Ledger + Naming, R: Wait, S: Steps<L>, G: Gate>(
     ensures reads { Reads txn.old txn.new }
     ensures made { IfOk result (IsMade txn.old txn.new) }
     ensures kept { OnErr result (txn.new ≡ txn.old) }
+    ensures said { IfErr result S.says }
 {
     match step {
         NextStep::Acquire(address, mode, after) => {
@@ -375,6 +387,7 @@ fn acquire<L: Ledger + Naming, R: Wait, S: Steps<L>, G: Gate>(
     ensures taken { OnOk result ((o : Option Object) ×
         HasTaken txn.old txn.new (record { address = address; mode = mode; object = o })) }
     ensures kept { OnErr result (txn.new ≡ txn.old) }
+    ensures said { IfErr result S.says }
 {
     driver.gate.before(Step::Acquire);
     match driver
@@ -395,6 +408,7 @@ fn reserve<L: Ledger + Naming, R: Wait, S: Steps<L>, G: Gate>(
     requires { driver.now.shard < SHARDS }
     ensures reserved { OnOk result ((r : Reserved) × (txn.new ≡ record txn.old { view = with_number txn.old.view r })) }
     ensures kept { OnErr result (txn.new ≡ txn.old) }
+    ensures said { IfErr result S.says }
 {
     driver.gate.before(Step::Reserve);
     match driver.steps.reserve(driver.rt, txn, driver.shard) {

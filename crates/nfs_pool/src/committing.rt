@@ -1,18 +1,19 @@
 //! The commit of a call, in the holds of the shards that it writes.
 
-ghost use Rattle.std.specs.Prelude.{◌≡◌, ◌<◌, ◌≤◌, ℕ, IfErr, IfOk, None, OnErr, false, map, slice_index_or, true};
-ghost use Rattle.std.specs.List.{AllByRecursion};
+ghost use Rattle.std.specs.Prelude.{◌≡◌, ◌<◌, ◌≤◌, ℕ, IfErr, IfOk, None, OnErr, OnOk, false, map, slice_index_or, true};
+ghost use Rattle.std.specs.Bool.{Decides};
 ghost use Rattle.nfs_objects.specs.Values.{write_value, written_at};
 ghost use Rattle.nfs_objects.specs.declared.address.Addr.{Addr};
 ghost use Rattle.nfs_engine.specs.Engine.{ArePlaces};
-ghost use Rattle.nfs_engine.specs.Settling.{HoldsWritten};
 ghost use Rattle.nfs_engine.specs.Shards.{shard_of};
 ghost use Rattle.nfs_engine.specs.declared.release.Then.TheVariants as then;
 ghost use Rattle.nfs_history.specs.Marking.{AreNotes};
+ghost use Rattle.nfs_pool.specs.Desks.{Bars, IsHindered, MaySettle};
 ghost use Rattle.nfs_pool.specs.Seats.{Gains};
 ghost use Rattle.nfs_pool.specs.Steps.{IsMade, LetGoFrom, addresses};
 
 use crate::locking::lock_spinning;
+use crate::marked_shard::MarkedShard;
 use crate::pool::Pool;
 use crate::seat::Seat;
 use crate::sent::{Reason, Uncommitted};
@@ -58,6 +59,7 @@ impl<L: Ledger + Naming> Pool<L> {
             written_at None (map write_value r.0.writes.items) a ≡ written_at None finished.done.change.writes a) }
         ensures back { IfErr result (λ u. u.finished ≡ finished) }
         ensures same { OnErr result (seat.new ≡ seat.old) }
+        ensures hindered { IfErr result (λ u. IsHindered seat.old finished u.reason) }
     {
         let index = next_written(terms.written, index);
         if index == SHARDS {
@@ -67,22 +69,13 @@ impl<L: Ledger + Naming> Pool<L> {
         }
         let mut guard = lock_spinning(rt, &self.places[index].placed);
         let placed = &mut *guard;
-        if !may_settle(&finished, &placed.shard, index) {
-            return Err(Uncommitted {
-                finished,
-                reason: Reason::Stale,
-            });
-        }
-        if placed.make_room(&finished).is_err() {
-            return Err(Uncommitted {
-                finished,
-                reason: Reason::Memory,
-            });
+        if let Err(reason) = make_ready(placed, &finished, index) {
+            return Err(Uncommitted { finished, reason });
         }
         match self.commit_from(rt, alloc, seat, terms, finished, index + 1) {
             Ok((committed, stamp)) => {
-                let committed = placed.settle(committed, &stamp);
-                self.places[index].released.notify_all();
+                let (committed, freed) = placed.settle(committed, &stamp);
+                freed.wake(&self.places);
                 Ok((committed, stamp))
             }
             Err(uncommitted) => Err(uncommitted),
@@ -90,15 +83,36 @@ impl<L: Ledger + Naming> Pool<L> {
     }
 }
 
+/// Makes ready to settle a call in the shard of this index: it may be settled there, and there is room. Nothing is
+/// changed.
+///
+/// # Errors
+///
+/// This is not the shard of this index, or the call does not hold in it all that it is to write there; or there is no
+/// memory for the room.
+fn make_ready<L: Naming>(
+    placed: &mut MarkedShard<L>,
+    finished: &Finished,
+    index: usize,
+) -> Result<(), Reason>
+    ensures same { placed.new.shard ≡ placed.old.shard }
+    ensures ready { OnOk result (MaySettle placed.old.shard index finished.now) }
+    ensures barred { IfErr result (Bars placed.old.shard index finished.now) }
+{
+    if !may_settle(finished, placed.shard(), index) {
+        return Err(Reason::Stale);
+    }
+    match placed.make_room(finished) {
+        Ok(()) => Ok(()),
+        Err(_) => Err(Reason::Memory),
+    }
+}
+
 /// Whether this is the shard of this index, and the call holds in it all that it is to write there.
 fn may_settle(finished: &Finished, shard: &Shard, index: usize) -> bool
-    ensures { result ≡ true → (shard.now.index ≡ index)
-        × AllByRecursion (HoldsWritten shard.now finished.now.id) finished.now.done.change.writes }
+    ensures { Decides result (MaySettle shard.now index finished.now) }
 {
-    if shard.index() != index {
-        return false;
-    }
-    finished.holds_written(shard)
+    shard.index() == index && finished.holds_written(shard)
 }
 
 /// Which shards these writes are in.

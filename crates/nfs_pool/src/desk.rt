@@ -1,6 +1,6 @@
 //! What lies under the book's lock.
 
-ghost use Rattle.std.specs.Prelude.{◌≡◌, ◌++◌, ◌∷◌, [], IfErr, IfOk, IfSome, MatchBool, OnErr, OnOk, length, slice_get};
+ghost use Rattle.std.specs.Prelude.{◌≡◌, ◌+◌, ◌<◌, ◌++◌, ◌∷◌, [], IfErr, IfOk, IfSome, MatchBool, OnErr, OnOk, length, slice_get};
 ghost use Rattle.std.specs.Prelude.{true};
 ghost use Rattle.std.specs.Bool.{Decides};
 ghost use Rattle.std.specs.List.{AllByRecursion};
@@ -9,22 +9,23 @@ ghost use Rattle.nfs_engine.specs.Book.{Commits, GivesUp, IsRun, MayCommit, Reba
 ghost use Rattle.nfs_engine.specs.Book.{is_full, store_in};
 ghost use Rattle.nfs_engine.specs.Commits.{Leaves};
 ghost use Rattle.nfs_engine.specs.Standing.{HasObjects};
-ghost use Rattle.nfs_engine.specs.Sweeps.{MaySweep, Sweeps};
+ghost use Rattle.nfs_engine.specs.Sweeps.{MaySweep, SweepValue, Sweeps};
 ghost use Rattle.nfs_engine.specs.Tables.{Stands};
 ghost use Rattle.nfs_engine.specs.declared.release.Then.TheVariants as then;
 ghost use Rattle.nfs_history.specs.Entries.{commit_entry, opening_entry};
 ghost use Rattle.nfs_history.specs.Marking.{AreMarks, AreNotes};
-ghost use Rattle.nfs_pool.specs.Desks.{GoesOn, IsHistoryOf};
+ghost use Rattle.nfs_pool.specs.Desks.{GoesOn, IsHistory, Withholds};
+ghost use Rattle.nfs_pool.specs.Leftovers.{IsSought, Seeks};
 ghost use Rattle.nfs_pool.specs.Seats.{AreNumbered, AreOf, Gains, IsKnownIn, MadeAll};
 ghost use Rattle.nfs_pool.specs.Steps.{AdmitsUnlessFull, IsMade};
 
+use crate::leftovers::Leftovers;
 use crate::marking::mark_written;
 use crate::seat::{Seat, audit};
 use crate::sent::{EraEnd, Reason, Unadmitted, Uncommitted};
 use crate::sweeping::unmark;
 use nfs_engine::{
-    Admission, Arrival, Book, Candidate, Committed, Dead, Era, Finished, Pending, Posted, Refused,
-    Sweep,
+    Admission, Arrival, Book, Candidate, Committed, Era, Finished, Pending, Posted, Refused, Sweep,
 };
 use nfs_history::{History, Known, Marks, Naming, Notes, Stamp, is_large};
 use std::alloc::{AllocError, Global};
@@ -35,15 +36,16 @@ use std::sync::{Wait, ledger};
 
 /// The book, and the history of its commits, each of which counts for the seat whose call it was. The type of `Book`
 /// keeps that the records are a run of the machine to its store; so it is whenever the lock is free. The history begins
-/// with what the pool opened with, and ends with the book's records. Beside the store stands by which commits its large
-/// objects were put. A clause sees book and history.
+/// with what the pool opened with, and ends with the book's records; all its records are one run, from the opening to
+/// the present store. Beside the store stands by which commits its large objects were put, and where something of it may
+/// be swept. A clause sees book and history.
 #[derive(Drop)]
 pub struct Desk<L: Ledger + Naming> {
     book: Book,
     history: History,
     marks: Marks<L>,
-    /// The files that may be dead and not yet swept.
-    dead: Dead,
+    /// The files of which something may be swept.
+    left: Leftovers,
     /// How many large objects were compared by value.
     compared: AtomicU64,
     ending: EraEnd,
@@ -59,26 +61,29 @@ impl<L: Ledger + Naming> Model for Desk<L> {
     ghost use Rattle.nfs_engine.specs.Book.{store_in};
     ghost use Rattle.nfs_history.specs.Entries.{commits_in};
     ghost use Rattle.nfs_history.specs.Marking.{AreMarks};
-    ghost use Rattle.nfs_pool.specs.Desks.{DeskValue, IsHistoryOf};
+    ghost use Rattle.nfs_pool.specs.Desks.{DeskValue, IsHistory};
+    ghost use Rattle.nfs_pool.specs.Leftovers.{Seeks};
 
     ghost Value = { DeskValue };
 
     ghost view = { λ d. record { book = d.book; history = d.history.log; ending = d.ending } };
 
-    ghost invariant = { λ d. IsHistoryOf d.book.before d.book.records d.history.log × (d.history.book ≡ L.book)
+    ghost invariant = { λ d. IsHistory d.book d.history.log × (d.history.book ≡ L.book)
         × (d.counted.total ≡ length (commits_in d.history.log))
-        × (d.nothing.parts ≡ 0) × (d.nothing.amount ≡ 0) × AreMarks d.marks (store_in d.book).at };
+        × (d.nothing.parts ≡ 0) × (d.nothing.amount ≡ 0) × AreMarks d.marks (store_in d.book).at
+        × Seeks d.left (store_in d.book) };
 }
 
 impl<L: Ledger + Naming> Desk<L> {
-    /// The book of an engine without records, with these marks, and the history that was opened with it.
+    /// The book of an engine without records, with these marks and what is left, and the history that was opened with
+    /// it.
     pub(crate) fn new(
-        alloc: Global,
         book: Book,
         history: History,
         counted: ledger::Book<L>,
         nothing: Share<L>,
         marks: Marks<L>,
+        left: Leftovers,
         ending: EraEnd,
     ) -> Desk<L>
         requires total { counted.total ≡ 0 }
@@ -86,13 +91,15 @@ impl<L: Ledger + Naming> Desk<L> {
         requires history { (history.book ≡ L.book) × (history.log ≡ opening_entry book ∷ []) }
         requires nothing { (nothing.parts ≡ 0) × (nothing.amount ≡ 0) }
         requires marked { AreMarks marks (store_in book).at }
+        requires left { Seeks left (store_in book) }
         ensures { result ≡ record { book = book; history = history.log; ending = ending } }
     {
+        book.show_run();
         Desk {
             book,
             history,
             marks,
-            dead: Dead::new(alloc),
+            left,
             compared: AtomicU64::new(0),
             ending,
             eras: 0,
@@ -210,37 +217,46 @@ impl<L: Ledger + Naming> Desk<L> {
         ensures over { IfOk result (λ r. r.0.release.after ≡ then.Ended) }
         ensures back { IfErr result (λ u. u.finished ≡ finished) }
         ensures same { OnErr result ((self.new ≡ self.old) × (seat.new ≡ seat.old)) }
+        ensures withheld { IfErr result (λ u. Withholds self.old.book seat.old finished u.reason) }
     {
         // It brings that the call is what its record asks.
         finished.show_finished();
-        let Some(number) = self.book.next_number() else {
-            return Err(handed_back(finished, Reason::Memory));
-        };
-        if number <= seat.last || !self.fits(&finished, notes) {
+        if !self.is_above(&*seat) || !self.fits(&finished, notes) {
             return Err(handed_back(finished, Reason::Stale));
-        }
-        if self.dead.make_room(finished.writes()).is_err() {
-            return Err(handed_back(finished, Reason::Memory));
         }
         let Desk {
             book,
             history,
             marks,
-            dead,
+            left,
             compared: _,
             ending: _,
             eras: _,
             counted,
             nothing: _,
         } = self;
+        let Ok(()) = left.note(book, finished.writes()) else {
+            return Err(handed_back(finished, Reason::Memory));
+        };
         let committed = match book.commit(alloc, finished) {
             Ok(committed) => committed,
             Err(finished) => return Err(handed_back(finished, Reason::Memory)),
         };
         let stamp = seat.enter(rt, history, counted, &committed);
         mark_written(marks, None, &committed.writes, &stamp);
-        dead.note(&committed.writes);
         Ok((committed, stamp))
+    }
+
+    /// Whether the number of the next record is above this seat's last one.
+    fn is_above(&self, seat: &Seat<L>) -> bool
+        ensures { Decides result (seat.now.last < self.now.book.before + length self.now.book.records + 1) }
+    {
+        let last = seat.last;
+        match self.book.next_number() {
+            Some(number) => last < number,
+            // It would be 2^64.
+            None => true,
+        }
     }
 
     /// Whether a call may be committed, as `Book::fits`. It compares by value only what it does not know by its stamp.
@@ -312,7 +328,7 @@ impl<L: Ledger + Naming> Desk<L> {
     /// Ends the era, and begins the next.
     pub(crate) fn new_era(&mut self) -> Era
         ensures run { IsRun self.old.book }
-        ensures history { IsHistoryOf self.old.book.before self.old.book.records self.old.history }
+        ensures history { IsHistory self.old.book self.old.history }
         ensures takes { TakesEra self.old.book self.new.book result }
         ensures rebases { Rebases self.old.book self.new.book }
         ensures rest { self.new ≡ record self.old { book = self.new.book } }
@@ -321,21 +337,29 @@ impl<L: Ledger + Naming> Desk<L> {
         self.book.new_era()
     }
 
-    /// Whether there are files that may be dead and not yet swept.
-    pub(crate) fn has_dead(&self) -> bool {
-        !self.dead.is_empty()
+    /// The files of which something may be swept: each is noted, or among those that are still to be looked at.
+    pub fn left(&self) -> &Leftovers
+        ensures { (w : SweepValue) → MaySweep (store_in self.now.book) w → IsSought result.now w.file }
+    {
+        &self.left
     }
 
-    /// The number of the one that is to be swept next.
-    pub(crate) fn next_dead(&self) -> Option<u64> {
-        self.dead.next()
-    }
-
-    /// Goes on after that one, of which nothing is left to be swept.
-    pub(crate) fn go_on(&mut self)
+    /// The number at which is to be looked next, as `Leftovers::next`.
+    pub(crate) fn next_left(&mut self) -> Option<u64>
         ensures { self.new ≡ self.old }
     {
-        self.dead.go_on();
+        self.left.next()
+    }
+
+    /// Goes on behind a number where nothing could be swept.
+    ///
+    /// # Errors
+    ///
+    /// As `Leftovers::go_on`.
+    pub(crate) fn go_on(&mut self, number: u64) -> Result<(), AllocError>
+        ensures { self.new ≡ self.old }
+    {
+        self.left.go_on(&self.book, number)
     }
 
     /// What the next sweep of the file at a number takes away, if it is dead.
@@ -349,7 +373,7 @@ impl<L: Ledger + Naming> Desk<L> {
         self.book.sweep_of(alloc, number)
     }
 
-    /// Sweeps a page of the file that is to be swept next.
+    /// Sweeps a page.
     pub(crate) fn sweep(&mut self, sweep: Sweep)
         requires { MaySweep (store_in self.old.book) sweep }
         ensures sweeps { Sweeps (store_in self.old.book) (store_in self.new.book) sweep }
@@ -360,7 +384,7 @@ impl<L: Ledger + Naming> Desk<L> {
             book,
             history: _,
             marks,
-            dead,
+            left,
             compared: _,
             ending: _,
             eras: _,
@@ -368,8 +392,8 @@ impl<L: Ledger + Naming> Desk<L> {
             nothing: _,
         } = self;
         unmark(marks, &sweep);
-        dead.swept(sweep.is_last());
         book.sweep(sweep);
+        left.swept();
     }
 
     /// The book alone.

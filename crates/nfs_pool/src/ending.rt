@@ -37,12 +37,14 @@ impl<L: Ledger + Naming> Pool<L> {
             places,
             count,
             key,
+            wanted,
         } = self;
         let mut desk = desk.into_inner();
         match close_era(rt, &mut desk, &count, seats) {
             Ok((era, seats)) => {
                 drop(seats);
                 drop(places);
+                drop(wanted);
                 Ok((era, desk.into_book()))
             }
             Err(seats) => {
@@ -52,6 +54,7 @@ impl<L: Ledger + Naming> Pool<L> {
                     places,
                     count,
                     key,
+                    wanted,
                 };
                 Err((FinishError::Missing, pool, seats))
             }
@@ -86,8 +89,10 @@ impl<L: Ledger + Naming> Pool<L> {
             places,
             count: _,
             key: _,
+            wanted,
         } = self;
         drop(places);
+        drop(wanted);
         desk.into_inner().into_book()
     }
 }

@@ -1,9 +1,8 @@
 //! Locks that are waited for awake, and shards under theirs.
 
 use crate::marked_shard::MarkedShard;
-use crate::waiting::Awaited;
+use crate::waiting::{Awaited, Awaiting};
 use nfs_history::Naming;
-use nfs_objects::{Addr, Mode};
 use std::hint::spin_loop;
 use std::sync::{Condvar, Mutex, MutexGuard, Wait};
 
@@ -40,11 +39,15 @@ impl<L: Naming> LockedShard<L> {
         }
     }
 
-    /// Whether somebody holds an address of this shard in a mode that excludes this one. Who wants it alone is told.
-    pub(crate) fn is_taken(&self, placed: &MarkedShard<L>, address: Addr, mode: Mode) -> bool {
-        let taken = placed.shard.excluder(address, mode).is_some();
-        if taken && mode == Mode::Exclusive {
-            self.awaited.note(address);
+    /// Whether somebody holds an address of this shard in a mode that excludes the one that is awaited. Who wants it
+    /// alone is told.
+    pub(crate) fn is_taken(&self, placed: &MarkedShard<L>, awaiting: &Awaiting) -> bool {
+        let shard = placed.shard();
+        let taken = shard
+            .excluder(awaiting.address(), awaiting.mode())
+            .is_some();
+        if taken {
+            self.awaited.note(awaiting);
         }
         taken
     }

@@ -1,17 +1,15 @@
 //! Calls with notes of what they have read.
 
-ghost use Rattle.std.specs.Prelude.{◌≡◌, MatchResult, None, map};
-ghost use Rattle.nfs_objects.specs.Promise.{IsPromised};
-ghost use Rattle.nfs_objects.specs.Values.{change_value, done_value, seen_at, write_value};
+ghost use Rattle.std.specs.Prelude.{◌≡◌, None};
+ghost use Rattle.nfs_objects.specs.Values.{seen_at};
 ghost use Rattle.nfs_engine.specs.Apart.{GetsNumber};
-ghost use Rattle.nfs_engine.specs.Calls.{finished_of};
 ghost use Rattle.nfs_history.specs.Marking.{AreNotes};
 ghost use Rattle.nfs_pool.specs.Steps.{TakesAny};
 
 use crate::marked_shard::MarkedShard;
-use nfs_engine::{Finished, Got, ReserveError, Txn};
+use nfs_engine::{Got, ReserveError, Txn};
 use nfs_history::{Naming, Notes};
-use nfs_objects::{Addr, Change, Mode, Write};
+use nfs_objects::{Addr, Mode};
 use std::alloc::{AllocError, Global};
 use std::marker::Model;
 
@@ -51,13 +49,13 @@ impl<L: Naming> NotedTxn<L> {
         &self.txn
     }
 
-    /// The call without its notes.
-    pub fn into_txn(self) -> Txn
-        ensures { result ≡ self }
+    /// The call, and its notes.
+    pub fn into_parts(self) -> (Txn, Notes<L>)
+        ensures txn { result.0 ≡ self }
+        ensures notes { AreNotes result.1 self.view.entries }
     {
         let NotedTxn { txn, notes } = self;
-        drop(notes);
-        txn
+        (txn, notes)
     }
 
     /// Makes room for one more note, if there is memory.
@@ -107,58 +105,5 @@ impl<L: Naming> NotedTxn<L> {
             return Ok(true);
         }
         Ok(false)
-    }
-
-    /// The call with what it is to change and answer, as its attempt on this view came to it.
-    ///
-    /// # Errors
-    ///
-    /// The call as it was, where the memory was refused.
-    pub fn done(self, alloc: Global, change: Change) -> Result<NotedFinished<L>, NotedTxn<L>>
-        requires { IsPromised (done_value self.call self.ctx self.view (change_value change)) }
-        ensures { MatchResult result
-            (λ finished. finished ≡ finished_of self (change_value change)) (λ txn. txn ≡ self) }
-    {
-        let NotedTxn { txn, notes } = self;
-        match txn.done(alloc, change) {
-            Ok(finished) => Ok(NotedFinished { finished, notes }),
-            Err(txn) => Err(NotedTxn { txn, notes }),
-        }
-    }
-}
-
-/// A call with what it is to change and answer, with notes by which commits what it has read was put. A clause sees it
-/// as the call. It has to be spent.
-pub struct NotedFinished<L: Naming> {
-    finished: Finished,
-    notes: Notes<L>,
-}
-
-impl<L: Naming> Model for NotedFinished<L> {
-    ghost use Rattle.nfs_engine.specs.Calls.{FinishedValue};
-    ghost use Rattle.nfs_history.specs.Marking.{AreNotes};
-
-    ghost Value = { FinishedValue };
-
-    ghost view = { λ f. f.finished };
-
-    ghost invariant = { λ f. AreNotes f.notes f.finished.done.view.entries };
-}
-
-impl<L: Naming> NotedFinished<L> {
-    /// What it is to write.
-    pub fn writes(&self) -> &[Write]
-        ensures { map write_value result.now ≡ self.now.done.change.writes }
-    {
-        self.finished.writes()
-    }
-
-    /// The call, and its notes.
-    pub(crate) fn into_parts(self) -> (Finished, Notes<L>)
-        ensures finished { result.0 ≡ self }
-        ensures notes { AreNotes result.1 self.done.view.entries }
-    {
-        let NotedFinished { finished, notes } = self;
-        (finished, notes)
     }
 }

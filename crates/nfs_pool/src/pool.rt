@@ -8,22 +8,26 @@ use crate::committing::{CommitTerms, written_shards};
 use crate::counting::Count;
 use crate::desk::Desk;
 use crate::gate::Gate;
+use crate::leftovers::Leftovers;
 use crate::locking::{LockedShard, lock_spinning};
 use crate::noted::NotedTxn;
 use crate::opening::{lock_all, mark_opening};
 use crate::seat::{Seat, new_seats};
 use crate::sent::{EraEnd, PoolError, Sent, Unadmitted, Uncommitted};
 use crate::steps::Steps;
+use crate::waiting::Awaiting;
 use nfs_engine::{
     Admission, Arrival, Committed, Engine, Finished, Got, Next, Pending, Posted, Prepared, Receipt,
-    Refused, Release, ReserveError, SHARDS, shard_index,
+    Refused, Release, ReserveError, SHARDS, Txn, shard_index,
 };
 use nfs_history::{History, Naming, Notes, Stamp};
-use nfs_objects::{Addr, Mode};
+use nfs_objects::{Addr, Change, Mode};
 use nfs_replies::RecordKey;
+use nfs_schedule::{Considered, consider};
 use std::alloc::{AllocError, Global};
+use std::sync::atomic::AtomicBool;
 use std::sync::ledger::{Blank, Ledger};
-use std::sync::{Mutex, Wait};
+use std::sync::{Arc, Mutex, Wait};
 
 /// The book and the shards, each under a lock of its own.
 #[derive(Drop)]
@@ -33,6 +37,8 @@ pub struct Pool<L: Ledger + Naming> {
     pub(crate) count: Count<L>,
     /// Under which the book hashes records, so that they are hashed with no lock held.
     pub(crate) key: RecordKey,
+    /// Whether callers are to sweep.
+    pub(crate) wanted: Arc<AtomicBool>,
 }
 
 impl<L: Ledger + Naming> Pool<L> {
@@ -40,7 +46,7 @@ impl<L: Ledger + Naming> Pool<L> {
     ///
     /// # Errors
     ///
-    /// There is no memory for the seats. Ledger, history and engine are handed back.
+    /// There is no memory for the seats, or for what is left. Ledger, history and engine are handed back.
     pub fn new(
         alloc: Global,
         blank: Blank,
@@ -61,6 +67,9 @@ impl<L: Ledger + Naming> Pool<L> {
         let Ok(room) = Vec::with_capacity(alloc, count) else {
             return Err((blank, history, engine));
         };
+        let Ok((left, wanted)) = Leftovers::new(alloc) else {
+            return Err((blank, history, engine));
+        };
         if !history.open(&engine) {
             return Err((blank, history, engine));
         }
@@ -71,15 +80,18 @@ impl<L: Ledger + Naming> Pool<L> {
         let (book, shards) = engine.into_parts();
         let known = history.known::<L>();
         let opening = Stamp::at(0, &known);
+        let mut left = left;
+        left.begin(&book);
         let (key, placing) = (book.record_key(), book.placing());
         let marks = mark_opening(alloc, placing, &opening);
         let first = mark_opening(alloc, placing, &opening);
-        let desk = Desk::new(alloc, book, history, counted, nothing, marks, ending);
+        let desk = Desk::new(book, history, counted, nothing, marks, left, ending);
         let pool = Pool {
             desk: Mutex::new(desk),
             places: lock_all(alloc, placing, shards, first),
             count: Count::new(count),
             key,
+            wanted,
         };
         Ok((pool, new_seats(room, all, count, &known)))
     }
@@ -168,12 +180,12 @@ impl<L: Ledger + Naming> Steps<L> for Pool<L> {
         txn.acquire_in(alloc, &mut *guard, address, mode)
     }
 
-    fn wait_for<R: Wait>(&self, rt: &R, address: Addr, mode: Mode) {
-        let place = &self.places[shard_index(address)];
+    fn wait_for<R: Wait>(&self, rt: &R, awaiting: &Awaiting) {
+        let place = &self.places[shard_index(awaiting.address())];
         let guard = lock_spinning(rt, &place.placed);
         let free = place
             .released
-            .wait_while(rt, guard, |placed| place.is_taken(placed, address, mode));
+            .wait_while(rt, guard, |placed| place.is_taken(placed, awaiting));
         drop(free);
     }
 
@@ -183,8 +195,9 @@ impl<L: Ledger + Naming> Steps<L> for Pool<L> {
             .give_way(rt, address);
     }
 
-    fn withdraw(&self, address: Addr) {
-        self.places[shard_index(address)].awaited.forget(address);
+    fn withdraw(&self, awaiting: Awaiting) {
+        let index = shard_index(awaiting.address());
+        self.places[index].awaited.forget(awaiting);
     }
 
     fn reserve<R: Wait>(
@@ -196,6 +209,14 @@ impl<L: Ledger + Naming> Steps<L> for Pool<L> {
         txn.make_room();
         let mut guard = lock_spinning(rt, &self.places[shard].placed);
         txn.reserve_in(&mut *guard)
+    }
+
+    fn consider(&self, alloc: Global, txn: &Txn) -> Considered {
+        consider(alloc, txn)
+    }
+
+    fn done(&self, alloc: Global, txn: Txn, change: Change) -> Result<Finished, Txn> {
+        txn.done(alloc, change)
     }
 
     fn commit<R: Wait>(
@@ -232,12 +253,12 @@ impl<L: Ledger + Naming> Steps<L> for Pool<L> {
         let Some(index) = release.next_shard() else {
             return release.next();
         };
-        let left = {
+        let (left, freed) = {
             let mut guard = lock_spinning(rt, &self.places[index].placed);
             let placed = &mut *guard;
             placed.let_go(release)
         };
-        self.places[index].released.notify_all();
+        freed.wake(&self.places);
         // Where nothing is held any more what the call has read is dropped here, with no lock held.
         left.next()
     }

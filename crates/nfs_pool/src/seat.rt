@@ -8,6 +8,7 @@ ghost use Rattle.nfs_pool.specs.Seats.{AreNew, Gains, made_by};
 use nfs_engine::{Committed, SHARDS};
 use nfs_history::{History, Known, Naming, Stamp};
 use std::marker::Model;
+use std::mem;
 use std::sync::ledger::{Ledger, Share};
 use std::sync::{Wait, ledger};
 
@@ -22,6 +23,8 @@ pub struct Seat<L: Ledger + Naming> {
     made: u64,
     /// The number of its last receipt, or a higher one that its next one is to be above.
     pub(crate) last: u64,
+    /// How many of its calls changed something since it was asked for that.
+    changes: usize,
     pub(crate) share: Share<L>,
     /// The history, as far as it is known.
     pub(crate) known: Known<L>,
@@ -49,6 +52,7 @@ impl<L: Ledger + Naming> Seat<L> {
             number: number as u64,
             made: 0,
             last: 0,
+            changes: 0,
             share,
             known,
         }
@@ -75,6 +79,13 @@ impl<L: Ledger + Naming> Seat<L> {
         self.last = self.last.max(number);
     }
 
+    /// How many of its calls changed something since this was asked last.
+    pub(crate) fn take_changes(&mut self) -> usize
+        ensures { self.new ≡ self.old }
+    {
+        mem::replace(&mut self.changes, 0)
+    }
+
     /// Adds a commit of a call of this seat to the history, and counts it.
     pub(crate) fn enter<R: Wait>(
         &mut self,
@@ -97,8 +108,17 @@ impl<L: Ledger + Naming> Seat<L> {
         counted.add(&mut self.share, 1);
         self.made += 1;
         self.last = committed.receipt.number;
+        self.changes = changes_with(self.changes, committed);
         Stamp::at(place, &self.known)
     }
+}
+
+/// How many calls changed something, with this one.
+fn changes_with(changes: usize, committed: &Committed) -> usize {
+    if committed.writes.is_empty() {
+        return changes;
+    }
+    changes.saturating_add(1)
 }
 
 /// A seat for each part of the share, in this room.
@@ -144,6 +164,7 @@ pub(crate) fn audit<L: Ledger + Naming>(
                 number,
                 made,
                 last,
+                changes,
                 share,
                 known,
             } = seat;
@@ -154,6 +175,7 @@ pub(crate) fn audit<L: Ledger + Naming>(
                 number,
                 made,
                 last,
+                changes,
                 share: all.split_off(1, made),
                 known,
             });

@@ -56,7 +56,7 @@ pub enum Unadmitted {
 pub enum Reason {
     /// There is no memory, or no number.
     Memory,
-    /// What it has read does not stand any more: it begins anew. Nothing that the pool does leads to that.
+    /// It may not be committed as it stands: it begins anew. Nothing that the pool does leads to that.
     Stale,
     /// Another call holds an address in a mode that excludes this one: it begins anew when none does.
     Taken(Addr, Mode),

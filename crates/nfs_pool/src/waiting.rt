@@ -1,6 +1,11 @@
-//! Who waits for an address alone, so that others give way there.
+//! Who waits for an address alone, so that others give way there; and who is woken when a call lets go.
 
-use nfs_objects::Addr;
+ghost use Rattle.std.specs.Prelude.{◌≡◌, ◌<◌, true};
+
+use crate::locking::LockedShard;
+use nfs_engine::SHARDS;
+use nfs_history::Naming;
+use nfs_objects::{Addr, Mode};
 use std::sync::Wait;
 use std::sync::atomic::{AtomicU64, Ordering};
 use std::time::Duration;
@@ -10,6 +15,65 @@ const PATIENCE: u64 = 1;
 
 /// In a word: somebody sleeps until it changes.
 const ASLEEP: u64 = 1;
+
+/// An address that was taken, and in which mode it is awaited. Where that is alone others give way there, until it is
+/// withdrawn: it has to be spent so.
+pub struct Awaiting {
+    address: Addr,
+    mode: Mode,
+}
+
+impl Awaiting {
+    /// An address in this mode.
+    pub(crate) fn new(address: Addr, mode: Mode) -> Awaiting
+        ensures { result ≡ record { address = address; mode = mode } }
+    {
+        Awaiting { address, mode }
+    }
+
+    /// Whether it is this address in this mode.
+    pub(crate) fn is(&self, address: Addr, mode: Mode) -> bool
+        ensures { result ≡ true → self.now ≡ record { address = address; mode = mode } }
+    {
+        self.address == address && self.mode == mode
+    }
+
+    /// The address.
+    pub fn address(&self) -> Addr
+        ensures { result ≡ self.now.address }
+    {
+        self.address
+    }
+
+    /// The mode.
+    pub fn mode(&self) -> Mode
+        ensures { result ≡ self.now.mode }
+    {
+        self.mode
+    }
+}
+
+/// A call let go in the shard of this index. Who waits there has to be woken: it has to be spent so.
+pub(crate) struct Freed {
+    index: usize,
+    ghost within: { index < 16 },
+}
+
+impl Freed {
+    /// A call let go in the shard of this index.
+    pub(crate) fn new(index: usize) -> Freed
+        requires { index < SHARDS }
+        ensures { result.index ≡ index }
+    {
+        Freed { index }
+    }
+
+    /// Wakes who waits in that shard.
+    pub(crate) fn wake<L: Naming>(self, places: &[LockedShard<L>; SHARDS]) {
+        let Freed { index } = self;
+        places[index].released.notify_all();
+    }
+}
 
 /// Which address of a shard somebody waits for alone, by its mark, or 0; and whether others sleep meanwhile. Of several
 /// addresses that are waited for at once it tells one.
@@ -26,16 +90,23 @@ impl Awaited {
         }
     }
 
-    /// Somebody waits for this address alone. Nothing changes where another is told.
-    pub(crate) fn note(&self, address: Addr) {
-        let _ = self
-            .word
-            .compare_exchange(0, mark_of(address), Ordering::SeqCst, Ordering::SeqCst);
+    /// Somebody waits for an address, and it is told if it is waited for alone. Nothing changes where another is told.
+    pub(crate) fn note(&self, awaiting: &Awaiting) {
+        if awaiting.mode == Mode::Exclusive {
+            let mark = mark_of(awaiting.address);
+            let _ = self
+                .word
+                .compare_exchange(0, mark, Ordering::SeqCst, Ordering::SeqCst);
+        }
     }
 
-    /// This address is told no more, and who sleeps meanwhile is woken.
-    pub(crate) fn forget(&self, address: Addr) {
-        if self.is(address) && self.word.swap(0, Ordering::SeqCst) & ASLEEP != 0 {
+    /// If it was waited for alone, it is told no more, and who sleeps meanwhile is woken.
+    pub(crate) fn forget(&self, awaiting: Awaiting) {
+        let Awaiting { address, mode } = awaiting;
+        if mode == Mode::Exclusive
+            && self.is(address)
+            && self.word.swap(0, Ordering::SeqCst) & ASLEEP != 0
+        {
             self.word.wake_all();
         }
     }

@@ -10,7 +10,7 @@ use Rattle.nfs_schedule.proofs.ArrivalsLemmas.{Passes, arrives_passes, option_jo
 use Rattle.nfs_schedule.proofs.ArrivalsLemmas.{stop_passes}
 use Rattle.nfs_schedule.proofs.ArrivalsLemmas.{turn_passes}
 use Rattle.nfs_schedule.proofs.LedgerLemmas.{Adds, adds_both, adds_none, era_adds, message_adds, same_adds, stop_adds}
-use Rattle.nfs_schedule.proofs.LedgerLemmas.{turn_adds, world_ledger}
+use Rattle.nfs_schedule.proofs.LedgerLemmas.{sweep_adds, turn_adds, world_ledger}
 use Rattle.nfs_schedule.specs.Accounts.{Accounts, IsAccounted, brought}
 use Rattle.nfs_schedule.specs.Answers.{answered}
 use Rattle.nfs_schedule.specs.Events.{Arrives, Drives, Happens}
@@ -18,7 +18,7 @@ use Rattle.nfs_schedule.specs.Worlds.{WorldValue}
 use Rattle.nfs_schedule.specs.declared.answer.Answer.{Answer}
 use Rattle.nfs_schedule.specs.declared.model.driving.Event.{Event}
 use Rattle.nfs_schedule.specs.declared.model.driving.Event.TheVariants.{Arrive, Replace, Turn, Stop, TakeMessage}
-use Rattle.nfs_schedule.specs.declared.model.driving.Event.TheVariants.{NewEra}
+use Rattle.nfs_schedule.specs.declared.model.driving.Event.TheVariants.{NewEra, Sweep}
 
 -- ---- an event
 record Comes (old new : WorldValue) (event : Event) (given : List Answer) : Type 0 where
@@ -62,6 +62,13 @@ happens_comes old new TakeMessage answer h =
 happens_comes old new NewEra answer h =
     subst (λ given. Comes old new NewEra given) (none_given answer h.1) (record {
       adds = era_adds old new h.0;
+      passes =
+          same_passes old new (ap (λ (w : WorldValue). w.queue) h.0.rest)
+          (ap (λ (w : WorldValue). w.workers) h.0.rest);
+    })
+happens_comes old new (Sweep number) answer h =
+    subst (λ given. Comes old new (Sweep number) given) (none_given answer h.1) (record {
+      adds = sweep_adds old new number h.0;
       passes =
           same_passes old new (ap (λ (w : WorldValue). w.queue) h.0.rest)
           (ap (λ (w : WorldValue). w.workers) h.0.rest);

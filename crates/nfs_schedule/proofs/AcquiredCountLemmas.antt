@@ -23,7 +23,7 @@ use Rattle.nfs_schedule.specs.Worlds.{StopsWorker, TakesTurn, WorldValue}
 use Rattle.nfs_schedule.specs.declared.answer.Answer.{Answer}
 use Rattle.nfs_schedule.specs.declared.model.driving.Event.{Event}
 use Rattle.nfs_schedule.specs.declared.model.driving.Event.TheVariants.{Arrive, Replace, Turn, Stop, TakeMessage}
-use Rattle.nfs_schedule.specs.declared.model.driving.Event.TheVariants.{NewEra}
+use Rattle.nfs_schedule.specs.declared.model.driving.Event.TheVariants.{NewEra, Sweep}
 use Rattle.nfs_schedule.specs.declared.model.worker.Worker.{Worker}
 use Rattle.nfs_schedule.specs.declared.model.worker.Worker.TheVariants.{Idle, Trying, Wanting, WantingNumbers, Ready}
 use Rattle.nfs_schedule.specs.declared.model.worker.Worker.TheVariants.{Blocked}
@@ -232,6 +232,7 @@ module _ (place : ℕ) (old new : WorldValue) (before : GoesOnAt place old) (aft
   happens_counts (Stop worker) answer h = stopped worker answer h
   happens_counts TakeMessage answer h = unturned (ap (λ (w : WorldValue). slice_get w.workers place) h.0.rest)
   happens_counts NewEra answer h = unturned (ap (λ (w : WorldValue). slice_get w.workers place) h.0.rest)
+  happens_counts (Sweep number) answer h = unturned (ap (λ (w : WorldValue). slice_get w.workers place) h.0.rest)
 
 -- ---- a drive
 starts_so : (place : ℕ) (old new : WorldValue) (events : List Event) (said later : List Answer)

@@ -3,13 +3,13 @@ use Rattle.std.proofs.Common.{◌≡◌, ℕ, zero, suc, ◌+◌, ◌<◌, List,
 use Rattle.std.proofs.Common.{◌∙◌, ap, subst, arith}
 use Rattle.std.specs.List.{AllByRecursion}
 use Rattle.std.proofs.lemmas.List.{length-set, take_more}
-use Rattle.nfs_schedule.proofs.EraRunLemmas.{era_runs, message_runs, stop_runs, turn_runs}
+use Rattle.nfs_schedule.proofs.EraRunLemmas.{era_runs, message_runs, stop_runs, sweep_runs, turn_runs}
 use Rattle.nfs_schedule.specs.Events.{Arrives, Drives, Goes, Happens, HasWorker}
 use Rattle.nfs_schedule.specs.Worlds.{RunsFrom, RunsOn, WorldValue}
 use Rattle.nfs_schedule.specs.declared.answer.Answer.{Answer}
 use Rattle.nfs_schedule.specs.declared.model.driving.Event.{Event}
 use Rattle.nfs_schedule.specs.declared.model.driving.Event.TheVariants.{Arrive, Replace, Turn, Stop, TakeMessage}
-use Rattle.nfs_schedule.specs.declared.model.driving.Event.TheVariants.{NewEra}
+use Rattle.nfs_schedule.specs.declared.model.driving.Event.TheVariants.{NewEra, Sweep}
 use Rattle.nfs_machine.specs.Run.{Arrival, FromHost, NewExports}
 use Rattle.nfs_engine.specs.Arrivals.{received_value}
 
@@ -54,6 +54,7 @@ happens_runs old new (Turn worker) answer h = turn_runs old new worker answer h
 happens_runs old new (Stop worker) answer h = stop_runs old new worker answer h
 happens_runs old new TakeMessage answer h = message_runs old new h.0
 happens_runs old new NewEra answer h = era_runs old new h.0
+happens_runs old new (Sweep number) answer h = sweep_runs old new number h.0
 
 pub drives_runs : (old new : WorldValue) (events : List Event) (said later : List Answer) →
     Drives old events new said later → RunsOn old new
@@ -72,6 +73,7 @@ happens_workers old new (Stop worker) answer h =
     ap (λ (w : WorldValue). length w.workers) h.rest ∙ length-set old.workers _ _
 happens_workers old new TakeMessage answer h = ap (λ (w : WorldValue). length w.workers) h.0.rest
 happens_workers old new NewEra answer h = ap (λ (w : WorldValue). length w.workers) h.0.rest
+happens_workers old new (Sweep number) answer h = ap (λ (w : WorldValue). length w.workers) h.0.rest
 
 pub drives_workers : (old new : WorldValue) (events : List Event) (said later : List Answer) →
     Drives old events new said later → length new.workers ≡ length old.workers

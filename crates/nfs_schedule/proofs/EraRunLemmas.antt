@@ -1,15 +1,20 @@
 -- The records of all eras lead on, at each step.
-use Rattle.std.proofs.Common.{◌≡◌, ℕ, List, [], ◌∷◌, ◌++◌, append-nil, append_assoc, Option, Some, None, sym, ◌∙◌}
+use Rattle.std.proofs.Common.{◌≡◌, ℕ, Bool, List, [], ◌∷◌, ◌++◌, append-nil, append_assoc, Option, Some, None, sym, ◌∙◌}
 use Rattle.std.proofs.Common.{ap, subst}
 use Rattle.nfs_machine.proofs.RunChainLemmas.{run-append}
 use Rattle.nfs_machine.specs.Run.{Record, Run, Setting}
+use Rattle.nfs_machine.specs.State.{State}
+use Rattle.nfs_objects.specs.Store.{Store}
 use Rattle.nfs_engine.proofs.CommitLeadsLemmas.{same_leads}
-use Rattle.nfs_engine.specs.Book.{BookValue, LeadsBook, TakesMessage}
+use Rattle.nfs_engine.proofs.SweptBookLemmas.{stands-swept}
+use Rattle.nfs_engine.specs.Book.{BookValue, LeadsBook, StandsFor, TakesMessage}
 use Rattle.nfs_engine.specs.Engine.{EngineValue}
 use Rattle.nfs_engine.specs.Journal.{EraValue}
+use Rattle.nfs_engine.specs.Sweeps.{IsSweptAt}
 use Rattle.nfs_engine.specs.declared.outbox.Posted.{Posted}
 use Rattle.nfs_schedule.specs.Turns.{Effect, KeepsBook, KeepsStore}
-use Rattle.nfs_schedule.specs.Worlds.{RunsOn, StopsWorker, TakesOldest, TakesTurn, TurnsEra, WorldValue, records_of}
+use Rattle.nfs_schedule.specs.Worlds.{RunsOn, StopsWorker, SweepsPage, TakesOldest, TakesTurn, TurnsEra, WorldValue}
+use Rattle.nfs_schedule.specs.Worlds.{records_of}
 use Rattle.nfs_schedule.specs.declared.answer.Answer.{Answer}
 use Rattle.nfs_schedule.specs.declared.answer.Answer.TheVariants as answers
 
@@ -119,6 +124,22 @@ era_runs old new t base r = record {
     joined =
         ap (λ (w : WorldValue). records_of w.eras) t.rest ∙ records_joined old.eras t.era
         ∙ ap (λ (l : List Record). records_of old.eras ++ l) t.takes.records
+
+-- ---- sweeps
+pub stands_still : (s t : Store) (file : ℕ) (last : Option Bool) → IsSweptAt s t file last → (m : State) →
+    StandsFor s m → StandsFor t m
+stands_still s t file None same m stands = subst (λ (x : Store). StandsFor x m) (sym same) stands
+stands_still s t file (Some last) swept m stands = stands-swept s t swept.0 m swept.2 stands
+
+pub sweep_runs : (old new : WorldValue) (number : ℕ) → SweepsPage old new number → RunsOn old new
+sweep_runs old new number s = runs_on old new (record {
+  leads = λ base l. record {
+    state = l.state;
+    run = subst (λ (b : BookValue). Run b.setting base b.records l.state) (sym s.book) l.run;
+    stands = s.stands l.state l.stands;
+  };
+  setting = ap (λ (b : BookValue). b.setting) s.book;
+}) (ap (λ (w : WorldValue). w.eras) s.rest)
 
 -- ---- one step after the other
 pub store_both : (e m f : EngineValue) → KeepsBook e m → KeepsBook m f → KeepsBook e f

@@ -1,6 +1,6 @@
 -- What answers tell of records, messages and the replies that are kept: step by step, and over steps.
 use Rattle.std.proofs.Common.{◌≡◌, ℕ, zero, suc, ◌+◌, List, [], ◌∷◌, ◌++◌, append-nil, append_assoc, length}
-use Rattle.std.proofs.Common.{length-append, map, option_to_list, Option, Some, None, Ok, refl, sym, ◌∙◌, ap, subst}
+use Rattle.std.proofs.Common.{length-append, map, option_to_list, Option, Some, None, refl, sym, ◌∙◌, ap, subst}
 use Rattle.std.proofs.Common.{arith}
 use Rattle.std.specs.Prelude.{flat_map}
 use Rattle.std.specs.Arc.{arc_value}
@@ -28,7 +28,7 @@ use Rattle.nfs_schedule.specs.Accounts.{IsReplyTo, RepliesFollow, all_messages, 
 use Rattle.nfs_schedule.specs.Accounts.{last_number, receipt_of, receipts_of, recorded}
 use Rattle.nfs_schedule.specs.Stops.{IsStopped}
 use Rattle.nfs_schedule.specs.Turns.{Effect, Executes, KeepsStore}
-use Rattle.nfs_schedule.specs.Worlds.{StopsWorker, TakesOldest, TakesTurn, TurnsEra, WorldValue, records_of}
+use Rattle.nfs_schedule.specs.Worlds.{StopsWorker, SweepsPage, TakesOldest, TakesTurn, TurnsEra, WorldValue, records_of}
 use Rattle.nfs_schedule.specs.declared.answer.Answer.{Answer}
 use Rattle.nfs_schedule.specs.declared.answer.Answer.TheVariants as answers
 use Rattle.nfs_schedule.specs.declared.model.worker.Worker.{Worker}
@@ -277,7 +277,7 @@ stop_adds old new worker answer s =
 pub same_adds : (w : WorldValue) → Adds (world_ledger w) (world_ledger w) []
 same_adds w = adds_none (world_ledger w) (world_ledger w) [] refl refl refl refl refl
 
--- ---- messages and eras
+-- ---- messages, eras and sweeps
 module _ (old new : WorldValue) (t : TakesOldest old new) where
   eras_same : new.eras ≡ old.eras
   eras_same = ap (λ (w : WorldValue). w.eras) t.rest
@@ -321,3 +321,11 @@ era_adds old new t =
     (ap (λ (w : WorldValue). map message_in w.taken ++ new.engine.book.outbox) t.rest
     ∙ ap (λ (b : BookValue). map message_in old.taken ++ b.outbox) t.takes.rest)
     (ap (λ (b : BookValue). b.replies) t.takes.rest)
+
+pub sweep_adds : (old new : WorldValue) (number : ℕ) → SweepsPage old new number →
+    Adds (world_ledger old) (world_ledger new) []
+sweep_adds old new number s =
+    world_adds old new [] (ap (λ (w : WorldValue). w.eras) s.rest) (ap (λ (w : WorldValue). w.taken) s.rest)
+    (adds_none (book_ledger old.engine.book) (book_ledger new.engine.book) [] refl
+    (ap (λ (b : BookValue). b.records) s.book) (ap (λ (b : BookValue). b.before + length b.records) s.book)
+    (ap (λ (b : BookValue). b.outbox) s.book) (ap (λ (b : BookValue). b.replies) s.book))

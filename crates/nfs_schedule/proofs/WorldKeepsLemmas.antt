@@ -2,11 +2,11 @@
 use Rattle.std.proofs.Common.{◌≡◌, ◌≢◌, ℕ, zero, suc, ◌+◌, ◌<◌, ◌≤◌, ◌⊎◌, inl, inr, List, [], ◌∷◌, ◌++◌, length}
 use Rattle.std.proofs.Common.{replicate, set, slice_get, Option, Some, None, IsSome, refl, sym, ◌∙◌, ap, subst, arith}
 use Rattle.std.proofs.lemmas.List.{replicate-append-replicate}
+use Rattle.nfs_objects.specs.declared.modes.Mode.{Mode}
 use Rattle.nfs_engine.proofs.OneShardOfSixteenLemmas.{alike_or}
 use Rattle.nfs_engine.specs.Arrivals.{ArrivalValue}
 use Rattle.nfs_engine.specs.Engine.{EngineValue, KeepsAll, held_among}
 use Rattle.nfs_engine.specs.Running.{running_at}
-use Rattle.nfs_engine.specs.Shards.{ShardValue}
 use Rattle.nfs_engine.specs.declared.running.Running.{Running}
 use Rattle.nfs_schedule.proofs.ViewRoundsLemmas.{turn_grown}
 use Rattle.nfs_schedule.proofs.OtherCallsLemmas.{worker_known}
@@ -163,18 +163,19 @@ pub kept_stop : (e f : EngineValue) (ws : List Worker) (i : ℕ) (w : Worker) (a
     slice_get ws i ≡ Some w → IsStop e f w answer → IsKept f (set ws i Idle)
 kept_stop e f ws i w answer kept at stop = kept_on e f ws i w Idle kept at tt tt tt stop.rest
 
--- ---- a step that concerns the book alone
+-- ---- a step of no call
 -- each call, and whoever holds an address, is as it was
-pub kept_all : (e f : EngineValue) (ws : List Worker) → KeepsAll e f → f.shards ≡ e.shards →
-    f.book.living ≡ e.book.living → IsKept e ws → IsKept f ws
-kept_all e f ws all shards living k = record {
+pub kept_all : (e f : EngineValue) (ws : List Worker) → KeepsAll e f → f.book.living ≡ e.book.living → IsKept e ws →
+    IsKept f ws
+kept_all e f ws all living k = record {
   lives = λ i w at. all_on e f all w (k.lives i w at);
   grown = k.grown;
   read = k.read;
   apart = k.apart;
   running = λ key some.
       k.running key (subst (λ (l : List (Option Running)). IsSome (running_at l key)) living some);
-  held = λ a id some. k.held a id (subst (λ (s : List ShardValue). IsSome (held_among s a id)) shards some);
+  held = λ a id some.
+      k.held a id (subst (λ (m : Option Mode). IsSome m) ((all (suc id)).holds a id (λ same. omega (arith, same))) some);
 }
 
 -- ---- workers that are idle

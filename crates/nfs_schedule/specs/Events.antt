@@ -3,11 +3,11 @@ use Rattle.std.specs.Prelude.{◌≡◌, ℕ, ◌<◌, ◌≤◌, List, [], ◌�
 use Rattle.std.specs.Prelude.{option_to_list}
 use Rattle.nfs_machine.specs.Run.{Arrival, FromHost, NewExports}
 use Rattle.nfs_engine.specs.Arrivals.{ArrivalValue, IsArrival, received_value}
-use Rattle.nfs_schedule.specs.Worlds.{StopsWorker, TakesOldest, TakesTurn, TurnsEra, WorldValue}
+use Rattle.nfs_schedule.specs.Worlds.{StopsWorker, SweepsPage, TakesOldest, TakesTurn, TurnsEra, WorldValue}
 use Rattle.nfs_schedule.specs.declared.answer.Answer.{Answer}
 use Rattle.nfs_schedule.specs.declared.model.driving.Event.{Event}
 use Rattle.nfs_schedule.specs.declared.model.driving.Event.TheVariants.{Arrive, Replace, Turn, Stop, TakeMessage}
-use Rattle.nfs_schedule.specs.declared.model.driving.Event.TheVariants.{NewEra}
+use Rattle.nfs_schedule.specs.declared.model.driving.Event.TheVariants.{NewEra, Sweep}
 
 -- the workers that an event names are there
 abbrev pub HasWorker : (workers : ℕ) → Event → Type 0
@@ -30,6 +30,7 @@ Happens old (Turn worker) answer new = TakesTurn old new worker answer
 Happens old (Stop worker) answer new = StopsWorker old new worker answer
 Happens old TakeMessage answer new = TakesOldest old new × (answer ≡ None)
 Happens old NewEra answer new = TurnsEra old new × (answer ≡ None)
+Happens old (Sweep number) answer new = SweepsPage old new number × (answer ≡ None)
 
 -- the event happened, and what was answered in it is the last of the answers
 pub record Goes (old new : WorldValue) (event : Event) (said later : List Answer) : Type 0 where

@@ -1,14 +1,15 @@
 -- The engine with its workers: what it keeps, and what its steps do.
 use Rattle.std.specs.Prelude.{◌≡◌, ℕ, ◌-◌, ◌%◌, List, [], ◌∷◌, ◌++◌, Option}
-use Rattle.std.specs.Prelude.{Some, None, IsSome, option_to_list, slice_get, slice_set}
+use Rattle.std.specs.Prelude.{Bool, Some, None, IsSome, option_to_list, slice_get, slice_set}
 use Rattle.nfs_machine.specs.Run.{Record, Run}
 use Rattle.nfs_machine.specs.State.{State}
 use Rattle.nfs_objects.specs.declared.address.Addr.{Addr}
 use Rattle.nfs_engine.specs.Arrivals.{ArrivalValue}
-use Rattle.nfs_engine.specs.Book.{LeadsFrom, Rebases, TakesEra, TakesMessage}
-use Rattle.nfs_engine.specs.Engine.{EngineValue, held_among}
+use Rattle.nfs_engine.specs.Book.{LeadsFrom, Rebases, StandsFor, TakesEra, TakesMessage, store_in}
+use Rattle.nfs_engine.specs.Engine.{EngineValue, KeepsAll, KeepsCounters, held_among}
 use Rattle.nfs_engine.specs.Journal.{EraValue}
 use Rattle.nfs_engine.specs.Running.{running_at}
+use Rattle.nfs_engine.specs.Sweeps.{IsSweptAt}
 use Rattle.nfs_engine.specs.declared.outbox.Posted.{Posted}
 use Rattle.nfs_schedule.specs.Asking.{HasRead}
 use Rattle.nfs_schedule.specs.Grown.{IsGrown}
@@ -104,3 +105,14 @@ pub record TurnsEra (old new : WorldValue) : Type 0 where
   pub takes : TakesEra old.engine.book new.engine.book era
   pub rebases : Rebases old.engine.book new.engine.book
   pub rest : new ≡ record old { engine = new.engine; eras = old.eras ++ era ∷ [] }
+
+-- The last map page of what the file at this number left goes, or nothing does. Whatever state the store stood for it
+-- stands for still, what a call holds stays, and nothing else changes.
+pub record SweepsPage (old new : WorldValue) (number : ℕ) : Type 0 where
+  pub last : Option Bool
+  pub swept : IsSweptAt (store_in old.engine.book) (store_in new.engine.book) number last
+  pub stands : (m : State) → StandsFor (store_in old.engine.book) m → StandsFor (store_in new.engine.book) m
+  pub others : KeepsAll old.engine new.engine
+  pub counters : KeepsCounters old.engine new.engine
+  pub book : new.engine.book ≡ record old.engine.book { objects = new.engine.book.objects }
+  pub rest : new ≡ record old { engine = new.engine }

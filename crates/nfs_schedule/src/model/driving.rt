@@ -15,7 +15,7 @@ use nfs_engine::{Arrival, Received};
 use nfs_machine::{Exports, Moment};
 use std::alloc::{AllocError, Global};
 
-/// What may happen to a world: one step of one worker, or of the engine's book.
+/// What may happen to a world: one step of one worker, or of the engine between calls.
 #[derive(Drop)]
 pub enum Event {
     /// This record comes in, and waits behind what came in before.
@@ -30,6 +30,8 @@ pub enum Event {
     TakeMessage,
     /// The era ends, and the next begins.
     NewEra,
+    /// The last map page of what the file at this number left goes, if nobody holds it.
+    Sweep(u64),
 }
 
 /// Makes the steps of these events, one after the other. How what came in was answered is put behind these
@@ -79,6 +81,7 @@ fn happen(
         Event::Stop(worker) => note(answers, world.stop(*worker)),
         Event::TakeMessage => world.take_message()?,
         Event::NewEra => world.new_era()?,
+        Event::Sweep(number) => world.sweep(alloc, *number)?,
     }
     Ok(())
 }

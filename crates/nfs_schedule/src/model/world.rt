@@ -7,7 +7,8 @@ ghost use Rattle.nfs_schedule.specs.Order.{IsOrderly};
 ghost use Rattle.nfs_schedule.specs.Stops.{IsStop};
 ghost use Rattle.nfs_schedule.specs.Turns.{KeepsBook, Turns};
 ghost use Rattle.nfs_schedule.specs.Workers.{WorkerLives};
-ghost use Rattle.nfs_schedule.specs.Worlds.{IsAtRest, IsKept, RunsOn, StopsWorker, TakesOldest, TakesTurn, TurnsEra};
+ghost use Rattle.nfs_schedule.specs.Worlds.{IsAtRest, IsKept, RunsOn, StopsWorker, SweepsPage, TakesOldest, TakesTurn};
+ghost use Rattle.nfs_schedule.specs.Worlds.{TurnsEra};
 
 use crate::answer::Answer;
 use crate::model::stop::stop;
@@ -216,6 +217,21 @@ impl World {
         self.eras.reserve(1)?;
         let era = self.engine.new_era();
         self.eras.push(era).unwrap();
+        Ok(())
+    }
+
+    /// Sweeps the last map page of what the file at this number left, if nobody holds it. What stood there is dropped.
+    ///
+    /// # Errors
+    ///
+    /// There is no memory for it. Nothing is changed.
+    pub fn sweep(&mut self, alloc: Global, number: u64) -> Result<(), AllocError>
+        ensures ok { OnOk result (SweepsPage self.old self.new number) }
+        ensures runs { OnOk result (RunsOn self.old self.new) }
+        ensures err { OnErr result (self.new ≡ self.old) }
+    {
+        let mut swept = Vec::new(alloc);
+        self.engine.sweep(alloc, number, &mut swept)?;
         Ok(())
     }
 }

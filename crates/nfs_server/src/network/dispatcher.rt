@@ -358,6 +358,14 @@ impl<L: Ledger + Naming, C: Clock> Dispatcher<L, C> {
         }
     }
 
+    /// Sweeps a page for each call that changed something since this was done last, while something is left.
+    pub(crate) fn help<R: Wait>(&mut self, rt: &R, alloc: Global)
+        ensures { self.new.seat ≡ self.old.seat }
+    {
+        let Dispatcher { service, seat, .. } = self;
+        service.pool.help(rt, alloc, seat);
+    }
+
     /// Submits what came in. Where it is refused, as memory is wanting, a page of what removed and cut files left is
     /// swept, and it is submitted again as it came: while something is left, and so often at most.
     ///

@@ -55,6 +55,7 @@ impl<L: Ledger + Naming, C: Clock> Dispatcher<L, C> {
                         .add(CountedEvent::BytesWritten, count as u64);
                 }
                 drop(answer);
+                self.help(rt, alloc);
             }
             Err(_) => self.counters().happened(CountedEvent::DatagramDropped),
         }

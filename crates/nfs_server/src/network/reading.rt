@@ -151,6 +151,7 @@ impl<L: Ledger + Naming, C: Clock, P: Peer> ConnectionThread<L, C, P> {
         let answered = self.answer_piece(rt, alloc, connection);
         self.dispatcher.service.drain.leave();
         let is_refused = answered?;
+        self.dispatcher.help(rt, alloc);
         match taken {
             Ok(()) => Ok(is_refused),
             Err(RecordError::TooLarge) => Err(Closed::Failed),

@@ -21,8 +21,8 @@ const REST: u64 = 1;
 /// How many objects are swept before such a rest, or up to a page more.
 const MOST_OBJECTS: usize = 512;
 
-/// How many pages are looked at before it at most, where they have few objects.
-const MOST_PAGES: usize = 256;
+/// How many files are looked at before it at most, where they have few objects.
+const MOST_LOOKS: usize = 256;
 
 /// Room for what is swept, made at the start, so that to sweep takes no memory.
 #[derive(Drop)]
@@ -64,11 +64,15 @@ impl<L: Ledger + Naming> Service<L> {
     /// Sweeps what is left, from a second after it was left on at the latest, until nobody calls any more. It counts
     /// what stands and what is kept.
     pub(crate) fn sweep_to_end<R: Wait + Clock>(&self, rt: &R, alloc: Global) {
+        let mut pause = LOOK;
         for _ in rt.forever() {
-            let pause = if self.pool.has_dead(rt) { REST } else { LOOK };
             let has_ended = self.end.wait_within(rt, Duration::from_millis(pause));
             if !has_ended {
-                self.sweep(rt, alloc, MOST_PAGES);
+                pause = if self.sweep(rt, alloc, MOST_OBJECTS) {
+                    REST
+                } else {
+                    LOOK
+                };
             }
             self.tell_levels(rt);
             if has_ended {
@@ -80,27 +84,33 @@ impl<L: Ledger + Naming> Service<L> {
 
     /// Sweeps a page, where something is left, since memory is wanting. Whether something was left.
     pub(crate) fn relieve<R: Wait>(&self, rt: &R, alloc: Global) -> bool {
-        let has_dead = self.pool.has_dead(rt);
-        if has_dead {
+        let has_left = self.pool.has_left(rt);
+        if has_left {
             self.sweep(rt, alloc, 1);
         }
-        has_dead
+        has_left
     }
 
-    /// Looks at so many pages at most, and sweeps those of dead files. What stood there is let go with no lock held.
-    fn sweep<R: Wait>(&self, rt: &R, alloc: Global, pages: usize) {
+    /// Sweeps so many objects, or up to a page more. What stood there is let go with no lock held. Whether more may be
+    /// swept at once: not where nothing is left, or all of it was put off.
+    fn sweep<R: Wait>(&self, rt: &R, alloc: Global, objects: usize) -> bool {
         let mut gone = self.sweep_room.take(rt, alloc);
-        for _ in 0..pages {
-            if gone.len() >= MOST_OBJECTS {
+        let mut goes_on = true;
+        for _ in 0..MOST_LOOKS {
+            if gone.len() >= objects {
                 break;
             }
             match self.pool.sweep(rt, alloc, &mut gone) {
                 Looked::Swept | Looked::Passed => {}
-                Looked::Ended => break,
+                Looked::Ended => {
+                    goes_on = false;
+                    break;
+                }
             }
         }
         gone.clear();
         self.sweep_room.give(rt, gone);
+        goes_on
     }
 
     /// Counts how much there is of what is kept.

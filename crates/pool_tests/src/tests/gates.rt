@@ -6,12 +6,14 @@ use super::ends::End;
 use super::pools::{Course, Part, Runs, in_pool};
 use super::rows::X;
 use nfs_engine::{
-    Admission, Arrival, Finished, Got, Next, Pending, Receipt, Refused, Release, ReserveError,
+    Admission, Arrival, Finished, Got, Next, Pending, Receipt, Refused, Release, ReserveError, Txn,
 };
-use nfs_objects::{Addr, Mode};
+use nfs_objects::{Addr, Change, Mode};
 use nfs_pool::{
-    Gate, Naming, NotedTxn, Notes, Open, Pool, Seat, Step, Steps, Unadmitted, Uncommitted, run_call,
+    Awaiting, Gate, Naming, NotedTxn, Notes, Open, Pool, Seat, Step, Steps, Unadmitted,
+    Uncommitted, run_call,
 };
+use nfs_schedule::Considered;
 use std::alloc::{AllocError, Global};
 use std::sync::Wait;
 use std::sync::atomic::{AtomicU64, Ordering};
@@ -169,17 +171,17 @@ impl<'a, L: Ledger + Naming> Steps<L> for Counting<'a, L> {
         self.pool.acquire(rt, alloc, gate, txn, address, mode)
     }
 
-    fn wait_for<R: Wait>(&self, rt: &R, address: Addr, mode: Mode) {
+    fn wait_for<R: Wait>(&self, rt: &R, awaiting: &Awaiting) {
         self.meeting.waits.fetch_add(1, Ordering::SeqCst);
-        self.pool.wait_for(rt, address, mode);
+        self.pool.wait_for(rt, awaiting);
     }
 
     fn give_way<R: Wait>(&self, rt: &R, address: Addr) {
         self.pool.give_way(rt, address);
     }
 
-    fn withdraw(&self, address: Addr) {
-        self.pool.withdraw(address);
+    fn withdraw(&self, awaiting: Awaiting) {
+        self.pool.withdraw(awaiting);
     }
 
     fn reserve<R: Wait>(
@@ -189,6 +191,14 @@ impl<'a, L: Ledger + Naming> Steps<L> for Counting<'a, L> {
         shard: usize,
     ) -> Result<bool, ReserveError> {
         self.pool.reserve(rt, txn, shard)
+    }
+
+    fn consider(&self, alloc: Global, txn: &Txn) -> Considered {
+        self.pool.consider(alloc, txn)
+    }
+
+    fn done(&self, alloc: Global, txn: Txn, change: Change) -> Result<Finished, Txn> {
+        self.pool.done(alloc, txn, change)
     }
 
     fn commit<R: Wait>(

@@ -93,7 +93,9 @@ pub(super) fn hold<L: Ledger + Naming, R: Runs>(
     let got = caller
         .pool
         .acquire(rt, alloc, &Open, &mut noted, address, mode);
-    Some((got, noted.into_txn().abort()))
+    let (txn, notes) = noted.into_parts();
+    drop(notes);
+    Some((got, txn.abort()))
 }
 
 /// A call in progress, which has read nothing.

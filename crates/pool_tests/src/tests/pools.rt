@@ -146,7 +146,7 @@ pub(super) fn opened(alloc: Global, era_records: u64) -> Result<Engine, AllocErr
     ensures { IfOk result (λ engine. engine.book.records ≡ []) }
 {
     let config = Config {
-        exports: exports(alloc)?,
+        exports: exports(alloc, b"/data")?,
         start: 7,
         moment: moment(),
         capacity: 1024,
@@ -162,11 +162,11 @@ pub(super) fn opened(alloc: Global, era_records: u64) -> Result<Engine, AllocErr
     }
 }
 
-/// `/data` for every host.
-fn exports(alloc: Global) -> Result<Exports, AllocError> {
+/// This path for every host.
+pub(super) fn exports(alloc: Global, path: &'static [u8]) -> Result<Exports, AllocError> {
     let hosts = vec![in alloc; Bytes::from_static(b"*")]?;
     let data = ExportText {
-        path: Bytes::from_static(b"/data"),
+        path: Bytes::from_static(path),
         mode: Bytes::from_static(b"rw"),
         hosts,
     };

@@ -7,13 +7,14 @@ use super::ends::End;
 use super::pools::{Course, Part, Runs, in_pool};
 use super::rows::{LINKED, LINKS, Row, STALE, Want, X, Y, is_met};
 use nfs_engine::{
-    Admission, Arrival, Finished, Got, Next, Pending, Receipt, Refused, Release, ReserveError,
+    Admission, Arrival, Finished, Got, Next, Pending, Receipt, Refused, Release, ReserveError, Txn,
 };
-use nfs_objects::{Addr, Mode};
+use nfs_objects::{Addr, Change, Mode};
 use nfs_pool::{
-    Gate, Naming, NotedTxn, Notes, Open, Pool, PoolError, Reason, Seat, Sent, Steps, Unadmitted,
-    Uncommitted, run_call,
+    Awaiting, Gate, Naming, NotedTxn, Notes, Open, Pool, PoolError, Reason, Seat, Sent, Steps,
+    Unadmitted, Uncommitted, run_call,
 };
+use nfs_schedule::Considered;
 use std::alloc::{AllocError, Global};
 use std::sync::Wait;
 use std::sync::atomic::{AtomicU64, Ordering};
@@ -35,7 +36,7 @@ const DENIED_NOLOCKS: u32 = 2;
 /// Where the status of a LOCK is in its reply, behind its cookie of no bytes.
 const LOCKED: usize = 32;
 
-/// The steps of a pool, in which one acquire, reserve or commit is refused for want of memory.
+/// The steps of a pool, in which one acquire, reserve, attempt, end or commit is refused for want of memory.
 #[derive(Drop)]
 struct Refusing<'a, L: Ledger + Naming> {
     pool: &'a Pool<L>,
@@ -99,7 +100,7 @@ impl<'a, L: Ledger + Naming> Steps<L> for Refusing<'a, L> {
         self.pool.acquire(rt, alloc, gate, txn, address, mode)
     }
 
-    fn wait_for<R: Wait>(&self, _rt: &R, _address: Addr, _mode: Mode) {
+    fn wait_for<R: Wait>(&self, _rt: &R, _awaiting: &Awaiting) {
         self.has_waited.store(1, Ordering::SeqCst);
     }
 
@@ -107,8 +108,8 @@ impl<'a, L: Ledger + Naming> Steps<L> for Refusing<'a, L> {
         self.pool.give_way(rt, address);
     }
 
-    fn withdraw(&self, address: Addr) {
-        self.pool.withdraw(address);
+    fn withdraw(&self, awaiting: Awaiting) {
+        self.pool.withdraw(awaiting);
     }
 
     fn reserve<R: Wait>(
@@ -121,6 +122,21 @@ impl<'a, L: Ledger + Naming> Steps<L> for Refusing<'a, L> {
             return Err(ReserveError::Memory);
         }
         self.pool.reserve(rt, txn, shard)
+    }
+
+    fn consider(&self, alloc: Global, txn: &Txn) -> Considered {
+        if self.refuses() {
+            return Considered::Fails;
+        }
+        self.pool.consider(alloc, txn)
+    }
+
+    fn done(&self, alloc: Global, txn: Txn, change: Change) -> Result<Finished, Txn> {
+        if self.refuses() {
+            drop(change);
+            return Err(txn);
+        }
+        self.pool.done(alloc, txn, change)
     }
 
     fn commit<R: Wait>(

@@ -14,7 +14,7 @@ invariant_of-self g c =
     let after = λ (a : Addr). (slot_at c.settle_in.new.shard a).object in
     record {
       marked = c.mark_written.ensures before after old.marked
-          (made-among c.index.result old.shard.index before after (map write_value c.deref.result.now)
-          c.index.ensures.which (subst (λ (ws : List Write). MakesAmong (Some old.shard.index) before after
+          (made-among c.index-index.result old.shard.index before after (map write_value c.deref.result.now)
+          c.index-index.ensures.which (subst (λ (ws : List Write). MakesAmong (Some old.shard.index) before after
           (map write_value ws)) (sym c.deref.ensures.value) c.settle_in.ensures.shard.objects));
     }

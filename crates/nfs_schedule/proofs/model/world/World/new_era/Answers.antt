@@ -8,7 +8,6 @@ use Rattle.nfs_schedule.proofs.model.world.World.new_era.Goals as goal
 pub invariant_of-self-2 : goal.invariant_of-self-2
 invariant_of-self-2 c =
     kept_all c.self.inside.engine c.new_era-era.new.self c.self.inside.workers.items c.new_era-era.ensures.others
-    c.new_era-era.ensures.shards
     (ap (λ (b : BookValue). b.living) c.new_era-era.ensures.era.rest) c.self.invariant
 
 pub returns-clause-ok : goal.returns-clause-ok

@@ -9,7 +9,7 @@ returns-in_default-clause-runs c = message_runs _ _ (search rules)
 pub invariant_of-self-2 : goal.invariant_of-self-2
 invariant_of-self-2 c =
     kept_all c.self.inside.engine c.take_message.new.self c.self.inside.workers.items c.in-Some.ensures.others
-    c.in-Some.ensures.shards (message_living c.self.inside.engine.book c.take_message.new.self.book
+    (message_living c.self.inside.engine.book c.take_message.new.self.book
     (Some c.in-Some.posted) c.in-Some.ensures.takes) c.self.invariant
 
 pub returns-clause-runs : goal.returns-clause-runs

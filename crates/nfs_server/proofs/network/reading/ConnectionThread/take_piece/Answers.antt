@@ -13,9 +13,10 @@ returns-in_err-is_refused-clause-breaks g c =
 
 pub returns-in-Ok-clause-goes : goal.returns-in-Ok-clause-goes
 returns-in-Ok-clause-goes g c = λ unread left read.
-    piece_goes _ _ _ c.args.connection.now c.take_in-taken.new.self c.answer_piece-answered.new.connection c.args.piece.now
-    unread left _ _ (λ stream given is. (c.in-Ok.ensures.ok stream given is).0) c.take_in-taken.ensures.answers read
-    (c.in_ok-is_refused.ensures.goes left)
+    rw c.help.ensures
+    (piece_goes _ _ _ c.args.connection.now c.take_in-taken.new.self c.answer_piece-answered.new.connection
+    c.args.piece.now unread left _ _ (λ stream given is. (c.in-Ok.ensures.ok stream given is).0)
+    c.take_in-taken.ensures.answers read (c.in_ok-is_refused.ensures.goes left))
 
 pub returns-in-Err-TooLarge-clause-breaks : goal.returns-in-Err-TooLarge-clause-breaks
 returns-in-Err-TooLarge-clause-breaks g c = λ unread left read.
