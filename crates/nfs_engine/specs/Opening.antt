@@ -85,7 +85,7 @@ pub record Opens (config : Config) (b : BookValue) : Type 0 where
     bytes = 0;
     outbox = [];
     taken = 0;
-    replies = record { capacity = config.capacity; hosts = [] };
+    replies = record { capacity = record { count = config.capacity; bytes = config.reply_bytes }; hosts = [] };
     living = [];
     next_id = 0;
     setting = record { start = config.start; limits = config.limits };

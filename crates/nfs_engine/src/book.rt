@@ -99,7 +99,7 @@ impl Book {
         ensures given { IfOk result (λ r. (n : ℕ) → (store_in r.0).last n ≤ 1) }
         ensures refused { IfErr result (IsStartError config) }
     {
-        let Some(capacity) = Capacity::new(config.capacity as usize) else {
+        let Some(capacity) = Capacity::new(config.capacity as usize, config.reply_bytes) else {
             return Err(StartError::Capacity);
         };
         if !is_limit(config.era_records) {
@@ -329,11 +329,11 @@ impl Book {
             return Err(finished);
         };
         let origin = self.calls.origin(finished.key, finished.id);
-        let Ok(()) = keep_answer(alloc, &mut self.replies, origin, &numbered.answer) else {
+        let Ok(gone) = keep_answer(alloc, &mut self.replies, origin, &numbered.answer) else {
             return Err(finished);
         };
         self.calls.end(finished.key, finished.id);
-        Ok(self.journal.commit(finished, numbered))
+        Ok(self.journal.commit(finished, numbered, gone))
     }
 
     /// Whether a call may be committed: what it has read stands in the present store, its numbers were never given with

@@ -25,6 +25,7 @@ use crate::shard::SHARDS;
 use crate::sweeping::Sweep;
 use bytes::Bytes;
 use nfs_objects::Write;
+use nfs_replies::Gone;
 use std::alloc::{AllocError, Global};
 use std::marker::Model;
 use std::snapshot::Snapshot;
@@ -57,6 +58,8 @@ pub struct Committed {
 #[derive(Drop)]
 pub struct Spent {
     request: Box<Request>,
+    /// The kept replies that made way for its own.
+    gone: Gone,
 }
 
 /// What a commit is told in the end: under which number, and with which answer.
@@ -151,8 +154,8 @@ impl Journal {
         Ok(())
     }
 
-    /// Commits a call, under its number and with its answer.
-    pub(crate) fn commit(&mut self, finished: Finished, numbered: Numbered) -> Committed
+    /// Commits a call, under its number and with its answer, for which these kept replies made way.
+    pub(crate) fn commit(&mut self, finished: Finished, numbered: Numbered, gone: Gone) -> Committed
         requires { IsReady self.old finished numbered }
         ensures journal { Writes self.old self.new finished }
         ensures committed { IsCommitted self.old finished result }
@@ -191,7 +194,7 @@ impl Journal {
                 after: Then::Ended,
             },
             writes: own,
-            spent: Spent { request },
+            spent: Spent { request, gone },
         }
     }
 

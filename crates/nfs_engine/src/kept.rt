@@ -6,7 +6,7 @@ ghost use Rattle.nfs_engine.specs.Repeats.{Keeps, kept_for};
 
 use crate::arrival::Incoming;
 use bytes::Bytes;
-use nfs_replies::{Origin, Replies};
+use nfs_replies::{Gone, Origin, Replies};
 use std::alloc::{AllocError, Global};
 use std::marker::Model;
 
@@ -48,7 +48,7 @@ impl Kept {
     }
 }
 
-/// Keeps the answer to a call that came with this, if it changes something.
+/// Keeps the answer to a call that came with this, if it changes something. What made way for it is handed out.
 ///
 /// # Errors
 ///
@@ -58,13 +58,13 @@ pub(crate) fn keep_answer(
     replies: &mut Replies,
     origin: Option<&Origin>,
     answer: &Bytes,
-) -> Result<(), AllocError>
+) -> Result<Gone, AllocError>
     requires { IfSome (option_copied origin) (λ o. kept_for replies.old o ≡ None) }
     ensures keeps { OnOk result (Keeps (option_copied origin.entry) answer.now replies.old replies.new) }
     ensures err { OnErr result (replies.new ≡ replies.old) }
 {
     let Some(origin) = origin else {
-        return Ok(());
+        return Ok(Gone::new(alloc));
     };
     let bytes = origin.bytes.share()?;
     let answer = answer.clone()?;

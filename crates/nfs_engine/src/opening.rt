@@ -30,6 +30,8 @@ pub struct Config {
     pub moment: Moment,
     /// How many replies are kept of each host, from 1 to 65,536.
     pub capacity: u64,
+    /// For how many bytes replies are kept of each host; the newest is kept whatever its size.
+    pub reply_bytes: u64,
     /// What FSSTAT tells of space, and what names of directories are placed by.
     pub limits: Limits,
     /// At how many records an era is full, from 1 to 65,536.

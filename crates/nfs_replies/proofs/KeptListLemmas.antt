@@ -1,21 +1,14 @@
 -- Lists of kept replies: what is not kept stays so, and each record stays once.
-use Rattle.std.proofs.Common.{◌≡◌, ◌≤◌, ◌+◌, ℕ, zero, suc, Bool, true, false, cond, not, List, []}
+use Rattle.std.proofs.Common.{◌≡◌, ◌≤◌, ◌+◌, ◌-◌, ℕ, zero, suc, Bool, true, false, cond, not, ◌&&◌, nat_le, nat_lt, List, []}
 use Rattle.std.proofs.Common.{◌∷◌, ◌++◌, Option, Some, None, option_map, length, take, find, filter, refl}
 use Rattle.std.proofs.Common.{ap, ◌∙◌, arith}
-use Rattle.nfs_replies.specs.Kept.{KeptReply, after, is_for, reply_for}
+use Rattle.nfs_replies.specs.Kept.{CapacityValue, KeptReply, after, bytes_of, is_for, reply_for, size_of, trimmed}
+use Rattle.nfs_replies.specs.Kept.{within}
 use Rattle.nfs_replies.specs.Kept.ReplyEvent.{Repeated}
+use Rattle.nfs_replies.proofs.TrimLemmas.{bytes_of-append}
 
 module _ {X : Type 0} (p q : X → Bool) where
   -- what a list does not have, no part of it has
-  pub find-take : (n : ℕ) (xs : List X) → find p xs ≡ None → find p (take n xs) ≡ None
-  find-take zero xs none = refl
-  find-take (suc n) [] none = refl
-  find-take (suc n) (x ∷ xs) none = elim (p x) as (λ b. cond b (Some x) (find p xs) ≡ None →
-      cond b (Some x) (find p (take n xs)) ≡ None) [
-        | true ↦ λ h. h
-        | false ↦ λ h. find-take n xs h
-      ] none
-
   pub find-filter : (xs : List X) → find p xs ≡ None → find p (filter q xs) ≡ None
   find-filter [] none = refl
   find-filter (x ∷ xs) none = elim (q x) as (λ b. find p (cond b (x ∷ filter q xs) (filter q xs)) ≡ None) [
@@ -89,7 +82,47 @@ pub none-found : (o : Option KeptReply) → option_map (λ (kept : KeptReply). k
 none-found None none = refl
 none-found (Some kept) none = cc
 
-module _ (capacity : ℕ) (host bytes : List ℕ) where
+-- nor what is left where too much goes
+find-within : (p : KeptReply → Bool) (count bytes : ℕ) (list : List KeptReply) → find p list ≡ None →
+    find p (within count bytes list) ≡ None
+find-within p count bytes [] none = refl
+find-within p count bytes (x ∷ list) none = elim (nat_lt 0 count && nat_le (size_of x) bytes) as (λ b.
+    find p (cond b (x ∷ within (count - 1) (bytes - size_of x) list) []) ≡ None) [
+      | true ↦ elim (p x) as (λ b. cond b (Some x) (find p list) ≡ None →
+          cond b (Some x) (find p (within (count - 1) (bytes - size_of x) list)) ≡ None) [
+            | true ↦ λ h. h
+            | false ↦ λ h. find-within p (count - 1) (bytes - size_of x) list h
+          ] none
+      | false ↦ refl
+    ]
+
+pub find-trimmed : (p : KeptReply → Bool) (capacity : CapacityValue) (list : List KeptReply) → find p list ≡ None →
+    find p (trimmed capacity list) ≡ None
+find-trimmed p capacity [] none = refl
+find-trimmed p capacity (x ∷ list) none = elim (p x) as (λ b. cond b (Some x) (find p list) ≡ None →
+    cond b (Some x) (find p (within (capacity.count - 1) (capacity.bytes - size_of x) list)) ≡ None) [
+      | true ↦ λ h. h
+      | false ↦ λ h. find-within p (capacity.count - 1) (capacity.bytes - size_of x) list h
+    ] none
+
+-- a part and the others have all bytes
+pub bytes-halves : (t : KeptReply → Bool) (list : List KeptReply) →
+    bytes_of (filter t list ++ filter (λ x. not (t x)) list) ≡ bytes_of list
+bytes-halves t list = bytes_of-append (filter t list) (filter (λ x. not (t x)) list) ∙ by list
+  where
+    by : (list : List KeptReply) →
+        bytes_of (filter t list) + bytes_of (filter (λ x. not (t x)) list) ≡ bytes_of list
+    by [] = omega arith
+    by (x ∷ list) =
+        let rest = by list in
+        elim (t x) as (λ b. bytes_of (cond b (x ∷ filter t list) (filter t list)) +
+        bytes_of (cond (not b) (x ∷ filter (λ x. not (t x)) list) (filter (λ x. not (t x)) list)) ≡
+        bytes_of (x ∷ list)) [
+          | true ↦ omega (arith, rest)
+          | false ↦ omega (arith, rest)
+        ]
+
+module _ (capacity : CapacityValue) (host bytes : List ℕ) where
   -- a repeat of what is not kept changes nothing
   pub after-unkept : (list : List KeptReply) → reply_for bytes list ≡ None →
       after capacity (Repeated host bytes) list ≡ list

@@ -1,5 +1,5 @@
 -- A table of records by labels is the list of what it keeps: to find, to promote and to put are what events do to it.
-use Rattle.std.proofs.Common.{◌≡◌, ◌≤◌, ◌<◌, ◌-◌, ◌+◌, ℕ, zero, suc, Bool, true, false, cond, not, ◌&&◌, nat_eq}
+use Rattle.std.proofs.Common.{◌≡◌, ◌≤◌, ◌<◌, ◌-◌, ◌+◌, ◌^◌, ℕ, zero, suc, Bool, true, false, cond, not, ◌&&◌, nat_eq}
 use Rattle.std.proofs.Common.{List, [], ◌∷◌, ◌++◌, Option, Some, None, IsSome, option_map, length, take, find}
 use Rattle.std.proofs.Common.{filter, refl, sym, ap, ◌∙◌, subst, arith}
 use Rattle.std.proofs.lemmas.Bool.{and_parts, eq-eqb, eqb-true}
@@ -12,15 +12,16 @@ use Rattle.std.specs.Option.{option_map_or}
 use Rattle.lru.proofs.Pairs.{lookup-lookup_entry}
 use Rattle.lru.proofs.Splits.{all_both}
 use Rattle.lru.specs.LruCache.{LruCache, lru_cache, promoted, put_entries}
-use Rattle.nfs_replies.specs.Kept.{KeptReply, is_for, reply_for}
-use Rattle.nfs_replies.specs.Kept.ReplyEvent.{Replied, Repeated}
+use Rattle.nfs_replies.specs.Kept.{CapacityValue, KeptReply, after, bytes_of, is_for, reply_for}
+use Rattle.nfs_replies.specs.Kept.ReplyEvent.{Repeated}
 use Rattle.nfs_replies.specs.Keys.{digest}
-use Rattle.nfs_replies.specs.Lists.{Entry, HasBytes, IsLabelled, IsList, KeptListValue, is_at, is_of}
-use Rattle.nfs_replies.specs.Lists.{kept_entry, kept_in, left_by, numbered, same_label}
+use Rattle.nfs_replies.specs.Lists.{EachOnce, Entry, HasBytes, IsLabelled, IsList, is_at, is_of, kept_entry}
+use Rattle.nfs_replies.specs.Lists.{kept_in, numbered, same_label}
 use Rattle.nfs_replies.specs.declared.digest.RecordKey.{RecordKey}
-use Rattle.nfs_replies.specs.declared.list.KeptEntry.{KeptEntry}
+use Rattle.nfs_replies.specs.declared.gone.KeptEntry.{KeptEntry}
 use Rattle.nfs_replies.specs.declared.list.Label.{Label}
-use Rattle.nfs_replies.proofs.KeptListLemmas.{length-filter_halves, length-filter_take, none-found, others-all}
+use Rattle.nfs_replies.proofs.KeptListLemmas.{bytes-halves, length-filter_halves, length-filter_take, none-found}
+use Rattle.nfs_replies.proofs.KeptListLemmas.{others-all}
 
 abbrev Entries : Type 0
 Entries = List Entry
@@ -39,6 +40,12 @@ module _ {X : Type 0} where
   all-taken P (suc n) [] h = tt
   all-taken P (suc n) (x ∷ xs) h = (h.0, all-taken P n xs h.1)
 
+  take-all : (n : ℕ) (xs : List X) → length xs ≤ n → take n xs ≡ xs
+  take-all zero [] few = refl
+  take-all zero (x ∷ xs) few = absurd (omega arith)
+  take-all (suc n) [] few = refl
+  take-all (suc n) (x ∷ xs) few = ap (λ l. x ∷ l) (take-all n xs (omega arith))
+
   pub all-map : (P Q : X → Type 0) (f : (x : X) → P x → Q x) (xs : List X) → AllByRecursion P xs → AllByRecursion Q xs
   all-map P Q f [] h = tt
   all-map P Q f (x ∷ xs) h = (f x h.0, all-map P Q f xs h.1)
@@ -55,12 +62,14 @@ module _ {X : Type 0} where
 
     -- one more in front, and the last go
     once-put : (n : ℕ) (x : X) (xs : List X) → (p x ≡ true → length (filter p xs) ≤ 0) → length (filter p xs) ≤ 1 →
-        length (filter p (x ∷ take n xs)) ≤ 1
-    once-put n x xs new once = (let fewer = length-filter_take p n xs in elim (p x) as (λ b. p x ≡ b →
-        length (cond b (x ∷ filter p (take n xs)) (filter p (take n xs))) ≤ 1) [
-          | true ↦ λ is. (let none = new is in omega (arith, fewer, none))
-          | false ↦ λ is. omega (arith, fewer, once)
-        ]) refl
+        length (filter p (take n (x ∷ xs))) ≤ 1
+    once-put n x xs new once =
+        let all : length (filter p (x ∷ xs)) ≤ 1 = (elim (p x) as (λ b. p x ≡ b →
+        length (cond b (x ∷ filter p xs) (filter p xs)) ≤ 1) [
+          | true ↦ λ is. (let none = new is in omega (arith, none))
+          | false ↦ λ is. once
+        ]) refl in
+        omega (arith, length-filter_take p n (x ∷ xs), all)
 
     halves : (t : X → Bool) (xs : List X) →
         length (filter p (filter t xs ++ filter (λ x. not (t x)) xs)) ≡ length (filter p xs)
@@ -283,12 +292,8 @@ module _ (bytes : List ℕ) (label : Label) where
       ]
 
 -- ---- the table of a list
--- the list that a table is
-abbrev pub list_of : LruCache Label KeptEntry → KeptListValue
-list_of table = record { capacity = table.cap; replies = kept_in table.entries }
-
-module _ (key : RecordKey) (numbers : ℕ) (was : LruCache Label KeptEntry) (is : IsList key numbers was)
-    (bytes : List ℕ) where
+module _ (key : RecordKey) (numbers counted : ℕ) (was : LruCache Label KeptEntry)
+    (is : IsList key numbers counted was) (bytes : List ℕ) where
   es : Entries
   es = was.entries
 
@@ -337,28 +342,29 @@ module _ (key : RecordKey) (numbers : ℕ) (was : LruCache Label KeptEntry) (is 
     halved = promoted-halves (same_label label) was.entries (is.once.labels label)
 
     -- to promote it is what a repeat does
-    pub promoted-list : IsList key numbers (lru_cache (promoted (same_label label) was.entries) was.cap)
-    promoted-list = subst (λ es. IsList key numbers (lru_cache es was.cap)) (sym halved) (record {
-      roomy = is.roomy;
-      labelled = all_both (IsLabelled key numbers) front others
-          (all-filter (IsLabelled key numbers) (is_at label) was.entries is.labelled)
-          (all-filter (IsLabelled key numbers) (λ e. not (is_at label e)) was.entries is.labelled);
-      once = record {
-        labels = λ other. rw (halves (is_at other) (is_at label) was.entries) (is.once.labels other);
-        records = λ other. rw (halves (is_of other) (is_at label) was.entries) (is.once.records other);
-      };
-    })
-
-    pub promoted-left : list_of (lru_cache (promoted (same_label label) was.entries) was.cap) ≡
-        left_by (Repeated [] bytes) (list_of was)
-    promoted-left = ap (λ l. record { capacity = was.cap; replies = l }) (
-        ap kept_in halved ∙ map-append kept_entry front others
+    pub promoted-left : (capacity : CapacityValue) →
+        kept_in (promoted (same_label label) was.entries) ≡ after capacity (Repeated [] bytes) (kept_in was.entries)
+    promoted-left capacity = ap kept_in halved ∙ map-append kept_entry front others
         ∙ (λ i. filter-agrees bytes label (λ b. b) (λ b. b) (λ b. refl) was.entries agreed i ++
         filter-agrees bytes label not not (λ b. refl) was.entries agreed i)
-        )
+
+    pub promoted-list : IsList key numbers counted (lru_cache (promoted (same_label label) was.entries) was.cap)
+    promoted-list = record {
+      roomy = is.roomy;
+      counted = is.counted ∙ sym (ap bytes_of (promoted-left (record { count = 0; bytes = 0 }))
+          ∙ bytes-halves (is_for bytes) (kept_in was.entries));
+      labelled = subst (AllByRecursion (IsLabelled key numbers)) (sym halved)
+          (all_both (IsLabelled key numbers) front others
+          (all-filter (IsLabelled key numbers) (is_at label) was.entries is.labelled)
+          (all-filter (IsLabelled key numbers) (λ e. not (is_at label e)) was.entries is.labelled));
+      once = subst EachOnce (sym halved) (record {
+        labels = λ other. rw (halves (is_at other) (is_at label) was.entries) (is.once.labels other);
+        records = λ other. rw (halves (is_of other) (is_at label) was.entries) (is.once.records other);
+      });
+    }
 
   module _ (reply : List ℕ) (label : Label) (more : ℕ) (hashed : label.hash ≡ digest key bytes)
-      (rises : numbers ≤ more) (below : label.number < more)
+      (rises : numbers ≤ more) (below : label.number < more) (few : length was.entries < 2 ^ 63)
       (free : lookup (same_label label) was.entries ≡ None) (none : reply_for bytes (kept_in was.entries) ≡ None) where
     abbrev new : KeptEntry
     new = record { bytes = bytes; reply = reply }
@@ -367,11 +373,16 @@ module _ (key : RecordKey) (numbers : ℕ) (was : LruCache Label KeptEntry) (is 
     no-entry None h = refl
     no-entry (Some e) h = cc
 
-    in-front : put_entries same_label was label new ≡ (label, new) ∷ take (was.cap - 1) was.entries
+    in-front : put_entries same_label was label new ≡ (label, new) ∷ was.entries
     in-front = ap (λ o. option_map_or (λ (e : Entry). (e.0, new) ∷ remove_entry (same_label label) was.entries) o
         ((label, new) ∷ take (was.cap - 1) was.entries))
         (no-entry (lookup_entry (same_label label) was.entries)
         (lookup-lookup_entry (same_label label) was.entries ∙ free))
+        ∙ ap (λ es. (label, new) ∷ es) (take-all (was.cap - 1) was.entries (omega (arith, is.roomy, few)))
+
+    -- it stands before all others
+    pub put-kept : kept_in (put_entries same_label was label new) ≡ kept_entry (label, new) ∷ kept_in was.entries
+    put-kept = ap kept_in in-front
 
     unlabelled : (other : Label) → is_at other (label, new) ≡ true →
         length (filter (is_at other) was.entries) ≤ 0
@@ -391,34 +402,24 @@ module _ (key : RecordKey) (numbers : ℕ) (was : LruCache Label KeptEntry) (is 
               | false ↦ λ f. by es f
             ] h
 
-    -- to put it is what a new reply does
-    pub put-list : IsList key more (lru_cache (put_entries same_label was label new) was.cap)
-    put-list = subst (λ es. IsList key more (lru_cache es was.cap)) (sym in-front) (record {
+    -- what is left of the table once it is put and the last are gone
+    pub put-list : (n left : ℕ) → left ≡ bytes_of (kept_in (take n (put_entries same_label was label new))) →
+        IsList key more left (lru_cache (take n (put_entries same_label was label new)) was.cap)
+    put-list n left is-left = record {
       roomy = is.roomy;
-      labelled = (
-        record { hash = hashed; below = below },
-        all-taken (IsLabelled key more) (was.cap - 1) was.entries
-            (all-map (IsLabelled key numbers) (IsLabelled key more) wider was.entries is.labelled),
-      );
-      once = record {
-        labels = λ other. once-put (is_at other) (was.cap - 1) (label, new) was.entries (unlabelled other)
+      counted = is-left;
+      labelled = subst (λ es. AllByRecursion (IsLabelled key more) (take n es)) (sym in-front)
+          (all-taken (IsLabelled key more) n ((label, new) ∷ was.entries) (
+            record { hash = hashed; below = below },
+            all-map (IsLabelled key numbers) (IsLabelled key more) wider was.entries is.labelled,
+          ));
+      once = subst (λ es. EachOnce (take n es)) (sym in-front) (record {
+        labels = λ other. once-put (is_at other) n (label, new) was.entries (unlabelled other)
             (is.once.labels other);
-        records = λ other. once-put (is_of other) (was.cap - 1) (label, new) was.entries (unkept other)
+        records = λ other. once-put (is_of other) n (label, new) was.entries (unkept other)
             (is.once.records other);
-      };
-    })
+      });
+    }
       where
         wider : (e : Entry) → IsLabelled key numbers e → IsLabelled key more e
         wider e labelled = record { hash = labelled.hash; below = omega (arith, labelled.below, rises) }
-
-    pub put-left : list_of (lru_cache (put_entries same_label was label new) was.cap) ≡
-        left_by (Replied [] bytes reply) (list_of was)
-    put-left = ap (λ l. record { capacity = was.cap; replies = l }) (ap kept_in in-front ∙ by was.cap is.roomy)
-      where
-        by : (n : ℕ) → 0 < n → kept_in ((label, new) ∷ take (n - 1) was.entries) ≡
-            take n (kept_entry (label, new) ∷ kept_in was.entries)
-        by zero some = absurd (omega arith)
-        by (suc n) some =
-            let less : suc n - 1 ≡ n = omega arith in
-            ap (λ l. kept_entry (label, new) ∷ l) (ap (λ m. kept_in (take m was.entries)) less
-            ∙ sym (take-map kept_entry n was.entries))

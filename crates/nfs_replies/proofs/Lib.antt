@@ -6,3 +6,4 @@ pub mod KeptListLemmas
 pub mod NotKeptLemmas
 pub mod LabelLemmas
 pub mod OriginLemmas
+pub mod TrimLemmas

@@ -5,13 +5,14 @@ use Rattle.std.proofs.Common.{find, filter, refl, ap, ◌∙◌}
 use Rattle.std.specs.Cmp.Lexicographic.{bytes_decides}
 use Rattle.std.proofs.lemmas.List.Folds.{find-append}
 use Rattle.std.specs.Option.{option_or}
-use Rattle.nfs_replies.specs.Kept.{ReplyEvent, KeptReply, after, host_of, is_for, is_of, reply_for, same_bytes}
+use Rattle.nfs_replies.specs.Kept.{CapacityValue, ReplyEvent, KeptReply, after, host_of, is_for, is_of, reply_for}
+use Rattle.nfs_replies.specs.Kept.{same_bytes}
 use Rattle.nfs_replies.specs.Kept.ReplyEvent.{Replied, Repeated}
 use Rattle.nfs_replies.specs.Replies.{IsAfter, RepliesValue, kept_of}
-use Rattle.nfs_replies.proofs.KeptListLemmas.{find-filter, find-take, none-found}
+use Rattle.nfs_replies.proofs.KeptListLemmas.{find-filter, find-trimmed, none-found}
 
 -- ---- of one list
-module _ (capacity : ℕ) (host bytes other : List ℕ) (list : List KeptReply)
+module _ (capacity : CapacityValue) (host bytes other : List ℕ) (list : List KeptReply)
     (none : reply_for bytes list ≡ None) where
   abbrev test : KeptReply → Bool
   test = is_for bytes
@@ -23,7 +24,7 @@ module _ (capacity : ℕ) (host bytes other : List ℕ) (list : List KeptReply)
       reply_for bytes (after capacity (Replied host other answer) list) ≡ None
   executed-unkept answer apart =
       let new : KeptReply = record { bytes = other; reply = answer } in
-      ap (option_map (λ (kept : KeptReply). kept.reply)) (find-take test test capacity (new ∷ list)
+      ap (option_map (λ (kept : KeptReply). kept.reply)) (find-trimmed test capacity (new ∷ list)
       ((elim (same_bytes bytes other) as (λ b. same_bytes bytes other ≡ b →
       cond b (Some new) (find test list) ≡ None) [
         | true ↦ λ same. absurd (apart ((bytes_decides bytes other).0 same))

@@ -1,13 +1,13 @@
 -- The list of a host goes by its own events: every other event leaves it as it is.
 use Rattle.std.proofs.Common.{◌≡◌, ℕ, true, false, cond, List, [], ◌∷◌, fold, refl, ◌∙◌}
-use Rattle.nfs_replies.specs.Kept.{ReplyEvent, KeptReply, KeptLists, after, events_of, is_of, lists_after}
+use Rattle.nfs_replies.specs.Kept.{CapacityValue, ReplyEvent, KeptReply, KeptLists, after, events_of, is_of, lists_after}
 use Rattle.nfs_replies.specs.Laws.{EachHasItsOwn}
 
-abbrev pub step : ℕ → List KeptReply → ReplyEvent → List KeptReply
+abbrev pub step : CapacityValue → List KeptReply → ReplyEvent → List KeptReply
 step capacity list event = after capacity event list
 
 -- from any lists on
-own-from : (capacity : ℕ) (host : List ℕ) (lists : KeptLists) (events : List ReplyEvent) →
+own-from : (capacity : CapacityValue) (host : List ℕ) (lists : KeptLists) (events : List ReplyEvent) →
     fold (λ ls event. lists_after capacity event ls) lists events host ≡
     fold (step capacity) (lists host) (events_of host events)
 own-from capacity host lists [] = refl

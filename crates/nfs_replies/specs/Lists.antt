@@ -1,23 +1,14 @@
 -- The replies that are kept of one host, and how they stand in a table by labels.
-use Rattle.std.specs.Prelude.{◌≡◌, ◌<◌, ◌≤◌, ℕ, Bool, ◌&&◌, List, Some, filter, length, map}
+use Rattle.std.specs.Prelude.{◌≡◌, ◌<◌, ◌≤◌, ◌-◌, ◌^◌, ℕ, Bool, ◌&&◌, List, Some, filter, length, map}
 use Rattle.std.specs.Prelude.{nat_eq, option_map}
 use Rattle.std.specs.List.{AllByRecursion}
 use Rattle.std.specs.Map.{lookup}
 use Rattle.lru.specs.LruCache.{LruCache}
-use Rattle.nfs_replies.specs.Kept.{ReplyEvent, KeptReply, after, is_for}
+use Rattle.nfs_replies.specs.Kept.{KeptReply, bytes_of, is_for}
 use Rattle.nfs_replies.specs.Keys.{digest}
 use Rattle.nfs_replies.specs.declared.digest.RecordKey.{RecordKey}
-use Rattle.nfs_replies.specs.declared.list.KeptEntry.{KeptEntry}
+use Rattle.nfs_replies.specs.declared.gone.KeptEntry.{KeptEntry}
 use Rattle.nfs_replies.specs.declared.list.Label.{Label}
-
--- the list, and how many replies it may have
-pub record KeptListValue : Type 0 where
-  pub capacity : ℕ
-  pub replies : List KeptReply
-
--- what an event leaves of the list of its host, whichever that is
-abbrev pub left_by : ReplyEvent → KeptListValue → KeptListValue
-left_by event list = record list { replies = after list.capacity event list.replies }
 
 -- ---- labels
 -- the label of a hash with this number
@@ -62,8 +53,9 @@ pub record EachOnce (entries : List Entry) : Type 0 where
   pub labels : (label : Label) → length (filter (is_at label) entries) ≤ 1
   pub records : (bytes : List ℕ) → length (filter (is_of bytes) entries) ≤ 1
 
--- what is true of the table of each list
-pub record IsList (key : RecordKey) (numbers : ℕ) (table : LruCache Label KeptEntry) : Type 0 where
-  pub roomy : 0 < table.cap
+-- what is true of the table of each list, and of the number of its bytes
+pub record IsList (key : RecordKey) (numbers bytes : ℕ) (table : LruCache Label KeptEntry) : Type 0 where
+  pub roomy : table.cap ≡ 2 ^ 64 - 1
+  pub counted : bytes ≡ bytes_of (kept_in table.entries)
   pub labelled : AllByRecursion (IsLabelled key numbers) table.entries
   pub once : EachOnce table.entries

@@ -45,9 +45,13 @@ again = Repeated first create
 abbrev pub elsewhere : ReplyEvent
 elsewhere = Replied second mkdir done
 
--- the reply that a host's record finds behind these events
-abbrev pub found : (capacity : ℕ) → List ReplyEvent → (host bytes : List ℕ) → Option (List ℕ)
-found capacity events host bytes = reply_for bytes (lists_after_all capacity events host)
+-- the reply that a host's record finds behind these events, with room for so many of each host
+abbrev pub found : (count : ℕ) → List ReplyEvent → (host bytes : List ℕ) → Option (List ℕ)
+found count events host bytes = reply_for bytes (lists_after_all (record { count = count; bytes = 4194304 }) events host)
+
+-- the same, with room for so many bytes
+abbrev pub found_in : (bytes : ℕ) → List ReplyEvent → (host bytes : List ℕ) → Option (List ℕ)
+found_in room events host bytes = reply_for bytes (lists_after_all (record { count = 1024; bytes = room }) events host)
 
 -- one host, with room for one reply and for two
 pub record WorkedReplies : Type 0 where
@@ -60,6 +64,16 @@ pub record WorkedReplies : Type 0 where
   pub oldest_goes : found 2 (created ∷ made ∷ removed ∷ []) first create ≡ None
   pub repeated_stays : found 2 (created ∷ made ∷ again ∷ removed ∷ []) first create ≡ Some done
   pub other_goes : found 2 (created ∷ made ∷ again ∷ removed ∷ []) first mkdir ≡ None
+
+-- one host, with room for so many bytes: the first two replies are counted as 270 and 269
+pub record WorkedBytes : Type 0 where
+  pub both_fit : found_in 539 (created ∷ made ∷ []) first create ≡ Some done
+  pub one_byte_too_many : found_in 538 (created ∷ made ∷ []) first create ≡ None
+  pub newest_stays : found_in 0 (created ∷ made ∷ []) first mkdir ≡ Some done
+  pub oldest_goes : found_in 539 (created ∷ made ∷ removed ∷ []) first create ≡ None
+  pub next_stays : found_in 539 (created ∷ made ∷ removed ∷ []) first mkdir ≡ Some done
+  pub both_go : found_in 538 (created ∷ made ∷ removed ∷ []) first mkdir ≡ None
+  pub repeated_stays : found_in 540 (created ∷ made ∷ again ∷ removed ∷ []) first create ≡ Some done
 
 -- two hosts, with room for one reply of each
 pub record WorkedHosts : Type 0 where

@@ -1,49 +1,49 @@
-//! How many replies are kept.
+//! How many replies are kept, and how many bytes of them.
 
-ghost use Rattle.std.specs.Prelude.{◌≡◌, ◌≤◌, ◌<◌, SomeIff};
-ghost use Rattle.std.specs.NonZero.{non_zero_usize_get};
+ghost use Rattle.std.specs.Prelude.{◌≤◌, ◌<◌, ◌⊎◌, IsFalse, IsTrue, SomeIff};
 
 use std::marker::Model;
-use std::num::NonZeroUsize;
 
-/// How many replies are kept of each host: 1 to 65,536. A clause sees it as this number.
+/// How much is kept of each host: 1 to 65,536 replies, and so many bytes. For a reply its own bytes are counted, those
+/// of its record, and 256 for where they stand.
 #[derive(Drop)]
 pub struct Capacity {
-    replies: NonZeroUsize,
+    count: usize,
+    bytes: u64,
 }
 
 impl Model for Capacity {
-    ghost use Rattle.std.specs.Prelude.{ℕ, ◌≤◌};
-    ghost use Rattle.std.specs.NonZero.{non_zero_usize_get};
+    ghost use Rattle.std.specs.Prelude.{◌≤◌};
+    ghost use Rattle.nfs_replies.specs.Kept.{CapacityValue};
 
-    ghost Value = { ℕ };
+    ghost Value = { CapacityValue };
 
-    ghost view = { λ c. non_zero_usize_get c.replies };
+    ghost view = { λ c. record { count = c.count; bytes = c.bytes } };
 
-    ghost invariant = { λ c. non_zero_usize_get c.replies ≤ 65536 };
+    ghost invariant = { λ c. (1 ≤ c.count) × (c.count ≤ 65536) };
 }
 
 impl Capacity {
     /// The most replies that may be kept of each host.
     pub const MAX: usize = 65_536;
 
-    /// This capacity; None where it is 0, or above the greatest.
-    pub fn new(replies: usize) -> Option<Capacity>
-        ensures { SomeIff result ((0 < replies) × (replies ≤ Self.MAX)) replies }
+    /// This capacity; None where the number of replies is 0, or above the greatest.
+    pub fn new(count: usize, bytes: u64) -> Option<Capacity>
+        ensures { SomeIff result ((0 < count) × (count ≤ Self.MAX)) (record { count = count; bytes = bytes }) }
     {
-        if replies > Capacity::MAX {
+        if count == 0 || count > Capacity::MAX {
             return None;
         }
-        Some(Capacity {
-            replies: NonZeroUsize::new(replies)?,
-        })
+        Some(Capacity { count, bytes })
     }
 
-    /// The number.
-    pub(crate) fn get(&self) -> NonZeroUsize
-        ensures value { non_zero_usize_get result ≡ self.now }
-        ensures some { 0 < self.now }
+    /// Whether so many replies, with so many bytes, are too many, and more than the newest alone.
+    pub(crate) fn is_exceeded(&self, count: usize, bytes: u64) -> bool
+        ensures exceeded { IsTrue result →
+            (1 < count) × ((self.now.count < count) ⊎ (self.now.bytes < bytes)) }
+        ensures fits { IsFalse result →
+            (count ≤ 1) ⊎ ((count ≤ self.now.count) × (bytes ≤ self.now.bytes)) }
     {
-        self.replies
+        count > 1 && (count > self.count || bytes > self.bytes)
     }
 }

@@ -1,7 +1,7 @@
 //! Laws of the lists of kept replies.
 
-ghost use Rattle.nfs_replies.specs.Laws.{EachHasItsOwn, HostsAreApart, ListsAreBounded, NewestIsKept};
-ghost use Rattle.nfs_replies.specs.Laws.{NoneComesByOthers, NoneComesByRepeats};
+ghost use Rattle.nfs_replies.specs.Laws.{BytesAreBounded, EachHasItsOwn, HostsAreApart, ListsAreBounded};
+ghost use Rattle.nfs_replies.specs.Laws.{NewestIsKept, NoneComesByOthers, NoneComesByRepeats};
 
 /// The list of a host is that of its own events alone. So two lists of events that agree in the events of a host leave
 /// it the same list, whatever other hosts do.
@@ -12,14 +12,15 @@ pub fn hosts_are_apart()
     ensures apart { HostsAreApart }
 {}
 
-/// No list has more replies than the capacity says.
+/// No list has more replies than the capacity says, nor more bytes, but where it has one reply alone.
 ///
-/// Such lists are in `worked_replies`.
+/// Such lists are in `worked_replies` and `worked_bytes`.
 pub fn lists_are_bounded()
-    ensures { ListsAreBounded }
+    ensures count { ListsAreBounded }
+    ensures bytes { BytesAreBounded }
 {}
 
-/// The reply that was kept last is found.
+/// The reply that was kept last is found, whatever its size.
 ///
 /// It is so in `worked_replies`.
 pub fn newest_is_kept()

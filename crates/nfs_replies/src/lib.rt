@@ -5,8 +5,9 @@
 //! with the newest reply in front and a capacity that is the same for all, so no host pushes out another's replies. How
 //! many hosts have a list is not bounded.
 //!
-//! A list shares the buffers of its records and replies, and keeps them alive: of one host at most as many of each as
-//! the capacity says. At 1,024 replies, records of 73,728 bytes each are 72 MiB.
+//! A list shares the buffers of its records and replies, and keeps them alive: of one host at most as many of each, and
+//! of as many bytes, as the capacity says, or those of the newest alone. What a new reply pushes out is handed out, to
+//! be dropped when no lock is held (`Gone`).
 //!
 //! Lists are found by the hash of the host, and replies by that of the record, which is taken once, of all its bytes
 //! and under a key that nobody else knows (`RecordKey`), and kept beside them. A look-up compares hashes first, and
@@ -16,6 +17,7 @@
 
 mod capacity;
 mod digest;
+mod gone;
 mod key;
 pub mod laws;
 mod list;
@@ -25,6 +27,7 @@ pub mod worked;
 
 pub use capacity::Capacity;
 pub use digest::RecordKey;
+pub use gone::Gone;
 pub use key::{Hashed, HashedRef};
 pub use origins::{Origin, Origins};
 pub use replies::Replies;

@@ -1,18 +1,20 @@
 //! The replies that are kept of one host.
 
-ghost use Rattle.std.specs.Prelude.{◌≡◌, ◌+◌, ◌^◌, ◌<◌, ℕ, [], nat_eq};
+ghost use Rattle.std.specs.Prelude.{◌≡◌, ◌+◌, ◌^◌, ◌<◌, ℕ, [], length, nat_eq, take};
 ghost use Rattle.std.specs.Prelude.{IfErr, IfOk, IsSome, MatchOption, None, OnErr, OnOk, Some};
 ghost use Rattle.std.proofs.Common.{ap};
 ghost use Rattle.std.proofs.lemmas.Bool.{and_parts, eqb-true};
 ghost use Rattle.std.specs.Bool.{Decides};
 ghost use Rattle.std.specs.Hash as fed;
 ghost use Rattle.std.specs.Map.{lookup};
-ghost use Rattle.nfs_replies.specs.Kept.{reply_for};
+ghost use Rattle.lru.specs.LruCache.{lru_cache};
+ghost use Rattle.nfs_replies.specs.Kept.{CapacityValue, after, bytes_of, reply_for, trimmed};
 ghost use Rattle.nfs_replies.specs.Kept.ReplyEvent.{Replied, Repeated};
-ghost use Rattle.nfs_replies.specs.Lists.{HasBytes, left_by, numbered, same_label};
+ghost use Rattle.nfs_replies.specs.Lists.{HasBytes, kept_in, numbered, same_label};
 
 use crate::capacity::Capacity;
 use crate::digest::RecordKey;
+use crate::gone::{Gone, KeptEntry, with_size};
 use crate::key::{Hashed, HashedRef};
 use bytes::Bytes;
 use lru::LruCache;
@@ -39,13 +41,6 @@ impl Hash for Label {
     }
 }
 
-/// A record, and what it was answered.
-#[derive(Drop)]
-struct KeptEntry {
-    bytes: Bytes,
-    reply: Bytes,
-}
-
 /// The replies that are kept of one host, the newest in front. They are found by their labels, and so a reply that
 /// makes way for a new one is taken out without a look at its record.
 #[derive(Drop)]
@@ -55,31 +50,32 @@ pub(crate) struct KeptList {
     key: RecordKey,
     /// The numbers of all labels are below this.
     numbers: u64,
+    /// How many bytes are counted for the replies.
+    bytes: u64,
 }
 
 impl Model for KeptList {
-    ghost use Rattle.nfs_replies.specs.Lists.{IsList, KeptListValue, kept_in};
+    ghost use Rattle.std.specs.Prelude.{List};
+    ghost use Rattle.nfs_replies.specs.Kept.{KeptReply};
+    ghost use Rattle.nfs_replies.specs.Lists.{IsList, kept_in};
 
-    ghost Value = { KeptListValue };
+    ghost Value = { List KeptReply };
 
-    ghost view = { λ l. record { capacity = l.entries.cap; replies = kept_in l.entries.entries } };
+    ghost view = { λ l. kept_in l.entries.entries };
 
-    ghost invariant = { λ l. IsList l.key l.numbers l.entries };
+    ghost invariant = { λ l. IsList l.key l.numbers l.bytes l.entries };
 }
 
 impl KeptList {
-    /// No reply, room for so many, and the key under which records are hashed.
-    pub(crate) fn new(
-        alloc: Global,
-        capacity: &Capacity,
-        key: RecordKey,
-    ) -> Result<KeptList, AllocError>
-        ensures { IfOk result (λ list. list ≡ record { capacity = capacity.now; replies = [] }) }
+    /// No reply, and the key under which records are hashed.
+    pub(crate) fn new(alloc: Global, key: RecordKey) -> Result<KeptList, AllocError>
+        ensures { IfOk result (λ list. list ≡ []) }
     {
         Ok(KeptList {
-            entries: LruCache::sparse(alloc, capacity.get())?,
+            entries: LruCache::unbounded(alloc)?,
             key,
             numbers: 0,
+            bytes: 0,
         })
     }
 
@@ -90,10 +86,11 @@ impl KeptList {
     ///
     /// Only where a reply is kept and can't be shared; nothing changes.
     pub(crate) fn find(&mut self, sought: HashedRef<'_>) -> Result<Option<Bytes>, AllocError>
-        ensures found { IfOk result (λ reply. reply ≡ reply_for sought.entry.bytes.now self.old.replies) }
-        ensures front { OnOk result (self.new ≡ left_by (Repeated [] sought.entry.bytes.now) self.old) }
-        ensures absent { reply_for sought.entry.bytes.now self.old.replies ≡ None → self.new ≡ self.old }
-        ensures refused { OnErr result (IsSome (reply_for sought.entry.bytes.now self.old.replies)) }
+        ensures found { IfOk result (λ reply. reply ≡ reply_for sought.entry.bytes.now self.old) }
+        ensures front { (capacity : CapacityValue) →
+            OnOk result (self.new ≡ after capacity (Repeated [] sought.entry.bytes.now) self.old) }
+        ensures absent { reply_for sought.entry.bytes.now self.old ≡ None → self.new ≡ self.old }
+        ensures refused { OnErr result (IsSome (reply_for sought.entry.bytes.now self.old)) }
         ensures err { OnErr result (self.new ≡ self.old) }
     {
         let hash = sought.hash_under(self.key);
@@ -106,22 +103,29 @@ impl KeptList {
         Ok(Some(reply))
     }
 
-    /// Keeps the reply to this record, for which none is kept, in front. Where the list exceeds its capacity, the last
-    /// reply goes.
+    /// Keeps the reply to this record, for which none is kept, in front. What the list then has beyond the capacity
+    /// goes from its end, and is handed out.
     ///
     /// # Errors
     ///
-    /// The record and the reply, where the memory was refused; nothing changes.
+    /// The record and the reply, where the memory was refused, or bytes can't be counted; nothing changes.
     pub(crate) fn keep(
         &mut self,
+        capacity: &Capacity,
         bytes: Hashed,
         reply: Bytes,
+        gone: &mut Gone,
     ) -> Result<(), AllocFailed<(Hashed, Bytes)>>
-        requires { reply_for bytes self.old.replies ≡ None }
-        ensures front { OnOk result (self.new ≡ left_by (Replied [] bytes reply) self.old) }
+        requires { reply_for bytes self.old ≡ None }
+        ensures front { OnOk result (self.new ≡ after capacity.now (Replied [] bytes reply) self.old) }
         ensures returned { IfErr result (λ refused. refused.value ≡ (bytes, reply)) }
         ensures err { OnErr result (self.new ≡ self.old) }
     {
+        let Some(size) = with_size(self.bytes, bytes.bytes(), &reply) else {
+            return Err(AllocFailed {
+                value: (bytes, reply),
+            });
+        };
         let label = free_label(&self.entries, bytes.sought().hash_under(self.key));
         let entry = KeptEntry {
             bytes: bytes.into_bytes(),
@@ -130,6 +134,7 @@ impl KeptList {
         match self.entries.put(label, entry) {
             Ok(_) => {
                 self.numbers = self.numbers.max(label.number + 1);
+                self.bytes = trim(&mut self.entries, size, capacity, gone);
                 Ok(())
             }
             Err(
@@ -144,6 +149,29 @@ impl KeptList {
             }
         }
     }
+}
+
+/// Hands out the oldest replies, one after the other, while a table with so many bytes exceeds the capacity and has
+/// another than the newest. How many bytes are left.
+fn trim(
+    entries: &mut LruCache<Label, KeptEntry>,
+    size: u64,
+    capacity: &Capacity,
+    gone: &mut Gone,
+) -> u64
+    requires { size ≡ bytes_of (kept_in entries.old.entries) }
+    ensures front { entries.new ≡
+        lru_cache (take (length entries.new.entries) entries.old.entries) entries.old.cap }
+    ensures kept { kept_in entries.new.entries ≡ trimmed capacity.now (kept_in entries.old.entries) }
+    ensures bytes { result ≡ bytes_of (kept_in entries.new.entries) }
+{
+    let mut bytes = size;
+    'trim: while capacity.is_exceeded(entries.len(), bytes) {
+        let (_, oldest) = entries.pop_lru().unwrap();
+        bytes -= oldest.size();
+        gone.add(oldest);
+    }
+    bytes
 }
 
 /// The label of the record that has these bytes, of this hash and a number below that. Bytes are compared only with
@@ -183,6 +211,7 @@ fn free_label(entries: &LruCache<Label, KeptEntry>, hash: u64) -> Label
     ensures hash { result.hash ≡ hash }
     ensures free { lookup (same_label result) entries.now.entries ≡ None }
     ensures small { result.number + 1 < 2 ^ 64 }
+    ensures few { length entries.now.entries < 2 ^ 63 }
 {
     let numbers = entries.len() as u64 + 1;
     let number = (0..numbers).find(|number| {

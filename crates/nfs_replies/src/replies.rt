@@ -1,12 +1,14 @@
 //! The replies that are kept, a list for each host.
 
 ghost use Rattle.std.specs.Prelude.{◌≡◌, [], IfErr, IfOk, IsSome, None, OnErr, OnOk};
-ghost use Rattle.nfs_replies.specs.Kept.{reply_for};
+ghost use Rattle.std.specs.Map.{lookup};
+ghost use Rattle.nfs_replies.specs.Kept.{reply_for, same_bytes};
 ghost use Rattle.nfs_replies.specs.Kept.ReplyEvent.{Replied, Repeated};
-ghost use Rattle.nfs_replies.specs.Replies.{IsAfter, kept_of, list_of};
+ghost use Rattle.nfs_replies.specs.Replies.{IsAfter, kept_of};
 
 use crate::capacity::Capacity;
 use crate::digest::RecordKey;
+use crate::gone::Gone;
 use crate::key::{Hashed, HashedRef};
 use crate::list::KeptList;
 use bytes::Bytes;
@@ -25,15 +27,12 @@ pub struct Replies {
 }
 
 impl Model for Replies {
-    ghost use Rattle.std.specs.Prelude.{map};
-    ghost use Rattle.nfs_replies.specs.Replies.{AreListed, RepliesValue, host_replies};
+    ghost use Rattle.nfs_replies.specs.Replies.{RepliesValue};
     ghost use Rattle.nfs_tables.specs.Tables.{entries};
 
     ghost Value = { RepliesValue };
 
-    ghost view = { λ r. record { capacity = r.capacity; hosts = map host_replies (entries r.lists) } };
-
-    ghost invariant = { λ r. AreListed r.capacity (entries r.lists) };
+    ghost view = { λ r. record { capacity = r.capacity; hosts = entries r.lists } };
 }
 
 impl Replies {
@@ -68,26 +67,30 @@ impl Replies {
         list.find(sought)
     }
 
-    /// Keeps the reply to this record from this host, in front of the host's list. Where the list exceeds
-    /// the capacity, its last reply goes.
+    /// Keeps the reply to this record from this host, in front of the host's list. What the list then has beyond the
+    /// capacity goes from its end, and is handed out.
     ///
     /// # Errors
     ///
-    /// The record and the reply, where the memory was refused; nothing changes.
+    /// The record and the reply, where the memory was refused, or bytes can't be counted; nothing changes.
     pub fn keep(
         &mut self,
         alloc: Global,
         host: &Bytes,
         bytes: Hashed,
         reply: Bytes,
-    ) -> Result<(), AllocFailed<(Hashed, Bytes)>>
+    ) -> Result<Gone, AllocFailed<(Hashed, Bytes)>>
         requires { reply_for bytes (kept_of self.old host.now) ≡ None }
         ensures front { OnOk result (IsAfter (Replied host.now bytes reply) self.old self.new) }
         ensures returned { IfErr result (λ refused. refused.value ≡ (bytes, reply)) }
         ensures err { OnErr result (self.new ≡ self.old) }
     {
         match self.lists.get_mut(host) {
-            Some(list) => list.keep(bytes, reply),
+            Some(list) => {
+                let mut gone = Gone::new(alloc);
+                list.keep(&self.capacity, bytes, reply, &mut gone)?;
+                Ok(gone)
+            }
             None => self.keep_first(alloc, host, bytes, reply),
         }
     }
@@ -99,8 +102,8 @@ impl Replies {
         host: &Bytes,
         bytes: Hashed,
         reply: Bytes,
-    ) -> Result<(), AllocFailed<(Hashed, Bytes)>>
-        requires { list_of self.old host.now ≡ None }
+    ) -> Result<Gone, AllocFailed<(Hashed, Bytes)>>
+        requires { lookup (same_bytes host.now) self.old.hosts ≡ None }
         ensures front { OnOk result (IsAfter (Replied host.now bytes reply) self.old self.new) }
         ensures returned { IfErr result (λ refused. refused.value ≡ (bytes, reply)) }
         ensures err { OnErr result (self.new ≡ self.old) }
@@ -110,29 +113,25 @@ impl Replies {
                 value: (bytes, reply),
             });
         };
-        let Ok((host, mut list)) = new_list(alloc, host, &self.capacity, self.key) else {
+        let Ok((host, mut list)) = new_list(alloc, host, self.key) else {
             return Err(AllocFailed {
                 value: (bytes, reply),
             });
         };
-        list.keep(bytes, reply)?;
+        let mut gone = Gone::new(alloc);
+        list.keep(&self.capacity, bytes, reply, &mut gone)?;
         self.lists.add(host, list).unwrap();
-        Ok(())
+        Ok(gone)
     }
 }
 
 /// An empty list, with the host that it will be of. The host is copied, so that it keeps nothing alive that it was cut
 /// from.
-fn new_list(
-    alloc: Global,
-    host: &Bytes,
-    capacity: &Capacity,
-    key: RecordKey,
-) -> Result<(Bytes, KeptList), AllocError>
+fn new_list(alloc: Global, host: &Bytes, key: RecordKey) -> Result<(Bytes, KeptList), AllocError>
     ensures host { IfOk result (λ made. made.0 ≡ host.now) }
-    ensures list { IfOk result (λ made. made.1 ≡ record { capacity = capacity.now; replies = [] }) }
+    ensures list { IfOk result (λ made. made.1 ≡ []) }
 {
     let host = Bytes::copy_from_slice(alloc, host.as_slice())?;
-    let list = KeptList::new(alloc, capacity, key)?;
+    let list = KeptList::new(alloc, key)?;
     Ok((host, list))
 }

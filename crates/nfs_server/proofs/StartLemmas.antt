@@ -22,7 +22,8 @@ opens_rests config e opens free = record {
 }
 
 pub opens_standing : (config : Config) (e : EngineValue) → Opens config e.book →
-    StandsAt e (opening_standing config.exports config.capacity config.moment)
+    StandsAt e (opening_standing config.exports (record { count = config.capacity; bytes = config.reply_bytes })
+    config.moment)
 opens_standing config e opens =
     let run : opens.leads.state ≡ opening config.exports config.moment =
     subst (λ (rs : List Record). Run e.book.setting (opening config.exports config.moment) rs opens.leads.state)

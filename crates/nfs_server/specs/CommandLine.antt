@@ -24,7 +24,7 @@ use Rattle.nfs_server.specs.Callbacks.{AreCallbacks, IsFirstBad}
 use Rattle.nfs_server.specs.ExportTexts.{AreAtFault, AreExports, export_parts}
 use Rattle.nfs_server.specs.Limits.{IsWithin, default_of, name_of}
 use Rattle.nfs_server.specs.declared.limits.Limit.{Limit}
-use Rattle.nfs_server.specs.declared.limits.Limit.TheVariants.{Era, Cache, Workers, Connections}
+use Rattle.nfs_server.specs.declared.limits.Limit.TheVariants.{Era, Cache, CacheBytes, Workers, Connections}
 use Rattle.nfs_server.specs.declared.limits.ServerLimits.{ServerLimits}
 use Rattle.nfs_server.specs.declared.exit.Exit.{Exit}
 use Rattle.nfs_server.specs.declared.exit.Exit.TheVariants.{CommandLine, NoTransport, Exports, Callback, Memory}
@@ -81,7 +81,9 @@ with_limits app =
     let stats = number_rule (codes "stats") (Unsigned 0 18446744073709551615) in
     let era = number_rule (codes "era") (Unsigned 0 18446744073709551615) in
     let cache = number_rule (codes "cache") (Unsigned 0 18446744073709551615) in
-    with_rule (with_rule (with_rule (with_rule (with_rule (with_rule app workers) connections) accept) stats) era) cache
+    let cache_bytes = number_rule (codes "cache-bytes") (Unsigned 0 18446744073709551615) in
+    with_rule (with_rule (with_rule (with_rule (with_rule (with_rule (with_rule app workers) connections) accept) stats)
+    era) cache) cache_bytes
 
 -- the program's options
 unfoldable pub nfsd : App
@@ -132,6 +134,7 @@ pub record HasLimit (limit : Limit) (rows : List Row) (value : ℕ) : Type 0 whe
 pub record HasLimits (rows : List Row) (limits : ServerLimits) : Type 0 where
   pub era : HasLimit Era rows limits.era_records
   pub capacity : HasLimit Cache rows limits.capacity
+  pub reply_bytes : HasLimit CacheBytes rows limits.reply_bytes
   pub workers : HasLimit Workers rows limits.workers
   pub connections : HasLimit Connections rows limits.connections
 
@@ -197,7 +200,8 @@ pub record ReadsOptions (rows : List Row) (options : Options) : Type 0 where
       × (options.bytes ≡ unwrap_or number 1099511627776)
   pub host : options.host ≡ host_of rows
   pub limits : (limits : ServerLimits) × HasLimits rows limits × (options.era_records ≡ limits.era_records)
-      × (options.capacity ≡ limits.capacity) × ReadsTransport rows limits options.transport
+      × (options.capacity ≡ limits.capacity) × (options.reply_bytes ≡ limits.reply_bytes)
+      × ReadsTransport rows limits options.transport
   pub exports : GivesExports rows options.exports
   pub callbacks : AreCallbacks (callbacks_of rows) options.callbacks.list.items
 

@@ -6,6 +6,7 @@ use Rattle.nfs_machine.specs.Run.{Setting}
 use Rattle.nfs_machine.specs.declared.moment.Moment.{Moment}
 use Rattle.nfs_engine.specs.Engine.{EngineValue}
 use Rattle.nfs_engine.specs.declared.opening.Config.{Config}
+use Rattle.nfs_replies.specs.Kept.{CapacityValue}
 use Rattle.nfs_streams.specs.Served.{ServesAll, ServesFront, StandsAt}
 use Rattle.nfs_streams.specs.Serving.{Standing}
 use Rattle.nfs_streams.specs.declared.serving.StreamFault.{StreamFault}
@@ -30,12 +31,13 @@ config_of options otherwise moment =
       start = (setting_of options otherwise).start;
       moment = moment;
       capacity = options.capacity;
+      reply_bytes = options.reply_bytes;
       limits = (setting_of options otherwise).limits;
       era_records = options.era_records;
     }
 
 -- the opening state of these exports, in which no reply is kept
-abbrev pub opening_standing : List ExportValue → (capacity : ℕ) → Moment → Standing
+abbrev pub opening_standing : List ExportValue → CapacityValue → Moment → Standing
 opening_standing exports capacity moment =
     record { state = opening exports moment; capacity = capacity; lists = λ host. [] }
 
@@ -49,7 +51,8 @@ pub record FromStart {Clock : Type 0} (gives : Clock → Moment → Clock → Ty
   pub ended : EngineValue
   pub ticked : gives clock moment started
   pub under : opened.book.setting ≡ setting_of options otherwise
-  pub stands : StandsAt opened (opening_standing options.exports options.capacity moment)
+  pub stands : StandsAt opened (opening_standing options.exports
+      (record { count = options.capacity; bytes = options.reply_bytes }) moment)
   pub on : GoesOn started opened ended
   pub era : length ended.book.records ≤ options.era_records
 

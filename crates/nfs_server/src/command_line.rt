@@ -101,6 +101,9 @@ const ERA_HELP: &str = "Begin a new era after so many calls at most, 1 to 65536 
 
 const CACHE_HELP: &str = "Keep so many replies of each host at most, 1 to 65536 [default: 1024]";
 
+const CACHE_BYTES_HELP: &str =
+    "Keep replies of each host for so many bytes at most, 1 to 8589934592 [default: 4194304]";
+
 /// `--NAME`
 fn flag<'a>(alloc: Global, name: &'a str, help: &'a str) -> Arg<'a>
     ensures rule { rule_of result ≡ flag_rule name.entry.now }
@@ -196,7 +199,14 @@ fn with_limits<'a>(alloc: Global, command: Command<'a>) -> Result<Command<'a>, A
         .arg(number(alloc, "accept", "K", value_parser!(u64), ACCEPT_HELP))?
         .arg(number(alloc, "stats", "SECONDS", value_parser!(u64), STATS_HELP))?
         .arg(number(alloc, "era", "N", value_parser!(u64), ERA_HELP))?
-        .arg(number(alloc, "cache", "N", value_parser!(u64), CACHE_HELP))
+        .arg(number(alloc, "cache", "N", value_parser!(u64), CACHE_HELP))?
+        .arg(number(
+            alloc,
+            "cache-bytes",
+            "N",
+            value_parser!(u64),
+            CACHE_BYTES_HELP,
+        ))
 }
 
 /// The words of the program's command line, of which the first is its name.
@@ -323,6 +333,7 @@ fn named_limits(
     Ok(ServerLimits {
         era_records: named_limit(alloc, command, matches, Limit::Era)?,
         capacity: named_limit(alloc, command, matches, Limit::Cache)?,
+        reply_bytes: named_limit(alloc, command, matches, Limit::CacheBytes)?,
         workers: named_limit(alloc, command, matches, Limit::Workers)?,
         connections: named_limit(alloc, command, matches, Limit::Connections)?,
     })
@@ -467,6 +478,7 @@ fn read_options(
         name_key: [0; 16],
         era_records: limits.era_records,
         capacity: limits.capacity,
+        reply_bytes: limits.reply_bytes,
         callbacks,
         transport,
     })

@@ -10,6 +10,8 @@ pub enum Limit {
     Era,
     /// How many replies are kept of each host.
     Cache,
+    /// For how many bytes replies are kept of each host.
+    CacheBytes,
     /// How many workers answer datagrams.
     Workers,
     /// How many connections may be open at once.
@@ -24,6 +26,7 @@ impl Limit {
         match self {
             Limit::Era => "era",
             Limit::Cache => "cache",
+            Limit::CacheBytes => "cache-bytes",
             Limit::Workers => "workers",
             Limit::Connections => "connections",
         }
@@ -36,6 +39,7 @@ impl Limit {
         match self {
             Limit::Era => 65_536,
             Limit::Cache => 1_024,
+            Limit::CacheBytes => 4_194_304,
             Limit::Workers => 4,
             Limit::Connections => 1_024,
         }
@@ -47,6 +51,7 @@ impl Limit {
     {
         match self {
             Limit::Era | Limit::Cache => 65_536,
+            Limit::CacheBytes => 8_589_934_592,
             Limit::Workers => 64,
             Limit::Connections => 1_024,
         }
@@ -60,6 +65,8 @@ pub struct ServerLimits {
     pub era_records: u64,
     /// How many replies are kept of each host.
     pub capacity: u64,
+    /// For how many bytes replies are kept of each host.
+    pub reply_bytes: u64,
     /// How many workers there are.
     pub workers: u64,
     /// How many connections may be open at once.

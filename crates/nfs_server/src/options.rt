@@ -24,6 +24,8 @@ pub struct Options {
     pub era_records: u64,
     /// How many replies are kept of each host, from 1 to 65,536.
     pub capacity: u64,
+    /// For how many bytes replies are kept of each host.
+    pub reply_bytes: u64,
     /// Where hosts are called back. On standard streams nobody is.
     pub callbacks: Callbacks,
     /// On what it is served.

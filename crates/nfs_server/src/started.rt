@@ -103,6 +103,7 @@ pub(crate) fn config_of(options: Options, start: u64, moment: Moment) -> (Config
         name_key,
         era_records,
         capacity,
+        reply_bytes,
         callbacks,
         transport,
     } = options;
@@ -111,6 +112,7 @@ pub(crate) fn config_of(options: Options, start: u64, moment: Moment) -> (Config
         start: named.unwrap_or(start),
         moment,
         capacity,
+        reply_bytes,
         limits: Limits {
             total_bytes: bytes,
             name_key,

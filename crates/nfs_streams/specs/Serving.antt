@@ -12,15 +12,15 @@ use Rattle.nfs_machine.specs.declared.calls.Call.{Call}
 use Rattle.nfs_machine.specs.declared.calls.Reply.{Reply}
 use Rattle.nfs_machine.specs.declared.context.Ctx.{Ctx}
 use Rattle.nfs_machine.specs.declared.moment.Moment.{Moment}
-use Rattle.nfs_replies.specs.Kept.{KeptLists, lists_after, reply_for}
+use Rattle.nfs_replies.specs.Kept.{CapacityValue, KeptLists, lists_after, reply_for}
 use Rattle.nfs_replies.specs.Kept.ReplyEvent.{Replied, Repeated}
 use Rattle.side_wire.specs.declared.message.Message.{Message}
 
--- Where a server stands between two records: the state of the machine, how many replies are kept of each host, and the
--- replies that are kept.
+-- Where a server stands between two records: the state of the machine, how much is kept of each host, and the replies
+-- that are kept.
 pub record Standing : Type 0 where
   pub state : State
-  pub capacity : ℕ
+  pub capacity : CapacityValue
   pub lists : KeptLists
 
 -- a record with a fault is answered by it, and changes nothing

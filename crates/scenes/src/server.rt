@@ -62,6 +62,7 @@ impl Server {
             name_key,
             era_records,
             capacity,
+            reply_bytes,
             callbacks,
             transport,
         } = options;
@@ -76,6 +77,7 @@ impl Server {
                 nanoseconds: 0,
             },
             capacity,
+            reply_bytes,
             limits: Limits {
                 total_bytes: bytes,
                 name_key,

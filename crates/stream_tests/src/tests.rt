@@ -156,6 +156,7 @@ fn opened_with(alloc: Global, era_records: u64) -> Result<Engine, AllocError>
             nanoseconds: 0,
         },
         capacity: 1024,
+        reply_bytes: 4 << 20,
         limits: Limits {
             total_bytes: 1 << 40,
             name_key: [7; 16],

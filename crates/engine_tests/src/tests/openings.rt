@@ -34,6 +34,7 @@ fn started_at_once(alloc: Global, capacity: u64, era_records: u64) -> Result<Eng
         start: 7,
         moment: moment(),
         capacity,
+        reply_bytes: 4 << 20,
         limits: Limits {
             total_bytes: 1 << 40,
             name_key: [7; 16],

@@ -39,7 +39,7 @@ const OTHER_KEY: [u8; 16] = [8; 16];
 
 /// Room for so many replies of each host.
 fn replies(alloc: Global, capacity: usize) -> Result<Replies, Fail> {
-    let capacity = Capacity::new(capacity).ok_or("a capacity")?;
+    let capacity = Capacity::new(capacity, 4 << 20).ok_or("a capacity")?;
     Ok(Replies::new(alloc, capacity, RecordKey::new(&KEY), Placing::new(&KEY)))
 }
 
@@ -58,7 +58,7 @@ fn answered(
     if let Some(kept) = replies.find(&host, HashedRef::new(key, &bytes))? {
         return Ok(kept);
     }
-    replies.keep(alloc, &host, Hashed::new(key, bytes), reply.clone()?)?;
+    drop(replies.keep(alloc, &host, Hashed::new(key, bytes), reply.clone()?)?);
     Ok(reply)
 }
 
@@ -171,7 +171,11 @@ fn other_bytes_are_another_call(rt: HostRuntime) -> Result<(), Fail> {
 #[test]
 fn a_capacity_is_1_to_65536(rt: HostRuntime) {
     for (replies, is_one) in [(0, false), (1, true), (65_536, true), (65_537, false)] {
-        assert_eq!(rt; Capacity::new(replies).is_some(), is_one, "{replies}");
+        assert_eq!(rt;
+            Capacity::new(replies, 4 << 20).is_some(),
+            is_one,
+            "{replies}"
+        );
     }
 }
 
@@ -198,7 +202,7 @@ fn kept_at_last(
     if replies.find(&host, record.sought())?.is_some() {
         return Ok(false);
     }
-    replies.keep(alloc, &host, record, reply)?;
+    drop(replies.keep(alloc, &host, record, reply)?);
     Ok(true)
 }
 
@@ -249,7 +253,7 @@ fn records_are_told_apart_by_all_their_bytes(rt: HostRuntime) -> Result<(), Fail
             bytes.push(last)?;
             let bytes = Bytes::from_vec(bytes)?;
             assert!(rt; replies.find(&host, HashedRef::new(key, &bytes))?.is_none());
-            replies.keep(rt.alloc(), &host, Hashed::new(key, bytes.clone()?), bytes)?;
+            drop(replies.keep(rt.alloc(), &host, Hashed::new(key, bytes.clone()?), bytes)?);
         }
     }
     for last in [7, 8] {
@@ -287,12 +291,12 @@ fn keeps(
     if replies.find(&host, HashedRef::new(key, &record))?.is_some() {
         return Ok(false);
     }
-    replies.keep(
+    drop(replies.keep(
         alloc,
         &host,
         Hashed::new(key, record),
         Bytes::from_static(OK),
-    )?;
+    )?);
     Ok(true)
 }
 

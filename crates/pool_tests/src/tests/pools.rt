@@ -150,6 +150,7 @@ pub(super) fn opened(alloc: Global, era_records: u64) -> Result<Engine, AllocErr
         start: 7,
         moment: moment(),
         capacity: 1024,
+        reply_bytes: 4 << 20,
         limits: Limits {
             total_bytes: 1 << 40,
             name_key: [7; 16],

@@ -32,6 +32,7 @@ fn witnessed<T: Witness>(
         name_key: [7; 16],
         era_records: 65_536,
         capacity: 1024,
+        reply_bytes: 4 << 20,
         callbacks: Callbacks {
             list: Vec::new(alloc),
         },

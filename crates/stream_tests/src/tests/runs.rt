@@ -80,6 +80,7 @@ fn start_at(alloc: Global, now: Duration) -> Result<u64, Fail> {
         name_key: [7; 16],
         era_records: 65_536,
         capacity: 1024,
+        reply_bytes: 4 << 20,
         callbacks: Callbacks {
             list: Vec::new(alloc),
         },

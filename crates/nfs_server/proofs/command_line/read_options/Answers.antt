@@ -68,7 +68,7 @@ returns c =
         c.unwrap_or-3.ensures,
       );
       host = search rules;
-      limits = (c.args.limits.now, c.requires.limits, refl, refl, c.requires.transport);
+      limits = (c.args.limits.now, c.requires.limits, refl, refl, refl, c.requires.transport);
       exports = (
         c.in_ok-list.list.items,
         c.in_ok-list.ensures

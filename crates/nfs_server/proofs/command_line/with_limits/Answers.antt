@@ -22,11 +22,15 @@ returns c =
     c.number-5.ensures.rule ∙ ap (number_rule (codes "era")) c.value_parser-5.ensures in
     let cache : rule_of c.number-6.result ≡ number_rule (codes "cache") (Unsigned 0 18446744073709551615) =
     c.number-6.ensures.rule ∙ ap (number_rule (codes "cache")) c.value_parser-6.ensures in
+    let cache_bytes : rule_of c.number-7.result ≡
+    number_rule (codes "cache-bytes") (Unsigned 0 18446744073709551615) =
+    c.number-7.ensures.rule ∙ ap (number_rule (codes "cache-bytes")) c.value_parser-7.ensures in
     let headed = ap app_of_fields c.next_help_heading.ensures in
     let with_workers = c.in_ok-arg.ensures.shape (search rules) ∙ ap₂ with_rule headed workers in
     let with_connections = c.in_ok-arg-2.ensures.shape (search rules) ∙ ap₂ with_rule with_workers connections in
     let with_accept = c.in_ok-arg-3.ensures.shape (search rules) ∙ ap₂ with_rule with_connections accept in
     let with_stats = c.in_ok-arg-4.ensures.shape (search rules) ∙ ap₂ with_rule with_accept stats in
     let with_era = c.in_ok-arg-5.ensures.shape (search rules) ∙ ap₂ with_rule with_stats era in
-    IfOk-weaker c.arg-6.result _ _ (λ command adds. adds.shape (search rules) ∙ ap₂ with_rule with_era cache)
-    c.arg-6.ensures
+    let with_cache = c.in_ok-arg-6.ensures.shape (search rules) ∙ ap₂ with_rule with_era cache in
+    IfOk-weaker c.arg-7.result _ _ (λ command adds. adds.shape (search rules) ∙ ap₂ with_rule with_cache cache_bytes)
+    c.arg-7.ensures

@@ -3,7 +3,7 @@ use Rattle.std.specs.Option.{option_copied_mut}
 use Rattle.nfs_tables.specs.Tables.{entries}
 use Rattle.nfs_replies.specs.Kept.{reply_for}
 use Rattle.nfs_replies.specs.Kept.ReplyEvent.{Replied}
-use Rattle.nfs_replies.proofs.HostMapLemmas.{kept-at, listed-lent, no-list-at, on-ok-lent}
+use Rattle.nfs_replies.proofs.HostMapLemmas.{is-after-lent, kept-at}
 use Rattle.nfs_replies.proofs.replies.Replies.keep.Goals as goal
 
 pub keep-requires : goal.keep-requires
@@ -12,22 +12,14 @@ keep-requires c =
     ap (reply_for c.args.bytes) (sym (kept-at fields.capacity (entries fields.lists) c.args.host.now c.in-Some.list.now
     (sym (ap option_copied_mut c.in-Some.is) ∙ c.get_mut.ensures.value))) ∙ rw (← c.self.view_is) at c.requires
 
-pub invariant_of-self : goal.invariant_of-self
-invariant_of-self c =
+pub returns-in_ok-keep-in-Some-clause-front : goal.returns-in_ok-keep-in-Some-clause-front
+returns-in_ok-keep-in-Some-clause-front c =
     let fields = c.self.inside in
-    listed-lent fields.capacity (Replied c.args.host.now c.args.bytes c.args.reply) fields.lists
-    (c.get_mut.follows.lender c.keep.new.self) c.in-Some.list.now c.keep.new.self c.self.invariant
+    rw (← c.self.view_is) (is-after-lent fields.capacity (Replied c.args.host.now c.args.bytes c.args.reply) fields.lists
+    (c.get_mut.follows.lender c.keep.new.self) c.in-Some.list.now c.keep.new.self
     (sym (ap option_copied_mut c.in-Some.is) ∙ c.get_mut.ensures.value) (c.get_mut.follows.holds c.keep.new.self)
-    c.keep.result c.keep.ensures.front c.keep.ensures.err
-
-pub returns-in-Some-clause-front : goal.returns-in-Some-clause-front
-returns-in-Some-clause-front c =
-    let fields = c.self.inside in
-    rw (← c.self.view_is) (on-ok-lent fields.capacity (Replied c.args.host.now c.args.bytes c.args.reply) fields.lists
-    (c.get_mut.follows.lender c.keep.new.self) c.in-Some.list.now c.keep.new.self c.self.invariant
-    (sym (ap option_copied_mut c.in-Some.is) ∙ c.get_mut.ensures.value) (c.get_mut.follows.holds c.keep.new.self)
-    c.keep.result c.keep.ensures.front)
+    c.in_ok-keep-in-Some.ensures.front)
 
 pub keep_first-requires : goal.keep_first-requires
-keep_first-requires c = rw c.get_mut.follows.holds-at-none (no-list-at c.self.inside.capacity
-    (entries c.self.inside.lists) c.args.host.now c.in-None.ensures.value)
+keep_first-requires c =
+    rw c.get_mut.follows.holds-at-none (sym c.in-None.ensures.value)

@@ -3,38 +3,26 @@ use Rattle.std.specs.Map.{lookup}
 use Rattle.nfs_tables.specs.Tables.{entries}
 use Rattle.nfs_replies.specs.Kept.{same_bytes}
 use Rattle.nfs_replies.specs.Kept.ReplyEvent.{Replied}
-use Rattle.nfs_replies.specs.Replies.{RepliesValue, list_of}
-use Rattle.nfs_replies.proofs.HostMapLemmas.{is-after-new, listed-new, none-stands}
+use Rattle.nfs_replies.specs.Replies.{RepliesValue}
+use Rattle.nfs_replies.proofs.HostMapLemmas.{is-after-new}
 use Rattle.nfs_replies.proofs.replies.Replies.keep_first.Goals as goal
 
 -- the host stands nowhere
 pub add-requires : goal.add-requires
 add-requires c =
     let fields = c.self.inside in
-    let none = subst (λ (replies : RepliesValue). list_of replies c.args.host.now ≡ None) (sym c.self.view_is)
-    c.requires in
+    let none = rw (← c.self.view_is) at c.requires in
     record {
       absent = ap (λ h. lookup (same_bytes h) (entries c.reserve.new.self)) c.in-Ok-new_list.ensures.host
-          ∙ ap (lookup (same_bytes c.args.host.now)) c.reserve.ensures.entries
-          ∙ none-stands fields.capacity (entries fields.lists) c.args.host.now none;
+          ∙ ap (lookup (same_bytes c.args.host.now)) c.reserve.ensures.entries ∙ none;
     }
-
-pub invariant_of-self-2 : goal.invariant_of-self-2
-invariant_of-self-2 c =
-    let fields = c.self.inside in
-    listed-new fields.capacity (Replied c.args.host.now c.args.bytes c.args.reply) c.in-Ok-new_list.host
-    (entries fields.lists) c.reserve.new.self c.add.new.self c.in-Ok-new_list.list c.keep.new.self
-    c.in-Ok-new_list.ensures.host c.reserve.ensures.entries (rw c.unwrap.ensures at c.add.ensures.ok)
-    c.in-Ok-new_list.ensures.list c.in_ok-keep.ensures.front c.self.invariant
 
 -- the new list has this reply alone, and stands at the host, with all others as they were
 pub returns-clause-front : goal.returns-clause-front
 returns-clause-front c =
     let fields = c.self.inside in
-    let none = subst (λ (replies : RepliesValue). list_of replies c.args.host.now ≡ None) (sym c.self.view_is)
-    c.requires in
+    let none = rw (← c.self.view_is) at c.requires in
     rw (← c.self.view_is) (is-after-new fields.capacity (Replied c.args.host.now c.args.bytes c.args.reply)
     c.in-Ok-new_list.host (entries fields.lists) c.reserve.new.self c.add.new.self c.in-Ok-new_list.list
     c.keep.new.self c.in-Ok-new_list.ensures.host c.reserve.ensures.entries
-    (rw c.unwrap.ensures at c.add.ensures.ok) c.in-Ok-new_list.ensures.list c.in_ok-keep.ensures.front
-    (none-stands fields.capacity (entries fields.lists) c.args.host.now none))
+    (rw c.unwrap.ensures at c.add.ensures.ok) c.in-Ok-new_list.ensures.list c.in_ok-keep.ensures.front none)
