@@ -529,8 +529,8 @@ def deep_rename(depth):
 
 
 def load(port, connections, piece, size, seconds):
-    """Sends these PIECE calls over so many connections, again and again, for so long. Their replies have this length in
-    all. How many."""
+    """Sends these PIECE calls, or one, over so many connections, again and again, for so long. Their replies have this
+    length in all. How many, if there are PIECE."""
     connections = [network.Connection(port) for _ in range(connections)]
     until = time.monotonic() + seconds
     calls = 0
@@ -558,9 +558,9 @@ def crowd(peer):
     return [loaded(peer, LOADED, LOADERS, piece, PIECE * nfsd.SHOWN)]
 
 
-def filled(peer):
+def filled(peer, name=b"file"):
     """A file of 64 KiB."""
-    file = peer.connection.make(b"file")
+    file = peer.connection.make(name)
     peer.prepare([data.write(file, next(peer.xids), 0, bytes(65_536))])
     return file
 
@@ -576,26 +576,15 @@ def reading(peer, file):
     return peer.repeat(turn)
 
 
-def read_on(port, file, connections):
-    """READs of 64 KiB of a file over so many connections, without an end."""
-    connections = [network.Connection(port) for _ in range(connections)]
-    record = data.read(file, 1, 0, 65_536)
-    while True:
-        for connection in connections:
-            connection.socket.sendall(record)
-        for connection in connections:
-            connection.answer(b"", data.DATA + 65_536)
-
-
 @contextlib.contextmanager
 def read_beside(peer, connections):
     """READs of 64 KiB go on over so many connections, of a process of their own."""
     if not connections:
         yield
         return
-    file = peer.connection.make(b"read")
-    peer.prepare([data.write(file, next(peer.xids), 0, bytes(65_536))])
-    reader = multiprocessing.Process(target=read_on, args=(peer.server.port, file, connections), daemon=True)
+    file = filled(peer, b"read")
+    words = (peer.server.port, connections, data.read(file, 1, 0, 65_536), data.DATA + 65_536, math.inf)
+    reader = multiprocessing.Process(target=load, args=words, daemon=True)
     reader.start()
     try:
         yield
